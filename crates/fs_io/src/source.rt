@@ -15,10 +15,11 @@ const PIECE: usize = 65_536;
 /// One byte more than a text has at most, which tells that a text is too long.
 const MOST: usize = TEXT_LIMIT + 1;
 
-/// Adds what one read gives, at most `room` bytes, and answers how many.
+/// Adds what one read gives, at most `room` bytes, by way of a buffer, and answers how many.
 fn read_piece<R: Source, E: Drop>(
     reader: &mut R,
     room: usize,
+    buffer: &mut [u8; PIECE],
     text: &mut Vec<u8>,
 ) -> Result<usize, Failure<E>>
     requires few { R.failures reader.old < 2 ^ 64 - 1 }
@@ -29,7 +30,6 @@ fn read_piece<R: Source, E: Drop>(
     ensures quiet { OnOk result (R.failures reader.new ≡ R.failures reader.old) }
     ensures fault { IfErr result (FailsToRead (R.failures reader.old) (R.failures reader.new)) }
 {
-    let mut buffer = [0u8; PIECE];
     let piece = &mut buffer[..room.min(PIECE)];
     let Ok(count) = reader.read(piece) else {
         return Err(Failure::Read);
@@ -49,8 +49,9 @@ fn read_all<R: Source, E: Drop>(alloc: Global, reader: &mut R) -> Result<Vec<u8>
     ensures fault { IfErr result (FailsToRead (R.failures reader.old) (R.failures reader.new)) }
 {
     let mut text = Vec::new(alloc);
+    let mut buffer = [0u8; PIECE];
     'pieces: while text.len() < MOST {
-        let count = match read_piece(reader, MOST - text.len(), &mut text) {
+        let count = match read_piece(reader, MOST - text.len(), &mut buffer, &mut text) {
             Ok(count) => count,
             Err(fault) => return Err(fault),
         };

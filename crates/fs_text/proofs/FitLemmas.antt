@@ -1,7 +1,13 @@
 -- That all values of a list keep what each of them keeps.
-use Rattle.std.proofs.Common.{◌≡◌, ℕ, zero, suc, ◌+◌, ◌≤◌, List, [], ◌∷◌, Some, length, take, sym, subst, add-one, arith}
+use Rattle.std.proofs.Common.{◌≡◌, ℕ, zero, suc, ◌+◌, ◌≤◌, true, List, [], ◌∷◌, Some, length, take, sym, subst, add-one, arith}
 use Rattle.std.specs.Prelude.{slice_get}
 use Rattle.std.specs.List.{AllByRecursion}
+use Rattle.fs_names.specs.Names.{Name, AreBytes, IsName, can_name}
+use Rattle.fs_names.specs.Keys.{Key, IsPath}
+use Rattle.fs_names.specs.Limits.{name_limit}
+use Rattle.fs_names.specs.declared.limits.Limits.TheVariants.{V2}
+use Rattle.fs_names.proofs.TextLemmas.{name_short}
+use Rattle.fs_text.specs.Fits.{FitsName, FitsPath}
 
 -- one value more
 all_next : {A : Type 0} (P : A → Type 0) (xs : List A) (i : ℕ) (x : A) → slice_get xs i ≡ Some x → AllByRecursion P (take i xs) → P x → AllByRecursion P (take (suc i) xs)
@@ -17,3 +23,19 @@ pub all_taken : {A : Type 0} (P : A → Type 0) (xs : List A) (i : ℕ) → leng
 all_taken P [] i within all = tt
 all_taken P (x ∷ xs) zero within all = absurd (omega (arith, within))
 all_taken P (x ∷ xs) (suc i) within all = (all.0, all_taken P xs i (omega (arith, within)) all.1)
+
+-- ---- what a name and a path of the code always are
+
+-- bytes that are a name are one of the second version
+pub name_fits : (n : Name) → can_name n ≡ true → AreBytes n → FitsName (name_limit V2) n
+name_fits n h bytes = record { is_name = record { test = h; bytes = bytes }; short = name_short n h }
+
+pub name_is : (n : Name) → IsName n → FitsName (name_limit V2) n
+name_is n h = name_fits n h.test h.bytes
+
+names_fit : (ns : Key) → AllByRecursion IsName ns → AllByRecursion (FitsName (name_limit V2)) ns
+names_fit [] h = tt
+names_fit (n ∷ ns) h = (name_is n h.0, names_fit ns h.1)
+
+pub path_fits : (key : Key) → IsPath key → FitsPath (name_limit V2) key
+path_fits key h = record { few = h.short; names = names_fit key h.names }

@@ -56,54 +56,54 @@ form_of word =
     else (if bytes_eq word (codes "readdir") then Some (one_path Readdir)
     else longer_form_of word)))))
 
--- the words behind the first, read from left to right
-abbrev pub one_path_of : List Word → Result Key FaultKind
-one_path_of (p ∷ []) = path_at p
-one_path_of _ = Err kind.BadLine
+-- the words behind the first, read from left to right, with names of so many bytes at most
+abbrev pub one_path_of : ℕ → List Word → Result Key FaultKind
+one_path_of most (p ∷ []) = path_at most p
+one_path_of most _ = Err kind.BadLine
 
 -- two words as two paths
-abbrev pub two_paths_at : Word → Word → Result (Key × Key) FaultKind
-two_paths_at p q = path_at p >>= λ from. path_at q >>= λ to. Ok (from, to)
+abbrev pub two_paths_at : ℕ → Word → Word → Result (Key × Key) FaultKind
+two_paths_at most p q = path_at most p >>= λ from. path_at most q >>= λ to. Ok (from, to)
 
 -- the words of two paths; another number of words is a bad line
-abbrev pub two_paths_of : List Word → Result (Key × Key) FaultKind
-two_paths_of (p ∷ q ∷ []) = two_paths_at p q
-two_paths_of _ = Err kind.BadLine
+abbrev pub two_paths_of : ℕ → List Word → Result (Key × Key) FaultKind
+two_paths_of most (p ∷ q ∷ []) = two_paths_at most p q
+two_paths_of most _ = Err kind.BadLine
 
 -- two words as a path and a number
-abbrev pub a_number_at : Word → Word → Result (Key × ℕ) FaultKind
-a_number_at p n = path_at p >>= λ key. number_at n >>= λ size. Ok (key, size)
+abbrev pub a_number_at : ℕ → Word → Word → Result (Key × ℕ) FaultKind
+a_number_at most p n = path_at most p >>= λ key. number_at n >>= λ size. Ok (key, size)
 
 -- the words of a path and a number; another number of words is a bad line
-abbrev pub a_number_of : List Word → Result (Key × ℕ) FaultKind
-a_number_of (p ∷ n ∷ []) = a_number_at p n
-a_number_of _ = Err kind.BadLine
+abbrev pub a_number_of : ℕ → List Word → Result (Key × ℕ) FaultKind
+a_number_of most (p ∷ n ∷ []) = a_number_at most p n
+a_number_of most _ = Err kind.BadLine
 
 -- three words as a path and two numbers
-abbrev pub two_numbers_at : Word → Word → Word → Result (Key × ℕ × ℕ) FaultKind
-two_numbers_at p m n = path_at p >>= λ key. number_at m >>= λ off. number_at n >>= λ count. Ok (key, off, count)
+abbrev pub two_numbers_at : ℕ → Word → Word → Word → Result (Key × ℕ × ℕ) FaultKind
+two_numbers_at most p m n = path_at most p >>= λ key. number_at m >>= λ off. number_at n >>= λ count. Ok (key, off, count)
 
 -- the words of a path and two numbers; another number of words is a bad line
-abbrev pub two_numbers_of : List Word → Result (Key × ℕ × ℕ) FaultKind
-two_numbers_of (p ∷ m ∷ n ∷ []) = two_numbers_at p m n
-two_numbers_of _ = Err kind.BadLine
+abbrev pub two_numbers_of : ℕ → List Word → Result (Key × ℕ × ℕ) FaultKind
+two_numbers_of most (p ∷ m ∷ n ∷ []) = two_numbers_at most p m n
+two_numbers_of most _ = Err kind.BadLine
 
 -- three words as a path, a number and bytes
-abbrev pub number_and_bytes_at : Word → Word → Word → Result (Key × ℕ × List ℕ) FaultKind
-number_and_bytes_at p n h = path_at p >>= λ key. number_at n >>= λ off. hex_at h >>= λ bytes. Ok (key, off, bytes)
+abbrev pub number_and_bytes_at : ℕ → Word → Word → Word → Result (Key × ℕ × List ℕ) FaultKind
+number_and_bytes_at most p n h = path_at most p >>= λ key. number_at n >>= λ off. hex_at h >>= λ bytes. Ok (key, off, bytes)
 
 -- the words of a path, a number and bytes; another number of words is a bad line
-abbrev pub number_and_bytes_of : List Word → Result (Key × ℕ × List ℕ) FaultKind
-number_and_bytes_of (p ∷ n ∷ h ∷ []) = number_and_bytes_at p n h
-number_and_bytes_of _ = Err kind.BadLine
+abbrev pub number_and_bytes_of : ℕ → List Word → Result (Key × ℕ × List ℕ) FaultKind
+number_and_bytes_of most (p ∷ n ∷ h ∷ []) = number_and_bytes_at most p n h
+number_and_bytes_of most _ = Err kind.BadLine
 
 -- the call of a form, with the arguments that the words spell
-abbrev pub arguments_at : CallForm → List Word → Result Call FaultKind
-arguments_at (one_path make) words = one_path_of words >>= λ key. Ok (make key)
-arguments_at (two_paths make) words = two_paths_of words >>= λ both. Ok (make both.0 both.1)
-arguments_at (a_number make) words = a_number_of words >>= λ found. Ok (make found.0 found.1)
-arguments_at (two_numbers make) words = two_numbers_of words >>= λ found. Ok (make found.0 found.1 found.2)
-arguments_at (number_and_bytes make) words = number_and_bytes_of words >>= λ found. Ok (make found.0 found.1 found.2)
+abbrev pub arguments_at : ℕ → CallForm → List Word → Result Call FaultKind
+arguments_at most (one_path make) words = one_path_of most words >>= λ key. Ok (make key)
+arguments_at most (two_paths make) words = two_paths_of most words >>= λ both. Ok (make both.0 both.1)
+arguments_at most (a_number make) words = a_number_of most words >>= λ found. Ok (make found.0 found.1)
+arguments_at most (two_numbers make) words = two_numbers_of most words >>= λ found. Ok (make found.0 found.1 found.2)
+arguments_at most (number_and_bytes make) words = number_and_bytes_of most words >>= λ found. Ok (make found.0 found.1 found.2)
 
 -- how many words stand behind the first
 abbrev pub argument_count : CallForm → ℕ
@@ -114,14 +114,14 @@ argument_count (two_numbers make) = 3
 argument_count (number_and_bytes make) = 3
 
 -- the same; a first word that begins no call is a bad line
-abbrev pub formed_call : Option CallForm → List Word → Result Call FaultKind
-formed_call None words = Err kind.BadLine
-formed_call (Some form) words = arguments_at form words
+abbrev pub formed_call : ℕ → Option CallForm → List Word → Result Call FaultKind
+formed_call most None words = Err kind.BadLine
+formed_call most (Some form) words = arguments_at most form words
 
--- the call that words spell: a first word that is none, and a wrong number of words, are a bad line
-unfoldable pub call_of : List Word → Result Call FaultKind
-call_of [] = Err kind.BadLine
-call_of (first ∷ more) = formed_call (form_of first) more
+-- the call that words spell, with names of so many bytes at most: a first word that is none, and a wrong number of words, are a bad line
+unfoldable pub call_of : ℕ → List Word → Result Call FaultKind
+call_of most [] = Err kind.BadLine
+call_of most (first ∷ more) = formed_call most (form_of first) more
 
 -- whether a call has this first word, and so many words behind it
 abbrev pub is_formed : Option CallForm → List Word → Bool

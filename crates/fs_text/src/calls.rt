@@ -1,13 +1,14 @@
 //! Calls that are read from words.
 
 ghost use Rattle.std.specs.Prelude.{◌≡◌, ◌∷◌, [], map, option_map};
+ghost use Rattle.fs_names.specs.Limits.{name_limit};
 ghost use Rattle.fs_calls.specs.declared.call.Call.TheVariants.{Read, Write, Truncate};
 ghost use Rattle.fs_text.specs.Calls.{one_path, two_paths, a_number, two_numbers, number_and_bytes, a_number_at, arguments_at, call_of, form_of, argument_count, has_call_form};
 ghost use Rattle.fs_words.specs.code.Answers.{Gives};
 ghost use Rattle.fs_text.specs.code.Forms.{call_on, call_on_both, form_meant};
 
 use fs_calls::{Call, PairCall};
-use fs_names::Path;
+use fs_names::{Limits, Path};
 use fs_words::FaultKind;
 use fs_words::recent::Recent;
 use fs_words::words::{hex_at, number_at, path_with};
@@ -78,12 +79,13 @@ fn call_on_both(call: PairCall, path: Path, other: Path) -> Call
 fn call_on_at<'a>(
     alloc: Global,
     recent: &mut Recent<'a>,
+    limits: Limits,
     call: OnPath,
     path: &'a [u8],
 ) -> Result<Call, FaultKind>
-    ensures { Gives (λ call. call) result (arguments_at (one_path (call_on call)) (path.now ∷ [])) }
+    ensures { Gives (λ call. call) result (arguments_at (name_limit limits) (one_path (call_on call)) (path.now ∷ [])) }
 {
-    match path_with(alloc, recent, path) {
+    match path_with(alloc, recent, limits, path) {
         Ok(path) => Ok(call_on(call, path)),
         Err(kind) => Err(kind),
     }
@@ -93,17 +95,18 @@ fn call_on_at<'a>(
 fn call_on_both_at<'a>(
     alloc: Global,
     recent: &mut Recent<'a>,
+    limits: Limits,
     call: PairCall,
     path: &'a [u8],
     other: &'a [u8],
 ) -> Result<Call, FaultKind>
-    ensures { Gives (λ call. call) result (arguments_at (two_paths (call_on_both call)) (path.now ∷ other.now ∷ [])) }
+    ensures { Gives (λ call. call) result (arguments_at (name_limit limits) (two_paths (call_on_both call)) (path.now ∷ other.now ∷ [])) }
 {
-    let path = match path_with(alloc, recent, path) {
+    let path = match path_with(alloc, recent, limits, path) {
         Ok(path) => path,
         Err(kind) => return Err(kind),
     };
-    match path_with(alloc, recent, other) {
+    match path_with(alloc, recent, limits, other) {
         Ok(other) => Ok(call_on_both(call, path, other)),
         Err(kind) => Err(kind),
     }
@@ -112,12 +115,13 @@ fn call_on_both_at<'a>(
 fn a_number_at<'a>(
     alloc: Global,
     recent: &mut Recent<'a>,
+    limits: Limits,
     path: &'a [u8],
     size: &[u8],
 ) -> Result<(Path, u64), FaultKind>
-    ensures { Gives (λ p. (p.0, p.1)) result (a_number_at path.now size.now) }
+    ensures { Gives (λ p. (p.0, p.1)) result (a_number_at (name_limit limits) path.now size.now) }
 {
-    let path = match path_with(alloc, recent, path) {
+    let path = match path_with(alloc, recent, limits, path) {
         Ok(path) => path,
         Err(kind) => return Err(kind),
     };
@@ -130,12 +134,13 @@ fn a_number_at<'a>(
 fn truncate_at<'a>(
     alloc: Global,
     recent: &mut Recent<'a>,
+    limits: Limits,
     path: &'a [u8],
     size: &[u8],
 ) -> Result<Call, FaultKind>
-    ensures { Gives (λ call. call) result (arguments_at (a_number Truncate) (path.now ∷ size.now ∷ [])) }
+    ensures { Gives (λ call. call) result (arguments_at (name_limit limits) (a_number Truncate) (path.now ∷ size.now ∷ [])) }
 {
-    match a_number_at(alloc, recent, path, size) {
+    match a_number_at(alloc, recent, limits, path, size) {
         Ok((path, size)) => Ok(Call::Truncate(path, size)),
         Err(kind) => Err(kind),
     }
@@ -144,13 +149,14 @@ fn truncate_at<'a>(
 fn read_at<'a>(
     alloc: Global,
     recent: &mut Recent<'a>,
+    limits: Limits,
     path: &'a [u8],
     off: &[u8],
     count: &[u8],
 ) -> Result<Call, FaultKind>
-    ensures { Gives (λ call. call) result (arguments_at (two_numbers Read) (path.now ∷ off.now ∷ count.now ∷ [])) }
+    ensures { Gives (λ call. call) result (arguments_at (name_limit limits) (two_numbers Read) (path.now ∷ off.now ∷ count.now ∷ [])) }
 {
-    let (path, off) = match a_number_at(alloc, recent, path, off) {
+    let (path, off) = match a_number_at(alloc, recent, limits, path, off) {
         Ok(both) => both,
         Err(kind) => return Err(kind),
     };
@@ -163,13 +169,14 @@ fn read_at<'a>(
 fn write_at<'a>(
     alloc: Global,
     recent: &mut Recent<'a>,
+    limits: Limits,
     path: &'a [u8],
     off: &[u8],
     bytes: &[u8],
 ) -> Result<Call, FaultKind>
-    ensures { Gives (λ call. call) result (arguments_at (number_and_bytes Write) (path.now ∷ off.now ∷ bytes.now ∷ [])) }
+    ensures { Gives (λ call. call) result (arguments_at (name_limit limits) (number_and_bytes Write) (path.now ∷ off.now ∷ bytes.now ∷ [])) }
 {
-    let (path, off) = match a_number_at(alloc, recent, path, off) {
+    let (path, off) = match a_number_at(alloc, recent, limits, path, off) {
         Ok(both) => both,
         Err(kind) => return Err(kind),
     };
@@ -182,26 +189,29 @@ fn write_at<'a>(
 fn arguments_at<'a>(
     alloc: Global,
     recent: &mut Recent<'a>,
+    limits: Limits,
     form: Form,
     words: &[&'a [u8]],
 ) -> Result<Call, FaultKind>
-    ensures { Gives (λ call. call) result (arguments_at (form_meant form) (map (λ w. w.now) words.now)) }
+    ensures { Gives (λ call. call) result (arguments_at (name_limit limits) (form_meant form) (map (λ w. w.now) words.now)) }
 {
     match (form, words) {
-        (Form::OnPath(call), [path]) => call_on_at(alloc, recent, call, path),
-        (Form::OnBoth(call), [path, other]) => call_on_both_at(alloc, recent, call, path, other),
-        (Form::Truncate, [path, size]) => truncate_at(alloc, recent, path, size),
-        (Form::Read, [path, off, count]) => read_at(alloc, recent, path, off, count),
-        (Form::Write, [path, off, bytes]) => write_at(alloc, recent, path, off, bytes),
+        (Form::OnPath(call), [path]) => call_on_at(alloc, recent, limits, call, path),
+        (Form::OnBoth(call), [path, other]) => call_on_both_at(
+            alloc, recent, limits, call, path, other,
+        ),
+        (Form::Truncate, [path, size]) => truncate_at(alloc, recent, limits, path, size),
+        (Form::Read, [path, off, count]) => read_at(alloc, recent, limits, path, off, count),
+        (Form::Write, [path, off, bytes]) => write_at(alloc, recent, limits, path, off, bytes),
         _ => Err(FaultKind::BadLine),
     }
 }
 
-/// The call that words spell.
-pub fn call_at(alloc: Global, words: &[&[u8]]) -> Result<Call, FaultKind>
-    ensures { Gives (λ call. call) result (call_of (map (λ w. w.now) words.now)) }
+/// The call that words spell by these limits.
+pub fn call_at(alloc: Global, limits: Limits, words: &[&[u8]]) -> Result<Call, FaultKind>
+    ensures { Gives (λ call. call) result (call_of (name_limit limits) (map (λ w. w.now) words.now)) }
 {
-    call_with(alloc, &mut Recent::none(alloc), words)
+    call_with(alloc, &mut Recent::none(alloc), limits, words)
 }
 
 /// The same, where paths that were read before are at hand.
@@ -209,15 +219,16 @@ pub fn call_at(alloc: Global, words: &[&[u8]]) -> Result<Call, FaultKind>
 pub fn call_with<'a>(
     alloc: Global,
     recent: &mut Recent<'a>,
+    limits: Limits,
     words: &[&'a [u8]],
 ) -> Result<Call, FaultKind>
-    ensures { Gives (λ call. call) result (call_of (map (λ w. w.now) words.now)) }
+    ensures { Gives (λ call. call) result (call_of (name_limit limits) (map (λ w. w.now) words.now)) }
 {
     let [first, more @ ..] = words else {
         return Err(FaultKind::BadLine);
     };
     match form_of(first) {
-        Some(form) => arguments_at(alloc, recent, form, more),
+        Some(form) => arguments_at(alloc, recent, limits, form, more),
         None => Err(FaultKind::BadLine),
     }
 }

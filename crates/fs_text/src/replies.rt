@@ -1,11 +1,12 @@
 //! Replies that are read from words.
 
 ghost use Rattle.std.specs.Prelude.{◌≡◌, map};
+ghost use Rattle.fs_names.specs.Limits.{name_limit};
 ghost use Rattle.fs_text.specs.Journal.{kind_named, errno_of, stated_at, stated_of, names_at, names_of, bytes_of, wrote_of, failed_of, done_of, reply_of};
 ghost use Rattle.fs_words.specs.code.Answers.{Gives};
 
 use fs_calls::{Errno, NameList, Reply};
-use fs_names::{Kind, Name};
+use fs_names::{Kind, Limits, Name};
 use fs_words::FaultKind;
 use fs_words::lines::push_item;
 use fs_words::words::{hex_at, is_word, name_at, number_at};
@@ -84,16 +85,16 @@ fn stated_of(words: &[&[u8]]) -> Result<Reply, FaultKind>
     }
 }
 
-/// The names that words are, unescaped; the first that is none is a `BadReply`.
-pub fn names_at(alloc: Global, words: &[&[u8]]) -> Result<Vec<Name>, FaultKind>
-    ensures { Gives (λ names. names.items) result (names_at (map (λ w. w.now) words.now)) }
+/// The names that words are by these limits, unescaped; the first that is none is a `BadReply`.
+pub fn names_at(alloc: Global, limits: Limits, words: &[&[u8]]) -> Result<Vec<Name>, FaultKind>
+    ensures { Gives (λ names. names.items) result (names_at (name_limit limits) (map (λ w. w.now) words.now)) }
 {
     let Ok(mut names) = Vec::with_capacity(alloc, words.len()) else {
         return Err(FaultKind::OutOfMemory);
     };
     let mut at = 0;
     'names: while at < words.len() {
-        let name = match name_at(alloc, words[at]) {
+        let name = match name_at(alloc, limits, words[at]) {
             Ok(name) => name,
             Err(kind) => return Err(kind),
         };
@@ -105,10 +106,10 @@ pub fn names_at(alloc: Global, words: &[&[u8]]) -> Result<Vec<Name>, FaultKind>
     Ok(names)
 }
 
-fn names_of(alloc: Global, words: &[&[u8]]) -> Result<Reply, FaultKind>
-    ensures { Gives (λ reply. reply) result (names_of (map (λ w. w.now) words.now)) }
+fn names_of(alloc: Global, limits: Limits, words: &[&[u8]]) -> Result<Reply, FaultKind>
+    ensures { Gives (λ reply. reply) result (names_of (name_limit limits) (map (λ w. w.now) words.now)) }
 {
-    match names_at(alloc, words) {
+    match names_at(alloc, limits, words) {
         Ok(names) => Ok(Reply::Names(NameList::new(names))),
         Err(kind) => Err(kind),
     }
@@ -143,8 +144,8 @@ fn failed_of(words: &[&[u8]]) -> Result<Reply, FaultKind>
 
 /// The reply that words spell.
 #[tactic(auto, unfolding(crate::specs::Journal::reply_of))]
-pub(crate) fn reply_at(alloc: Global, words: &[&[u8]]) -> Result<Reply, FaultKind>
-    ensures { Gives (λ reply. reply) result (reply_of (map (λ w. w.now) words.now)) }
+pub(crate) fn reply_at(alloc: Global, limits: Limits, words: &[&[u8]]) -> Result<Reply, FaultKind>
+    ensures { Gives (λ reply. reply) result (reply_of (name_limit limits) (map (λ w. w.now) words.now)) }
 {
     let [first, more @ ..] = words else {
         return Err(FaultKind::BadReply);
@@ -156,7 +157,7 @@ pub(crate) fn reply_at(alloc: Global, words: &[&[u8]]) -> Result<Reply, FaultKin
         return stated_of(more);
     }
     if is_word(first, b"names") {
-        return names_of(alloc, more);
+        return names_of(alloc, limits, more);
     }
     if is_word(first, b"bytes") {
         return bytes_of(alloc, more);

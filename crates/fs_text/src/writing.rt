@@ -2,11 +2,11 @@
 
 ghost use Rattle.std.specs.Prelude.{◌≡◌, ◌++◌, ◌∷◌, OnOk, OnErr};
 ghost use Rattle.std.specs.List.{AllByRecursion, flat_map, join_with_byte};
-ghost use Rattle.fs_names.specs.Names.{IsName};
-ghost use Rattle.fs_names.specs.Keys.{IsPath};
+ghost use Rattle.fs_names.specs.Limits.{name_limit};
+ghost use Rattle.fs_names.specs.declared.limits.Limits.TheVariants.{V2};
 ghost use Rattle.fs_words.specs.Words.{escaped, path_word};
 ghost use Rattle.fs_text.specs.Calls.{call_words};
-ghost use Rattle.fs_text.specs.Fits.{FitsCall, FitsReply, FitsEntry};
+ghost use Rattle.fs_text.specs.Fits.{FitsName, FitsPath, FitsCall, FitsReply, FitsEntry};
 ghost use Rattle.fs_calls.specs.declared.call.Call.TheVariants.{Read, Write};
 ghost use Rattle.fs_text.specs.Journal.{reply_words, entry_words, entry_line, kind_word, errno_word};
 
@@ -19,6 +19,7 @@ use std::alloc::{AllocError, Global};
 use std::mem;
 
 /// A word with its space, and a path behind it.
+#[tactic(auto, using(crate::proofs::FitLemmas::path_fits))]
 fn push_with_path(
     alloc: Global,
     word: &[u8],
@@ -26,7 +27,7 @@ fn push_with_path(
     line: &mut Addition,
 ) -> Result<(), AllocError>
     ensures ok { OnOk result (line.new.added ≡ line.old.added ++ word.now ++ path_word path.now) }
-    ensures path { OnOk result (IsPath path.now) }
+    ensures path { OnOk result (FitsPath (name_limit V2) path.now) }
     ensures before { line.new.before ≡ line.old.before }
 {
     line.push(word)?;
@@ -42,7 +43,7 @@ fn push_with_paths(
     line: &mut Addition,
 ) -> Result<(), AllocError>
     ensures ok { OnOk result (line.new.added ≡ line.old.added ++ word.now ++ path_word path.now ++ 32 ∷ path_word other.now) }
-    ensures paths { OnOk result (IsPath path.now × IsPath other.now) }
+    ensures paths { OnOk result (FitsPath (name_limit V2) path.now × FitsPath (name_limit V2) other.now) }
     ensures before { line.new.before ≡ line.old.before }
 {
     push_with_path(alloc, word, path, line)?;
@@ -51,7 +52,7 @@ fn push_with_paths(
 
 fn push_call(alloc: Global, call: &Call, line: &mut Addition) -> Result<(), AllocError>
     ensures ok { OnOk result (line.new.added ≡ line.old.added ++ join_with_byte 32 (call_words call.now)) }
-    ensures fits { OnOk result (FitsCall call.now) }
+    ensures fits { OnOk result (FitsCall (name_limit V2) call.now) }
     ensures before { line.new.before ≡ line.old.before }
 {
     match call {
@@ -80,7 +81,7 @@ fn push_read(
     line: &mut Addition,
 ) -> Result<(), AllocError>
     ensures ok { OnOk result (line.new.added ≡ line.old.added ++ join_with_byte 32 (call_words (Read path.now off count))) }
-    ensures fits { OnOk result (FitsCall (Read path.now off count)) }
+    ensures fits { OnOk result (FitsCall (name_limit V2) (Read path.now off count)) }
     ensures before { line.new.before ≡ line.old.before }
 {
     push_with_path(alloc, b"read ", path, line)?;
@@ -96,7 +97,7 @@ fn push_write(
     line: &mut Addition,
 ) -> Result<(), AllocError>
     ensures ok { OnOk result (line.new.added ≡ line.old.added ++ join_with_byte 32 (call_words (Write path.now off bytes.now))) }
-    ensures fits { OnOk result (FitsCall (Write path.now off bytes.now)) }
+    ensures fits { OnOk result (FitsCall (name_limit V2) (Write path.now off bytes.now)) }
     ensures before { line.new.before ≡ line.old.before }
 {
     push_with_path(alloc, b"write ", path, line)?;
@@ -133,9 +134,10 @@ pub fn errno_text(errno: Errno) -> &'static [u8]
 }
 
 /// Each name behind a space.
+#[tactic(auto, using(crate::proofs::FitLemmas::name_fits))]
 fn push_names(alloc: Global, names: &[Name], line: &mut Addition) -> Result<(), AllocError>
     ensures ok { OnOk result (line.new.added ≡ line.old.added ++ flat_map (λ n. 32 ∷ escaped n) names.now) }
-    ensures fits { OnOk result (AllByRecursion IsName names.now) }
+    ensures fits { OnOk result (AllByRecursion (FitsName (name_limit V2)) names.now) }
     ensures before { line.new.before ≡ line.old.before }
 {
     for name in names {
@@ -147,7 +149,7 @@ fn push_names(alloc: Global, names: &[Name], line: &mut Addition) -> Result<(), 
 
 fn push_reply(alloc: Global, reply: &Reply, line: &mut Addition) -> Result<(), AllocError>
     ensures ok { OnOk result (line.new.added ≡ line.old.added ++ join_with_byte 32 (reply_words reply.now)) }
-    ensures fits { OnOk result (FitsReply reply.now) }
+    ensures fits { OnOk result (FitsReply (name_limit V2) reply.now) }
     ensures before { line.new.before ≡ line.old.before }
 {
     match reply {
@@ -175,7 +177,7 @@ fn push_reply(alloc: Global, reply: &Reply, line: &mut Addition) -> Result<(), A
 
 fn push_entry(alloc: Global, entry: &Entry, line: &mut Addition) -> Result<(), AllocError>
     ensures ok { OnOk result (line.new.added ≡ line.old.added ++ entry_line entry.now) }
-    ensures fits { OnOk result (FitsEntry entry.now) }
+    ensures fits { OnOk result (FitsEntry (name_limit V2) entry.now) }
     ensures before { line.new.before ≡ line.old.before }
 {
     match entry {
@@ -197,12 +199,12 @@ fn push_entry(alloc: Global, entry: &Entry, line: &mut Addition) -> Result<(), A
     line.push(b"\n")
 }
 
-/// Appends the line of an entry, which fits: it is read back as the same entry. An `Err`, which is out of memory, leaves
-/// the text as it was.
+/// Appends the line of an entry, which fits the limits of the second version: it is read back as the same entry by
+/// these, and where its names keep those of the first, by them too. An `Err`, which is out of memory, leaves the text as it was.
 pub fn write_entry(alloc: Global, entry: &Entry, text: &mut Vec<u8>) -> Result<(), AllocError>
     ensures ok { OnOk result (text.new.items ≡ text.old.items ++ entry_line entry.now) }
     ensures err { OnErr result (text.new.items ≡ text.old.items) }
-    ensures fits { OnOk result (FitsEntry entry.now) }
+    ensures fits { OnOk result (FitsEntry (name_limit V2) entry.now) }
 {
     let mut line = Addition::new(mem::replace(text, Vec::new(alloc)));
     let added = push_entry(alloc, entry, &mut line);

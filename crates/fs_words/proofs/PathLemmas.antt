@@ -20,7 +20,6 @@ use Rattle.fs_words.proofs.WordLemmas.{IsWord}
 -- what the test of a name says
 pub record NameFacts (n : Name) : Type 0 where
   pub some : 0 < length n
-  pub short : length n ≤ 32
   pub clean : All (λ b. (b ≢ 47) × (b ≢ 0)) n
   pub no_dot : is_dots n ≡ false
 
@@ -44,13 +43,17 @@ name_facts n h =
     let r = and_parts _ _ q.0 in
     record {
       some = leb-true 1 (length n) r.0;
-      short = leb-true (length n) 32 r.1;
       clean = clean_from_test n q.1;
       no_dot = not-true _ p.1;
     }
 
-pub record KeyFacts (key : Key) : Type 0 where
+-- so many bytes at most
+abbrev pub IsShort : ℕ → Name → Type 0
+IsShort most n = length n ≤ most
+
+pub record KeyFacts (most : ℕ) (key : Key) : Type 0 where
   pub few : length key ≤ 64
+  pub short : AllByRecursion (IsShort most) key
   pub names : AllByRecursion NameFacts key
   pub bytes : AllByRecursion AreBytes key
 
@@ -74,8 +77,8 @@ names_again n ns f h = ap (filter has_bytes) (split_tail n ns f h) ∙ kept_name
 not_many : (count : ℕ) → count < 64 → leb 64 count ≡ false
 not_many count h = grind (arith, nat_tests)
 
-not_long : (n : List ℕ) → length n ≤ 32 → ltb 32 (length n) ≡ false
-not_long n h = grind (arith, nat_tests)
+not_long : (most : ℕ) (n : List ℕ) → length n ≤ most → ltb most (length n) ≡ false
+not_long most n h = grind (arith, nat_tests)
 
 not_on : {F : Type 0} (b : Bool) (f : F) → b ≡ false → check b f ≡ None
 not_on b f e = ap (λ t. check t f) e
@@ -84,14 +87,14 @@ not_on b f e = ap (λ t. check t f) e
 none_fails : {F : Type 0} (a b : Option F) → a ≡ None → b ≡ None → or_else a b ≡ None
 none_fails a b e f = ap (λ t. or_else t b) e ∙ f
 
-no_fault : (count : ℕ) (ns : Key) → AllByRecursion NameFacts ns → count + length ns ≤ 64 → first_fault count ns ≡ None
-no_fault count [] h few = refl
-no_fault count (n ∷ ns) h few =
-    none_fails (name_fault count n) (first_fault (count + 1) ns)
+no_fault : (most count : ℕ) (ns : Key) → AllByRecursion NameFacts ns → AllByRecursion (IsShort most) ns → count + length ns ≤ 64 → first_fault most count ns ≡ None
+no_fault most count [] h short few = refl
+no_fault most count (n ∷ ns) h short few =
+    none_fails (name_fault most count n) (first_fault most (count + 1) ns)
     (none_fails (check (leb 64 count) TooManyNames) _ (not_on _ TooManyNames (not_many count (omega arith)))
-    (none_fails (check (ltb 32 (length n)) NameTooLong) _ (not_on _ NameTooLong (not_long n h.0.short))
+    (none_fails (check (ltb most (length n)) NameTooLong) _ (not_on _ NameTooLong (not_long most n short.0))
     (none_fails (check (is_dots n) Dot) None (not_on _ Dot h.0.no_dot) refl)))
-    (no_fault (count + 1) ns h.1 (omega arith))
+    (no_fault most (count + 1) ns h.1 short.1 (omega arith))
 
 not_zero : (b : ℕ) → b ≢ 0 → eqb b 0 ≡ false
 not_zero b h = grind (arith, nat_tests)
@@ -139,29 +142,29 @@ and_no : (a b : Bool) → b ≡ false → (a && b) ≡ false
 and_no true b e = e
 and_no false b e = refl
 
-some_right : (n : Name) (ns : Key) → KeyFacts (n ∷ ns) → path_fault (names_text (n ∷ ns)) ≡ None
-some_right n ns h =
+some_right : (most : ℕ) (n : Name) (ns : Key) → KeyFacts most (n ∷ ns) → path_fault most (names_text (n ∷ ns)) ≡ None
+some_right most n ns h =
     let bytes = names_text (n ∷ ns) in
     let again = names_again n ns h.names.0 h.names.1 in
     let clean : list_any is_zero bytes ≡ false = none_zero (n ++ names_text ns) (tail_clean n ns h.names.0 h.names.1) in
-    let good : first_fault 0 (names bytes) ≡ None = ap (first_fault 0) again ∙ no_fault 0 (n ∷ ns) h.names (omega (arith, h.few)) in
+    let good : first_fault most 0 (names bytes) ≡ None = ap (first_fault most 0) again ∙ no_fault most 0 (n ∷ ns) h.names h.short (omega (arith, h.few)) in
     none_fails (check (list_any is_zero bytes) Nul) _ (not_on _ Nul clean)
-    (none_fails (first_fault 0 (names bytes)) _ good
+    (none_fails (first_fault most 0 (names bytes)) _ good
     (none_fails (check (has_names (names bytes) && ends_in_slash bytes) TrailingSlash) None (not_on _ TrailingSlash (and_no _ _ (no_end_slash n ns h.names.0 h.names.1))) refl))
 
-parse_some : (n : Name) (ns : Key) → KeyFacts (n ∷ ns) → reading (path_text (n ∷ ns)) ≡ Ok (n ∷ ns)
+parse_some : (most : ℕ) (n : Name) (ns : Key) → KeyFacts most (n ∷ ns) → reading most (path_text (n ∷ ns)) ≡ Ok (n ∷ ns)
 unfolding reading
-parse_some n ns h =
-    ap (λ f. if_sound f (names (names_text (n ∷ ns)))) (some_right n ns h) ∙ ap Ok (names_again n ns h.names.0 h.names.1)
+parse_some most n ns h =
+    ap (λ f. if_sound f (names (names_text (n ∷ ns)))) (some_right most n ns h) ∙ ap Ok (names_again n ns h.names.0 h.names.1)
 
-parse_nil : reading (path_text []) ≡ Ok []
+parse_nil : (most : ℕ) → reading most (path_text []) ≡ Ok []
 unfolding reading
-parse_nil = refl
+parse_nil most = refl
 
 -- what a path spells is read as that path
-pub parse_again : (key : Key) → KeyFacts key → reading (path_text key) ≡ Ok key
-parse_again [] h = parse_nil
-parse_again (n ∷ ns) h = parse_some n ns h
+pub parse_again : (most : ℕ) (key : Key) → KeyFacts most key → reading most (path_text key) ≡ Ok key
+parse_again most [] h = parse_nil most
+parse_again most (n ∷ ns) h = parse_some most n ns h
 
 -- ---- the word of a path
 
@@ -177,8 +180,8 @@ bytes_of_path : (key : Key) → AllByRecursion AreBytes key → AreBytes (path_t
 bytes_of_path [] h = (omega arith, tt)
 bytes_of_path (n ∷ ns) h = bytes_of_tail (n ∷ ns) h
 
-pub path_again : (key : Key) → KeyFacts key → path_of (path_word key) ≡ Ok key
-path_again key h = ap reading (escape_again (path_text key) (bytes_of_path key h.bytes)) ∙ parse_again key h
+pub path_again : (most : ℕ) (key : Key) → KeyFacts most key → path_of most (path_word key) ≡ Ok key
+path_again most key h = ap (reading most) (escape_again (path_text key) (bytes_of_path key h.bytes)) ∙ parse_again most key h
 
 some_path : (key : Key) → 0 < length (path_text key)
 some_path [] = omega arith

@@ -1,5 +1,5 @@
 -- What reading words and lines gives: the first step that fails is the answer.
-use Rattle.std.specs.Prelude.{ℕ, Bool, false, nat_lt, List, [], ◌∷◌, length, Result, Ok, Err, Option, Some, None, if◌then◌else◌}
+use Rattle.std.specs.Prelude.{ℕ, Bool, false, ◌&&◌, nat_le, nat_lt, List, [], ◌∷◌, length, Result, Ok, Err, Option, Some, None, if◌then◌else◌}
 use Rattle.std.specs.Str.{bytes_eq}
 use Rattle.percent_encoding.specs.Percent.{percent_decode}
 use Rattle.fs_names.specs.Names.{Name, can_name}
@@ -30,9 +30,9 @@ abbrev pub or_bad_path : Result Key PathFault → Result Key FaultKind
 or_bad_path (Ok key) = Ok key
 or_bad_path (Err f) = Err (kind.BadPath f)
 
--- a word as a path
-abbrev pub path_at : Word → Result Key FaultKind
-path_at word = or_bad_path (path_of word)
+-- a word as a path, with names of so many bytes at most
+abbrev pub path_at : ℕ → Word → Result Key FaultKind
+path_at most word = or_bad_path (path_of most word)
 
 -- a word as a number
 abbrev pub number_at : Word → Result ℕ FaultKind
@@ -42,13 +42,13 @@ number_at word = or_fault kind.BadNumber (number_of word)
 abbrev pub hex_at : Word → Result (List ℕ) FaultKind
 hex_at word = or_fault kind.BadHex (hex_of word)
 
--- bytes as a name; else the reply is a bad one
-abbrev pub read_name : List ℕ → Result Name FaultKind
-read_name name = if can_name name then Ok name else Err kind.BadReply
+-- so many bytes at most as a name; else the reply is a bad one
+abbrev pub read_name : ℕ → List ℕ → Result Name FaultKind
+read_name most name = if nat_le (length name) most && can_name name then Ok name else Err kind.BadReply
 
--- a word as a name, read back from its escapes
-abbrev pub name_at : Word → Result Name FaultKind
-name_at word = read_name (percent_decode word)
+-- a word as a name of so many bytes at most, read back from its escapes
+abbrev pub name_at : ℕ → Word → Result Name FaultKind
+name_at most word = read_name most (percent_decode word)
 
 -- ---- lines
 

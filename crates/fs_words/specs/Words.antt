@@ -58,6 +58,6 @@ escaped bytes = flat_map escaped_byte bytes
 abbrev pub path_word : Key → Word
 path_word key = escaped (path_text key)
 
--- the path that a word spells once it is decoded, or the first check that it fails
-abbrev pub path_of : Word → Result Key PathFault
-path_of word = reading (percent_decode word)
+-- the path that a word spells once it is decoded, with names of so many bytes at most, or the first check that it fails
+abbrev pub path_of : ℕ → Word → Result Key PathFault
+path_of most word = reading most (percent_decode word)

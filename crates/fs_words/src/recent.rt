@@ -17,12 +17,13 @@ const GROWTH: usize = 4;
 /// How many there are at the most.
 const MOST_SLOTS: usize = 8192;
 
-/// A word of a text, and the path that it is.
+/// A word of a text, and the path that it is with names of this most bytes.
 #[derive(Drop)]
 struct Known<'a> {
     word: &'a [u8],
+    most: usize,
     path: Path,
-    ghost read: { path_at word.now ≡ Ok path },
+    ghost read: { path_at most word.now ≡ Ok path },
 }
 
 /// Paths that were read, each in a slot that its word chooses. Of the words that choose the same slot the last one has it. There
@@ -103,15 +104,15 @@ impl<'a> Recent<'a> {
         ((hash_of(word) >> 32).wrapping_mul(count) >> 32) as usize
     }
 
-    /// The path of a word, where the slot has it.
-    pub(crate) fn path_in(&self, alloc: Global, slot: usize, word: &[u8]) -> Option<Path>
-        ensures { IfSome result (λ path. path_at word.now ≡ Ok path) }
+    /// The path of a word, where the slot has it as it was read with names of this most bytes.
+    pub(crate) fn path_in(&self, slot: usize, most: usize, word: &[u8]) -> Option<Path>
+        ensures { IfSome result (λ path. path_at most word.now ≡ Ok path) }
     {
         if slot >= self.slots.len() {
             return None;
         }
         match &self.slots[slot] {
-            Some(known) if known.word == word => known.path.copy(alloc).ok(),
+            Some(known) if known.most == most && known.word == word => known.path.copy().ok(),
             _ => None,
         }
     }
@@ -145,8 +146,15 @@ impl<'a> Recent<'a> {
     }
 
     /// Keeps the path of a word, which chose this slot, if there is a place for it.
-    pub(crate) fn keep(&mut self, alloc: Global, slot: usize, word: &'a [u8], path: &Path)
-        requires { path_at word.now ≡ Ok path.now }
+    pub(crate) fn keep(
+        &mut self,
+        alloc: Global,
+        slot: usize,
+        most: usize,
+        word: &'a [u8],
+        path: &Path,
+    )
+        requires { path_at most word.now ≡ Ok path.now }
     {
         let mut slot = slot;
         if self.left == 0 && self.slots.len() < self.most {
@@ -154,8 +162,8 @@ impl<'a> Recent<'a> {
             slot = self.slot_of(word);
         }
         self.left = self.left.saturating_sub(1);
-        if let Ok(path) = path.copy(alloc) {
-            self.put(slot, Known { word, path });
+        if let Ok(path) = path.copy() {
+            self.put(slot, Known { word, most, path });
         }
     }
 }

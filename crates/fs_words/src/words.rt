@@ -9,6 +9,7 @@ ghost use Rattle.fs_words.specs.Words.{number_of};
 ghost use Rattle.hex.specs.Hex.{is_hex_digit, decode_of};
 ghost use Rattle.percent_encoding.specs.Percent.{percent_decode};
 ghost use Rattle.fs_names.specs.Reading.{reading};
+ghost use Rattle.fs_names.specs.Limits.{name_limit};
 ghost use Rattle.fs_words.specs.declared.fault.FaultKind.TheVariants as kind;
 ghost use Rattle.fs_words.specs.Reading.{number_at, hex_at, path_at, or_bad_path, name_at, read_name};
 ghost use Rattle.fs_words.specs.code.Answers.{Gives, path_fault_of};
@@ -17,7 +18,7 @@ use crate::digits::{are_digits, write_bytes};
 use crate::fault::FaultKind;
 use crate::recent::Recent;
 use fs_names::blocks::place_from;
-use fs_names::{Bytes, Name, Path, PathFault};
+use fs_names::{Bytes, Limits, Name, Path, PathFault};
 use percent_encoding::percent_decode;
 use std::alloc::Global;
 
@@ -132,69 +133,73 @@ fn is_unescaped(word: &[u8]) -> bool
     place_from(b'%', word, 0).is_none()
 }
 
-fn read_path(alloc: Global, bytes: &[u8]) -> Result<Path, FaultKind>
-    ensures { Gives (λ path. path) result (or_bad_path (reading bytes.now)) }
+fn read_path(alloc: Global, limits: Limits, bytes: &[u8]) -> Result<Path, FaultKind>
+    ensures { Gives (λ path. path) result (or_bad_path (reading (name_limit limits) bytes.now)) }
 {
-    match Path::parse(alloc, bytes) {
+    match Path::parse_with(alloc, bytes, limits) {
         Ok(path) => Ok(path),
         Err(fault) => Err(path_fault(fault)),
     }
 }
 
-/// The path that a word is, unescaped.
-pub fn path_at(alloc: Global, word: &[u8]) -> Result<Path, FaultKind>
-    ensures { Gives (λ path. path) result (path_at word.now) }
+/// The path that a word is by these limits, unescaped.
+pub fn path_at(alloc: Global, limits: Limits, word: &[u8]) -> Result<Path, FaultKind>
+    ensures { Gives (λ path. path) result (path_at (name_limit limits) word.now) }
 {
     if is_unescaped(word) {
-        return read_path(alloc, word);
+        return read_path(alloc, limits, word);
     }
     let Ok(bytes) = percent_decode(word).into_cow(alloc) else {
         return Err(FaultKind::OutOfMemory);
     };
-    read_path(alloc, &bytes)
+    read_path(alloc, limits, &bytes)
 }
 
 /// The same, where paths that were read before are at hand.
 pub fn path_with<'a>(
     alloc: Global,
     recent: &mut Recent<'a>,
+    limits: Limits,
     word: &'a [u8],
 ) -> Result<Path, FaultKind>
-    ensures { Gives (λ path. path) result (path_at word.now) }
+    ensures { Gives (λ path. path) result (path_at (name_limit limits) word.now) }
 {
     if !recent.keeps() {
-        return path_at(alloc, word);
+        return path_at(alloc, limits, word);
     }
     let slot = recent.slot_of(word);
-    if let Some(path) = recent.path_in(alloc, slot, word) {
+    if let Some(path) = recent.path_in(slot, limits.name(), word) {
         return Ok(path);
     }
-    let path = match path_at(alloc, word) {
+    let path = match path_at(alloc, limits, word) {
         Ok(path) => path,
         Err(kind) => return Err(kind),
     };
-    recent.keep(alloc, slot, word, &path);
+    recent.keep(alloc, slot, limits.name(), word, &path);
     Ok(path)
 }
 
-fn read_name(bytes: &[u8]) -> Result<Name, FaultKind>
-    ensures { result ≡ read_name bytes.now }
+fn read_name(limits: Limits, bytes: &[u8]) -> Result<Name, FaultKind>
+    ensures { result ≡ read_name (name_limit limits) bytes.now }
 {
+    if bytes.len() > limits.name() {
+        return Err(FaultKind::BadReply);
+    }
     match Name::read(bytes) {
         Some(name) => Ok(name),
         None => Err(FaultKind::BadReply),
     }
 }
 
-/// The name that a word is, unescaped; else `BadReply`, since words that are names stand in replies alone.
-pub fn name_at(alloc: Global, word: &[u8]) -> Result<Name, FaultKind>
-    ensures { Gives (λ name. name) result (name_at word.now) }
+/// The name that a word is by these limits, unescaped; else `BadReply`, since words that are names stand in replies alone.
+pub fn name_at(alloc: Global, limits: Limits, word: &[u8]) -> Result<Name, FaultKind>
+    ensures { Gives (λ name. name) result (name_at (name_limit limits) word.now) }
 {
     if is_unescaped(word) {
-        return read_name(word);
+        return read_name(limits, word);
     }
     let Ok(bytes) = percent_decode(word).into_cow(alloc) else {
         return Err(FaultKind::OutOfMemory);
     };
-    read_name(&bytes)
+    read_name(limits, &bytes)
 }
