@@ -1,5 +1,5 @@
 -- A journal that was written is read again as the same start tree and the same entries.
-use Rattle.std.proofs.Common.{◌≡◌, ◌≢◌, ℕ, ◌+◌, ◌<◌, ◌≤◌, true, false, cond, ltb, ◌&&◌, ⊎_elim, List, [], ◌∷◌, ◌++◌, length, map, Result, Ok, Err, refl, sym, ap, subst, ◌∙◌, arith, append_assoc, append-nil, codes, rules}
+use Rattle.std.proofs.Common.{◌≡◌, ◌≢◌, ℕ, ◌+◌, ◌<◌, ◌≤◌, true, false, cond, not, ltb, eqb, ◌&&◌, ⊎_elim, List, [], ◌∷◌, ◌++◌, length, map, Result, Ok, Err, refl, sym, ap, subst, ◌∙◌, arith, append_assoc, append-nil, codes, rules}
 use Rattle.std.specs.List.{All, AllByRecursion, slice_split, flat_map, join_with_byte}
 use Rattle.std.specs.Str.{bytes_eq}
 use Rattle.std.proofs.lemmas.Bool.{cond-true, cond-false, cases_Bool, eq-eqb}
@@ -11,10 +11,14 @@ use Rattle.percent_encoding.specs.Percent.{percent_encode_byte}
 use Rattle.percent_encoding.proofs.PercentLemmas.{IsEscapeByte, All-percent_encode_byte}
 use Rattle.fs_names.specs.Names.{Name, IsName}
 use Rattle.fs_names.specs.Keys.{Key}
+use Rattle.fs_names.specs.Limits.{name_limit, file_limit}
+use Rattle.fs_names.specs.declared.limits.Limits.{Limits}
+use Rattle.fs_names.specs.declared.limits.Limits.TheVariants.{V1, V2}
 use Rattle.fs_names.specs.Reading.{is_slash}
 use Rattle.fs_names.specs.declared.kind.Kind.{Kind}
 use Rattle.fs_names.specs.declared.kind.Kind.TheVariants as kinds
 use Rattle.fs_calls.specs.Tree.{Tree, Node, Dir, File, root_tree}
+use Rattle.fs_calls.specs.Starts.{Start, root_start}
 use Rattle.fs_timeline.specs.declared.entry.Entry.{Entry}
 use Rattle.fs_seq.specs.Rows.{node_of_kind, IsWithinLimits}
 use Rattle.fs_seq.proofs.Fitting.{node_fits, root_first}
@@ -28,15 +32,17 @@ use Rattle.fs_words.proofs.WordLemmas.{IsWord, pieces_of_joined, has_no_empty, I
 use Rattle.fs_words.proofs.NumberLemmas.{IsWord_hex}
 use Rattle.fs_words.proofs.PathLemmas.{name_facts, IsWord_path}
 use Rattle.fs_words.proofs.WriteLemmas.{escaped_none, root_word}
-use Rattle.fs_text.specs.Fits.{AllFit}
+use Rattle.fs_text.specs.Fits.{FitsName, AllFit}
 use Rattle.fs_text.specs.Journal.{entry_line, entries_of, names_at}
 use Rattle.fs_text.specs.Journal as text
 use Rattle.fs_text.proofs.EntryLemmas.{joined, text_ended, are_lines, journal_lines, lines_again, journal_again, kind_good, names_read, hex_read}
 use Rattle.fs_script.specs.TreeText.{node_words, node_line}
-use Rattle.fs_script.specs.Journals.{Read, with_start, key_at, node_at, node_in_line, grown, in_start, started_from, behind_line, started_header, journal_text, journal_of}
+use Rattle.fs_script.specs.Journals.{Read, with_start, key_at, node_at, node_in_line, grown, in_start, started_from, behind_line, started_header, is_told, journal_text, journal_of}
+use Rattle.fs_script.specs.code.Starts.{starting}
 use Rattle.fs_script.specs.Laws.{FitsNode, FitsStart, ReadsJournalsBack}
 use Rattle.fs_script.proofs.NodeLines.{spelled, path_spelled}
 use Rattle.fs_script.proofs.Openings.{started, from_the_root}
+use Rattle.fs_script.proofs.HeaderLemmas.{started_lines, told_by}
 
 -- ---- a path of any number of names
 
@@ -67,14 +73,18 @@ no_root : (xs ys : List ℕ) → 0 < length xs → bytes_eq (47 ∷ (xs ++ ys)) 
 no_root [] ys some = absurd (omega (arith, some))
 no_root (x ∷ xs) ys some = refl
 
-some_key : (n : Name) (ns : Key) → IsName n → AllByRecursion IsName ns → key_at (47 ∷ (escaped n ++ spelled ns)) ≡ Ok (n ∷ ns)
-some_key n ns h all =
-    cond-false _ _ _ (no_root (escaped n) (spelled ns) (IsWord_escaped n (name_facts n h.test).some).some)
-    ∙ ap names_at (cut_again n ns h all) ∙ names_read (n ∷ ns) (h, all)
+are_names : (most : ℕ) (ns : Key) → AllByRecursion (FitsName most) ns → AllByRecursion IsName ns
+are_names most [] h = tt
+are_names most (n ∷ ns) h = (h.0.is_name, are_names most ns h.1)
 
-pub key_read : (key : Key) → AllByRecursion IsName key → key_at (path_word key) ≡ Ok key
-key_read [] h = ap key_at (root_word [] refl)
-key_read (n ∷ ns) h = ap key_at (path_spelled n ns) ∙ some_key n ns h.0 h.1
+some_key : (most : ℕ) (n : Name) (ns : Key) → FitsName most n → AllByRecursion (FitsName most) ns → key_at most (47 ∷ (escaped n ++ spelled ns)) ≡ Ok (n ∷ ns)
+some_key most n ns h all =
+    cond-false _ _ _ (no_root (escaped n) (spelled ns) (IsWord_escaped n (name_facts n h.is_name.test).some).some)
+    ∙ ap (names_at most) (cut_again n ns h.is_name (are_names most ns all)) ∙ names_read most (n ∷ ns) (h, all)
+
+pub key_read : (most : ℕ) (key : Key) → AllByRecursion (FitsName most) key → key_at most (path_word key) ≡ Ok key
+key_read most [] h = ap (key_at most) (root_word [] refl)
+key_read most (n ∷ ns) h = ap (key_at most) (path_spelled n ns) ∙ some_key most n ns h.0 h.1
 
 -- ---- the line of a node
 
@@ -91,9 +101,9 @@ told_node : (e : Key × Node) → ◌≡◌ {A = Key × Node} ((told_of e).0, no
 told_node (key, Dir) = refl
 told_node (key, File bytes) = refl
 
-words_good : (e : Key × Node) → FitsNode e → AllByRecursion IsWord (node_words e.0 e.1)
-words_good (key, Dir) h = (kind_good kinds.Dir, (IsWord_path key, tt))
-words_good (key, File bytes) h = (kind_good kinds.File, (IsWord_path key, (IsWord_hex bytes h.1, tt)))
+words_good : (most : ℕ) (e : Key × Node) → FitsNode most e → AllByRecursion IsWord (node_words e.0 e.1)
+words_good most (key, Dir) h = (kind_good kinds.Dir, (IsWord_path key, tt))
+words_good most (key, File bytes) h = (kind_good kinds.File, (IsWord_path key, (IsWord_hex bytes h.1, tt)))
 
 some_words : (e : Key × Node) → 0 < length (node_words e.0 e.1)
 some_words (key, Dir) = omega arith
@@ -105,9 +115,9 @@ words_cut ws good some =
     let whole : has_empty (pieces_of (join_with_byte 32 ws)) ≡ false = ap has_empty cut ∙ has_no_empty ws good in
     cond-false _ _ _ whole ∙ ap Ok cut
 
-node_told : (e : Key × Node) → FitsNode e → node_at (node_words e.0 e.1) ≡ Ok (told_of e)
-node_told (key, Dir) h = ap (λ r. r >>= λ k. Ok (k, kinds.Dir, [])) (key_read key h)
-node_told (key, File bytes) h = rw (key_read key h.0, hex_read bytes h.1) refl
+node_told : (most : ℕ) (e : Key × Node) → FitsNode most e → node_at most (node_words e.0 e.1) ≡ Ok (told_of e)
+node_told most (key, Dir) h = ap (λ r. r >>= λ k. Ok (k, kinds.Dir, [])) (key_read most key h)
+node_told most (key, File bytes) h = rw (key_read most key h.0, hex_read bytes h.1) refl
 
 bytes_same : (xs : List ℕ) → bytes_eq xs xs ≡ true
 bytes_same [] = refl
@@ -117,10 +127,10 @@ strictly : (e : Key × Node) → cond {A = Result (Key × Kind × List ℕ) Faul
 strictly (key, Dir) = cond-true _ _ _ (bytes_same (line_of (key, Dir)))
 strictly (key, File bytes) = cond-true _ _ _ (bytes_same (line_of (key, File bytes)))
 
-pub node_again : (e : Key × Node) → FitsNode e → node_in_line (line_of e) ≡ Ok (told_of e)
-node_again e h =
-    ap (λ r. r >>= node_at >>= λ n. cond {A = Result (Key × Kind × List ℕ) FaultKind} (bytes_eq (line_of e) (join_with_byte 32 (node_words n.0 (node_of_kind n.1 n.2)))) (Ok n) (Err kind.BadStart)) (words_cut (node_words e.0 e.1) (words_good e h) (some_words e))
-    ∙ ap (λ r. r >>= λ n. cond {A = Result (Key × Kind × List ℕ) FaultKind} (bytes_eq (line_of e) (join_with_byte 32 (node_words n.0 (node_of_kind n.1 n.2)))) (Ok n) (Err kind.BadStart)) (node_told e h)
+pub node_again : (most : ℕ) (e : Key × Node) → FitsNode most e → node_in_line most (line_of e) ≡ Ok (told_of e)
+node_again most e h =
+    ap (λ r. r >>= node_at most >>= λ n. cond {A = Result (Key × Kind × List ℕ) FaultKind} (bytes_eq (line_of e) (join_with_byte 32 (node_words n.0 (node_of_kind n.1 n.2)))) (Ok n) (Err kind.BadStart)) (words_cut (node_words e.0 e.1) (words_good most e h) (some_words e))
+    ∙ ap (λ r. r >>= λ n. cond {A = Result (Key × Kind × List ℕ) FaultKind} (bytes_eq (line_of e) (join_with_byte 32 (node_words n.0 (node_of_kind n.1 n.2)))) (Ok n) (Err kind.BadStart)) (node_told most e h)
     ∙ strictly e
 
 not_passed : (e : Key × Node) → is_passed_over (line_of e) ≡ false
@@ -133,25 +143,27 @@ not_entries (key, File bytes) = refl
 
 -- ---- the lines of a start tree
 
-abbrev Told : List (Key × Node) → Type 0
-Told u = AllByRecursion FitsNode u
+abbrev Told : Limits → List (Key × Node) → Type 0
+Told limits u = AllByRecursion (FitsNode (name_limit limits)) u
 
-grows : (first : Key × Node) (t : Tree) (e : Key × Node) (u : Tree) → IsWithinLimits (first ∷ (t ++ e ∷ u)) → grown (first ∷ t) (told_of e) ≡ Ok (first ∷ (t ++ e ∷ []))
-grows first t (key, Dir) u within = cond-true _ _ _ (node_fits first t key kinds.Dir [] u within refl)
-grows first t (key, File bytes) u within = cond-true _ _ _ (node_fits first t key kinds.File bytes u within refl)
+grows : (limits : Limits) (first : Key × Node) (t : Tree) (e : Key × Node) (u : Tree) → IsWithinLimits (file_limit limits) (first ∷ (t ++ e ∷ u)) → grown limits (first ∷ t) (told_of e) ≡ Ok (first ∷ (t ++ e ∷ []))
+grows limits first t (key, Dir) u within = cond-true _ _ _ (node_fits (file_limit limits) first t key kinds.Dir [] u within refl)
+grows limits first t (key, File bytes) u within = cond-true _ _ _ (node_fits (file_limit limits) first t key kinds.File bytes u within refl)
 
 abbrev rest_lines : List (Key × Node) → List Entry → List (List ℕ)
 rest_lines u es = map line_of u ++ codes "entries" ∷ map joined es
 
-started_again : (first : Key × Node) (t u : Tree) (n : ℕ) (es : List Entry) → IsWithinLimits (first ∷ (t ++ u)) → Told u → AllFit es → started_from (first ∷ t) n (rest_lines u es) ≡ Ok (first ∷ (t ++ u), es)
+started_again : (limits : Limits) (first : Key × Node) (t u : Tree) (n : ℕ) (es : List Entry) → IsWithinLimits (file_limit limits) (first ∷ (t ++ u)) → Told limits u → AllFit (name_limit limits) es
+    → started_from limits (first ∷ t) n (rest_lines u es) ≡ Ok (starting limits (first ∷ (t ++ u)), es)
 unfolding started_from
-started_again first t [] n es within told fit = ap (with_start (first ∷ t)) (lines_again (n + 1) es fit) ∙ ap (λ (z : Tree). Ok (first ∷ z, es)) (sym (append-nil t))
-started_again first t (e ∷ u) n es within told fit =
+started_again limits first t [] n es within told fit =
+    ap (with_start (starting limits (first ∷ t))) (lines_again (name_limit limits) (n + 1) es fit) ∙ ap (λ (z : Tree). Ok (starting limits (first ∷ z), es)) (sym (append-nil t))
+started_again limits first t (e ∷ u) n es within told fit =
     cond-false _ _ _ (not_passed e) ∙ cond-false _ _ _ (not_entries e)
-    ∙ ap (λ r. in_start n (r >>= grown (first ∷ t)) >>= λ v. started_from v (n + 1) (rest_lines u es)) (node_again e told.0)
-    ∙ ap (λ r. in_start n r >>= λ v. started_from v (n + 1) (rest_lines u es)) (grows first t e u within)
-    ∙ started_again first (t ++ e ∷ []) u (n + 1) es (subst (λ (z : Tree). IsWithinLimits (first ∷ z)) (sym (append_assoc t (e ∷ []) u)) within) told.1 fit
-    ∙ ap (λ (z : Tree). Ok (first ∷ z, es)) (append_assoc t (e ∷ []) u)
+    ∙ ap (λ r. in_start n (r >>= grown limits (first ∷ t)) >>= λ v. started_from limits v (n + 1) (rest_lines u es)) (node_again (name_limit limits) e told.0)
+    ∙ ap (λ r. in_start n r >>= λ v. started_from limits v (n + 1) (rest_lines u es)) (grows limits first t e u within)
+    ∙ started_again limits first (t ++ e ∷ []) u (n + 1) es (subst (λ (z : Tree). IsWithinLimits (file_limit limits) (first ∷ z)) (sym (append_assoc t (e ∷ []) u)) within) told.1 fit
+    ∙ ap (λ (z : Tree). Ok (starting limits (first ∷ z), es)) (append_assoc t (e ∷ []) u)
 
 -- ---- the lines of the text
 
@@ -159,29 +171,45 @@ lines_ended : (u : List (Key × Node)) → flat_map node_line u ≡ flat_map end
 lines_ended [] = refl
 lines_ended (e ∷ u) = ap (λ (z : List ℕ). ended (line_of e) ++ z) (lines_ended u)
 
-abbrev all_lines : Tree → List Entry → List (List ℕ)
-all_lines start es = started_header ∷ codes "start" ∷ rest_lines start es
+abbrev all_lines : Start → List Entry → List (List ℕ)
+all_lines start es = started_header start.limits ∷ codes "start" ∷ rest_lines start.tree es
 
-text_of_lines : (start : Tree) (es : List Entry) → length start ≢ 1 → journal_text start es ≡ flat_map ended (all_lines start es)
-text_of_lines start es more =
-    ap (λ (z : List ℕ). z ++ flat_map entry_line es) (started start more)
-    ∙ append_assoc (codes "atomfs-journal 2\nstart\n" ++ flat_map node_line start) (codes "entries\n") (flat_map entry_line es)
-    ∙ append_assoc (codes "atomfs-journal 2\nstart\n") (flat_map node_line start) (codes "entries\n" ++ flat_map entry_line es)
-    ∙ ap (λ (z : List ℕ). codes "atomfs-journal 2\nstart\n" ++ (z ++ (codes "entries\n" ++ flat_map entry_line es))) (lines_ended start)
-    ∙ ap (λ (z : List ℕ). codes "atomfs-journal 2\nstart\n" ++ (flat_map ended (map line_of start) ++ (codes "entries\n" ++ z))) (text_ended es)
-    ∙ ap (λ (z : List ℕ). codes "atomfs-journal 2\nstart\n" ++ z) (sym (flat_map-append ended (map line_of start) (codes "entries" ∷ map joined es)))
+header_ended : (limits : Limits) (z : List ℕ) → started_header limits ++ (codes "\nstart\n" ++ z) ≡ ended (started_header limits) ++ (ended (codes "start") ++ z)
+header_ended V1 z = refl
+header_ended V2 z = refl
 
-nodes_are_lines : (u : List (Key × Node)) (more : List (List ℕ)) → Told u → AllByRecursion IsLine more → AllByRecursion IsLine (map line_of u ++ more)
-nodes_are_lines [] more told h = h
-nodes_are_lines (e ∷ u) more told h = (IsLine_joined (node_words e.0 e.1) (words_good e told.0), nodes_are_lines u more told.1 h)
+abbrev AreTold : Start → Type 0
+AreTold start = is_told start.limits (length start.tree) ≡ true
+
+text_of_lines : (start : Start) (es : List Entry) → AreTold start → journal_text start es ≡ flat_map ended (all_lines start es)
+text_of_lines start es told =
+    let entries : List ℕ = flat_map entry_line es in
+    let nodes : List ℕ = flat_map node_line start.tree in
+    let header : List ℕ = started_header start.limits in
+    ap (λ (z : List ℕ). z ++ entries) (started start told)
+    ∙ append_assoc header (codes "\nstart\n" ++ (nodes ++ codes "entries\n")) entries
+    ∙ ap (λ (z : List ℕ). header ++ (codes "\nstart\n" ++ z)) (append_assoc nodes (codes "entries\n") entries)
+    ∙ ap (λ (z : List ℕ). header ++ (codes "\nstart\n" ++ (z ++ (codes "entries\n" ++ entries)))) (lines_ended start.tree)
+    ∙ ap (λ (z : List ℕ). header ++ (codes "\nstart\n" ++ (flat_map ended (map line_of start.tree) ++ (codes "entries\n" ++ z)))) (text_ended es)
+    ∙ ap (λ (z : List ℕ). header ++ (codes "\nstart\n" ++ z)) (sym (flat_map-append ended (map line_of start.tree) (codes "entries" ∷ map joined es)))
+    ∙ header_ended start.limits (flat_map ended (rest_lines start.tree es))
+
+nodes_are_lines : (limits : Limits) (u : List (Key × Node)) (more : List (List ℕ)) → Told limits u → AllByRecursion IsLine more → AllByRecursion IsLine (map line_of u ++ more)
+nodes_are_lines limits [] more told h = h
+nodes_are_lines limits (e ∷ u) more told h = (IsLine_joined (node_words e.0 e.1) (words_good (name_limit limits) e told.0), nodes_are_lines limits u more told.1 h)
 
 is_line : (w : List ℕ) → AllByRecursion (λ b. 31 < b) w → IsLine w
 is_line w h = All-from_recursion (λ b. 31 < b) w h
 
-text_lines : (start : Tree) (es : List Entry) → length start ≢ 1 → Told start → AllFit es → lines_of (journal_text start es) ≡ all_lines start es
-text_lines start es more told fit =
-    ap lines_of (text_of_lines start es more)
-    ∙ lines_of_ended (all_lines start es) (is_line started_header (search rules), (is_line (codes "start") (search rules), nodes_are_lines start (codes "entries" ∷ map joined es) told (is_line (codes "entries") (search rules), are_lines es fit)))
+header_is_line : (limits : Limits) → IsLine (started_header limits)
+header_is_line V1 = is_line (codes "atomfs-journal 2") (search rules)
+header_is_line V2 = is_line (codes "atomfs-journal 3") (search rules)
+
+text_lines : (start : Start) (es : List Entry) → AreTold start → Told start.limits start.tree → AllFit (name_limit start.limits) es → lines_of (journal_text start es) ≡ all_lines start es
+text_lines start es is told fit =
+    ap lines_of (text_of_lines start es is)
+    ∙ lines_of_ended (all_lines start es)
+    (header_is_line start.limits, (is_line (codes "start") (search rules), nodes_are_lines start.limits start.tree (codes "entries" ∷ map joined es) told (is_line (codes "entries") (search rules), are_lines (name_limit start.limits) es fit)))
 
 -- ---- the whole text
 
@@ -195,37 +223,48 @@ wanted_again wanted read n line more p is = cond-false _ _ _ p ∙ cond-true _ _
 root_line : line_of ([], Dir) ≡ codes "dir /"
 root_line = ap (λ (w : List ℕ). codes "dir " ++ w) (root_word [] refl)
 
-told_again : (u : Tree) (es : List Entry) → IsWithinLimits (([], Dir) ∷ u) → length (([], Dir) ∷ u) ≢ 1 → Told (([], Dir) ∷ u) → AllFit es → length (journal_text (([], Dir) ∷ u) es) ≤ 16777216
-    → journal_of (journal_text (([], Dir) ∷ u) es) ≡ Ok (([], Dir) ∷ u, es)
+-- a text is read by the limits that its first line announces
+read_by : (limits : Limits) (text : List ℕ) (more lines : List (List ℕ)) → lines_of text ≡ started_header limits ∷ more → behind_header (started_header limits) text ≡ Ok lines → journal_of text ≡ started_lines limits lines
 unfolding journal_of
-told_again u es within more told fit short =
-    let start : Tree = ([], Dir) ∷ u in
-    let lines : lines_of (journal_text start es) ≡ all_lines start es = text_lines start es more told fit in
-    let first : first_is started_header (lines_of (journal_text start es)) ≡ true = ap (first_is started_header) lines ∙ bytes_same started_header in
-    let behind : behind_header started_header (journal_text start es) ≡ Ok (codes "start" ∷ rest_lines start es) =
-    cond-false _ _ _ (not_above (length (journal_text start es)) short) ∙ cond-true _ _ _ first ∙ ap (λ ls. Ok (behind_first ls)) lines in
-    cond-true _ _ _ first
-    ∙ ap (λ r. r >>= behind_line (codes "start") (behind_line (codes "dir /") (started_from root_tree)) 2) behind
-    ∙ wanted_again (codes "start") (behind_line (codes "dir /") (started_from root_tree)) 2 (codes "start") (rest_lines start es) refl refl
-    ∙ wanted_again (codes "dir /") (started_from root_tree) 3 (line_of ([], Dir)) (rest_lines u es) refl root_line
-    ∙ started_again ([], Dir) [] u 4 es within told.1 fit
+read_by V1 text more lines are is = cond-false _ _ _ (ap (first_is (started_header V2)) are) ∙ told_by V1 text _ lines is
+read_by V2 text more lines are is = told_by V2 text _ lines is
 
-root_again : (es : List Entry) → AllFit es → length (journal_text root_tree es) ≤ 16777216 → journal_of (journal_text root_tree es) ≡ Ok (root_tree, es)
+told_again : (limits : Limits) (u : Tree) (es : List Entry) → IsWithinLimits (file_limit limits) (([], Dir) ∷ u) → AreTold (starting limits (([], Dir) ∷ u)) → Told limits (([], Dir) ∷ u) → AllFit (name_limit limits) es
+    → length (journal_text (starting limits (([], Dir) ∷ u)) es) ≤ 16777216 → journal_of (journal_text (starting limits (([], Dir) ∷ u)) es) ≡ Ok (starting limits (([], Dir) ∷ u), es)
+told_again limits u es within is told fit short =
+    let start : Start = starting limits (([], Dir) ∷ u) in
+    let lines : lines_of (journal_text start es) ≡ all_lines start es = text_lines start es is told fit in
+    let first : first_is (started_header limits) (lines_of (journal_text start es)) ≡ true = ap (first_is (started_header limits)) lines ∙ bytes_same (started_header limits) in
+    let behind : behind_header (started_header limits) (journal_text start es) ≡ Ok (codes "start" ∷ rest_lines start.tree es) =
+    cond-false _ _ _ (not_above (length (journal_text start es)) short) ∙ cond-true _ _ _ first ∙ ap (λ ls. Ok (behind_first ls)) lines in
+    read_by limits (journal_text start es) _ _ lines behind
+    ∙ wanted_again (codes "start") (behind_line (codes "dir /") (started_from limits root_tree)) 2 (codes "start") (rest_lines start.tree es) refl refl
+    ∙ wanted_again (codes "dir /") (started_from limits root_tree) 3 (line_of ([], Dir)) (rest_lines u es) refl root_line
+    ∙ started_again limits ([], Dir) [] u 4 es within told.1 fit
+
+root_again : (es : List Entry) → AllFit (name_limit V1) es → length (journal_text (root_start V1) es) ≤ 16777216 → journal_of (journal_text (root_start V1) es) ≡ Ok (root_start V1, es)
 unfolding journal_of
 root_again es fit short =
-    let is : journal_text root_tree es ≡ text.journal_text es = from_the_root es in
-    let other : first_is started_header (lines_of (journal_text root_tree es)) ≡ false = ap (λ t. first_is started_header (lines_of t)) is ∙ ap (first_is started_header) (journal_lines es fit) in
-    cond-false _ _ _ other
-    ∙ ap (λ t. with_start root_tree (entries_of t)) is
-    ∙ ap (with_start root_tree) (journal_again es fit (subst (λ (t : List ℕ). length t ≤ 16777216) is short))
+    let is : journal_text (root_start V1) es ≡ text.journal_text es = from_the_root es in
+    let other : (limits : Limits) → first_is (started_header limits) (text.journal_header ∷ map joined es) ≡ false → first_is (started_header limits) (lines_of (journal_text (root_start V1) es)) ≡ false =
+    λ limits no. ap (λ t. first_is (started_header limits) (lines_of t)) is ∙ ap (first_is (started_header limits)) (journal_lines (name_limit V1) es fit) ∙ no in
+    cond-false _ _ _ (other V2 refl) ∙ cond-false _ _ _ (other V1 refl)
+    ∙ ap (λ t. with_start (root_start V1) (entries_of t)) is
+    ∙ ap (with_start (root_start V1)) (journal_again es fit (subst (λ (t : List ℕ). length t ≤ 16777216) is short))
+
+-- what is to be shown of a start
+abbrev IsAgain : List Entry → Start → Type 0
+IsAgain es start = FitsStart start → AllFit (name_limit start.limits) es → length (journal_text start es) ≤ 16777216 → journal_of (journal_text start es) ≡ Ok (start, es)
+
+two_told : (n : ℕ) → 1 < n → is_told V1 n ≡ true
+two_told n h = let other : eqb n 1 ≡ false = grind (arith, nat_tests, h) in ap not other
+
+by_rest : (limits : Limits) (u : Tree) (es : List Entry) → IsAgain es (starting limits (([], Dir) ∷ u))
+by_rest V1 [] es h fit short = root_again es fit short
+by_rest V1 (e ∷ u) es h fit short = let told = two_told (length (([], Dir) ∷ e ∷ u)) (omega arith) in told_again V1 (e ∷ u) es h.within told (h.told told) fit short
+by_rest V2 u es h fit short = told_again V2 u es h.within refl (h.told refl) fit short
 
 pub reads_journals_back : ReadsJournalsBack
-reads_journals_back start es h fit short = go start h fit short (root_first start h.within.tree)
-  where
-    by_rest : (u : Tree) → FitsStart (([], Dir) ∷ u) → length (journal_text (([], Dir) ∷ u) es) ≤ 16777216 → journal_of (journal_text (([], Dir) ∷ u) es) ≡ Ok (([], Dir) ∷ u, es)
-    by_rest [] h short = root_again es fit short
-    by_rest (e ∷ u) h short = told_again (e ∷ u) es h.within (λ same. absurd (omega (arith, same))) (h.told (λ same. absurd (omega (arith, same)))) fit short
-
-    go : (start : Tree) → FitsStart start → AllFit es → length (journal_text start es) ≤ 16777216 → (u : Tree) × (start ≡ ([], Dir) ∷ u) → journal_of (journal_text start es) ≡ Ok (start, es)
-    go start h fit short (u, is) =
-        subst (λ (t : Tree). FitsStart t → length (journal_text t es) ≤ 16777216 → journal_of (journal_text t es) ≡ Ok (t, es)) (sym is) (by_rest u) h short
+reads_journals_back start es h fit short =
+    let first = root_first start.tree h.within.tree in
+    subst (λ (t : Tree). IsAgain es (starting start.limits t)) (sym first.1) (by_rest start.limits first.0 es) h fit short

@@ -2,8 +2,10 @@ pub mod ScriptLemmas
 pub mod ForestLemmas
 pub mod NodeLines
 pub mod Openings
+pub mod HeaderLemmas
 pub mod StartLemmas
 pub mod JournalLemmas
 pub mod PendingLemmas
 pub mod StepLemmas
 pub mod LimitLemmas
+pub mod ShortNames

@@ -3,7 +3,10 @@ use Rattle.std.proofs.Common.{◌≡◌, ℕ, true, false, List, [], ◌∷◌, 
 use Rattle.std.specs.Prelude.{◌==◌}
 use Rattle.std.specs.List.{AllByRecursion, flat_map}
 use Rattle.std.proofs.lemmas.Grind.{flat_map-append}
-use Rattle.fs_names.specs.Names.{Name, IsName}
+use Rattle.fs_names.specs.Names.{Name}
+use Rattle.fs_names.specs.Limits.{name_limit}
+use Rattle.fs_names.specs.declared.limits.Limits.TheVariants.{V2}
+use Rattle.fs_text.specs.Fits.{FitsName}
 use Rattle.fs_names.specs.Keys.{Key, names_text, is_root}
 use Rattle.fs_words.specs.Words.{escaped, path_word}
 use Rattle.fs_words.proofs.WriteLemmas.{escaped_append, escaped_none, slash_escaped, root_word}
@@ -49,7 +52,7 @@ steps_lead [] names some = absurd (cc)
 steps_lead (s ∷ steps) names some = refl
 
 -- the key of the root has no names
-pub root_fits : (steps : List Step) (names : Key) → is_root (key_above steps ++ names) ≡ true → AllByRecursion IsName names
+pub root_fits : (steps : List Step) (names : Key) → is_root (key_above steps ++ names) ≡ true → AllByRecursion (FitsName (name_limit V2)) names
 root_fits [] [] root = tt
 root_fits [] (x ∷ names) root = absurd (cc)
 root_fits (s ∷ steps) names root = absurd (cc)

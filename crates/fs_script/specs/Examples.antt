@@ -3,10 +3,12 @@ use Rattle.std.specs.Prelude.{◌≡◌, ℕ, ◌^◌, ◌-◌, [], ◌∷◌, �
 use Prim.Native.String.{String}
 use Rattle.fs_names.specs.Reading.{names}
 use Rattle.fs_names.specs.Keys.{Key}
+use Rattle.fs_names.specs.declared.limits.Limits.TheVariants.{V1, V2}
 use Rattle.fs_names.specs.declared.fault.PathFault.TheVariants.{Nul, TrailingSlash}
 use Rattle.fs_calls.specs.declared.call.Call.TheVariants.{Mkdir, Mknod, Unlink, Rmdir, Rename, Stat, Readdir, Read, Write, Truncate}
 use Rattle.fs_calls.specs.declared.reply.Reply.TheVariants.{Done}
-use Rattle.fs_calls.specs.Tree.{Tree, root_tree}
+use Rattle.fs_calls.specs.Tree.{Tree}
+use Rattle.fs_calls.specs.Starts.{Start, root_start}
 use Rattle.fs_calls.specs.Outcomes.{play}
 use Rattle.fs_timeline.specs.declared.entry.Entry.TheVariants.{Begin, Commit, Return}
 use Rattle.fs_words.specs.Reading.{fault_at}
@@ -32,7 +34,9 @@ FaultOf lines line kind = script lines ≡ Err (fault_at line kind)
 
 pub record ScriptFaults : Type 0 where
   pub empty : script_of [] ≡ Err (fault_at 1 BadHeader)
-  pub other_header : script_of (codes "atomfs 2\n") ≡ Err (fault_at 1 BadHeader)
+  pub other_header : script_of (codes "atomfs 3\n") ≡ Err (fault_at 1 BadHeader)
+  pub spaced_second : script_of (codes "atomfs 2 \n") ≡ Err (fault_at 1 BadHeader)
+  pub second_unended : script_of (codes "atomfs 2\n") ≡ Err (fault_at 2 NoSchedule)
   pub spaced_header : script_of (codes "atomfs 1 \n") ≡ Err (fault_at 1 BadHeader)
   pub upper_thread : FaultOf "thread T\n" 2 BadThread
   pub thread_finish : FaultOf "thread finish\n" 2 BadThread
@@ -61,44 +65,54 @@ pub record ScriptFaults : Type 0 where
   pub counted_lines : FaultOf "# mkdir\n\nthread t\nmkdir /a" 6 NoSchedule
 
 pub record ScriptsRead : Type 0 where
-  pub empty_script : script "schedule\n" ≡ Ok (record { names = []; lists = []; words = [] })
+  pub empty_script : script "schedule\n" ≡ Ok (record { names = []; lists = []; words = []; limits = V1 })
+  pub second_version : script_of (codes "atomfs 2\nschedule\n") ≡ Ok (record { names = []; lists = []; words = []; limits = V2 })
   pub first_mkdir : script "thread t\nmkdir /a\nschedule\nt*5\n"
-      ≡ Ok (record { names = codes "t" ∷ []; lists = (Mkdir (at "/a") ∷ []) ∷ []; words = Events 0 5 ∷ [] })
+      ≡ Ok (record { names = codes "t" ∷ []; lists = (Mkdir (at "/a") ∷ []) ∷ []; words = Events 0 5 ∷ []; limits = V1 })
   pub helped_mkdir : script "thread m\nmkdir /a\nmkdir /a/d\nmkdir /a/d/x\nthread r\nrename /a /b\nschedule\nm*18 r*6 m*3\n"
       ≡ Ok (record {
         names = codes "m" ∷ codes "r" ∷ [];
         lists = (Mkdir (at "/a") ∷ Mkdir (at "/a/d") ∷ Mkdir (at "/a/d/x") ∷ []) ∷ (Rename (at "/a") (at "/b") ∷ []) ∷ [];
         words = Events 0 18 ∷ Events 1 6 ∷ Events 0 3 ∷ [];
+        limits = V1;
       })
   pub waiting_victim : script "thread w\nmknod /f\nwrite /f 0 6869\nthread u\nunlink /f\nschedule\nw*9 u*3 finish\n"
       ≡ Ok (record {
         names = codes "w" ∷ codes "u" ∷ [];
         lists = (Mknod (at "/f") ∷ Write (at "/f") 0 (codes "hi") ∷ []) ∷ (Unlink (at "/f") ∷ []) ∷ [];
         words = Events 0 9 ∷ Events 1 3 ∷ Finish ∷ [];
+        limits = V1;
       })
   pub checkpoints : script "thread t\nmkdir /a\nschedule\n!checkpoint t*1000000 !checkpoint\n!checkpoint finish\n"
       ≡ Ok (record {
         names = codes "t" ∷ [];
         lists = (Mkdir (at "/a") ∷ []) ∷ [];
         words = Checkpoint ∷ Events 0 1000000 ∷ Checkpoint ∷ Checkpoint ∷ Finish ∷ [];
+        limits = V1;
       })
   pub empty_block : script "thread a_1\nthread b\nrmdir /%2Fx\nstat /%\nreaddir /\nread //f 0 18446744073709551615\nwrite /f 1 -\ntruncate /f 7\nschedule\nb a_1"
       ≡ Ok (record {
         names = codes "a_1" ∷ codes "b" ∷ [];
         lists = [] ∷ (Rmdir (at "/x") ∷ Stat (at "/%") ∷ Readdir [] ∷ Read (at "/f") 0 (2 ^ 64 - 1) ∷ Write (at "/f") 1 [] ∷ Truncate (at "/f") 7 ∷ []) ∷ [];
         words = Events 1 1 ∷ Events 0 1 ∷ [];
+        limits = V1;
       })
 
 -- a tree with a file in a directory, and a name that is escaped
 abbrev pub small_tree : Tree
-small_tree = play root_tree (Mkdir (at "/a") ∷ Mknod (at "/a/f") ∷ Write (at "/a/f") 0 (codes "hi") ∷ Mkdir (at "/b c") ∷ [])
+small_tree = play (root_start V1) (Mkdir (at "/a") ∷ Mknod (at "/a/f") ∷ Write (at "/a/f") 0 (codes "hi") ∷ Mkdir (at "/b c") ∷ [])
+
+-- the same by the first limits
+abbrev pub small_start : Start
+small_start = record { limits = V1; tree = small_tree }
 
 pub record JournalTexts : Type 0 where
-  pub from_the_root : journal_text root_tree (Begin 1 0 (Mkdir (at "/a")) ∷ Commit 1 ∷ Return 1 Done ∷ []) ≡ codes "atomfs-journal 1\nbegin 1 0 mkdir /a\ncommit 1\nreturn 1 ok\n"
-  pub nothing : journal_text root_tree [] ≡ codes "atomfs-journal 1\n"
-  pub from_a_directory : journal_text (play root_tree (Mkdir (at "/a") ∷ [])) (Begin 1 0 (Mkdir (at "/a/b")) ∷ Commit 1 ∷ Return 1 Done ∷ [])
+  pub from_the_root : journal_text (root_start V1) (Begin 1 0 (Mkdir (at "/a")) ∷ Commit 1 ∷ Return 1 Done ∷ []) ≡ codes "atomfs-journal 1\nbegin 1 0 mkdir /a\ncommit 1\nreturn 1 ok\n"
+  pub nothing : journal_text (root_start V1) [] ≡ codes "atomfs-journal 1\n"
+  pub from_a_directory : journal_text (record { limits = V1; tree = play (root_start V1) (Mkdir (at "/a") ∷ []) }) (Begin 1 0 (Mkdir (at "/a/b")) ∷ Commit 1 ∷ Return 1 Done ∷ [])
       ≡ codes "atomfs-journal 2\nstart\ndir /\ndir /a\nentries\nbegin 1 0 mkdir /a/b\ncommit 1\nreturn 1 ok\n"
-  pub from_a_file : journal_text small_tree [] ≡ codes "atomfs-journal 2\nstart\ndir /\ndir /a\nfile /a/f 6869\ndir /b%20c\nentries\n"
+  pub by_the_second : journal_text (root_start V2) (Begin 1 0 (Mkdir (at "/a")) ∷ Commit 1 ∷ Return 1 Done ∷ []) ≡ codes "atomfs-journal 3\nstart\ndir /\nentries\nbegin 1 0 mkdir /a\ncommit 1\nreturn 1 ok\n"
+  pub from_a_file : journal_text small_start [] ≡ codes "atomfs-journal 2\nstart\ndir /\ndir /a\nfile /a/f 6869\ndir /b%20c\nentries\n"
 
 -- the lines behind the header of a journal that tells its start tree, read; and the fault of a line of that
 abbrev pub started : String → Told
@@ -128,19 +142,22 @@ pub record StartFaults : Type 0 where
   pub tree_line : WrongAt 4 "start\ndir /\ntree\nentries\n"
   pub counted : WrongAt 7 "start\n# x\n\ndir /\n\ndir a\nentries\n"
   pub second_entries : started "start\ndir /\nentries\nentries\n" ≡ Err (fault_at 5 BadLine)
-  pub other_version : journal_of (codes "atomfs-journal 3\n") ≡ Err (fault_at 1 BadHeader)
+  pub third_alone : journal_of (codes "atomfs-journal 3\n") ≡ Err (fault_at 2 BadStart)
+  pub third_without_start : journal_of (codes "atomfs-journal 3\ncommit 1\n") ≡ Err (fault_at 2 BadStart)
+  pub other_version : journal_of (codes "atomfs-journal 4\n") ≡ Err (fault_at 1 BadHeader)
   pub first_version_alone : entries_of (codes "atomfs-journal 2\nstart\ndir /\nentries\n") ≡ Err (fault_at 1 BadHeader)
 
 pub record JournalsRead : Type 0 where
-  pub root_alone : started "start\ndir /\nentries" ≡ Ok (root_tree, [])
-  pub first_version : journal_of (codes "atomfs-journal 1\ncommit 1\n") ≡ Ok (root_tree, Commit 1 ∷ [])
-  pub small : started "\nstart\n# a\ndir /\ndir /a\n\nfile /a/f 6869\ndir /b%20c\nentries\n\ncommit 1\ntree\nno  entry" ≡ Ok (small_tree, Commit 1 ∷ [])
+  pub root_alone : started "start\ndir /\nentries" ≡ Ok (root_start V1, [])
+  pub first_version : journal_of (codes "atomfs-journal 1\ncommit 1\n") ≡ Ok (root_start V1, Commit 1 ∷ [])
+  pub third_version : journal_of (codes "atomfs-journal 3\nstart\ndir /\nentries\ncommit 1\n") ≡ Ok (root_start V2, Commit 1 ∷ [])
+  pub small : started "\nstart\n# a\ndir /\ndir /a\n\nfile /a/f 6869\ndir /b%20c\nentries\n\ncommit 1\ntree\nno  entry" ≡ Ok (small_start, Commit 1 ∷ [])
 
 pub record TreeTexts : Type 0 where
-  pub root : tree_text (play root_tree []) ≡ codes "tree\ndir /\n"
-  pub helped_mkdir : tree_text (play root_tree (Mkdir (at "/a") ∷ Mkdir (at "/a/d") ∷ Mkdir (at "/a/d/x") ∷ Rename (at "/a") (at "/b") ∷ []))
+  pub root : tree_text (play (root_start V1) []) ≡ codes "tree\ndir /\n"
+  pub helped_mkdir : tree_text (play (root_start V1) (Mkdir (at "/a") ∷ Mkdir (at "/a/d") ∷ Mkdir (at "/a/d/x") ∷ Rename (at "/a") (at "/b") ∷ []))
       ≡ codes "tree\ndir /\ndir /b\ndir /b/d\ndir /b/d/x\n"
-  pub helped_rename : tree_text (play root_tree (Mkdir (at "/a") ∷ Mkdir (at "/a/p") ∷ Mkdir (at "/a/q") ∷ Mknod (at "/a/p/s") ∷ Rename (at "/a/p/s") (at "/a/q/t") ∷ Rename (at "/a") (at "/b") ∷ []))
+  pub helped_rename : tree_text (play (root_start V1) (Mkdir (at "/a") ∷ Mkdir (at "/a/p") ∷ Mkdir (at "/a/q") ∷ Mknod (at "/a/p/s") ∷ Rename (at "/a/p/s") (at "/a/q/t") ∷ Rename (at "/a") (at "/b") ∷ []))
       ≡ codes "tree\ndir /\ndir /b\ndir /b/p\ndir /b/q\nfile /b/q/t -\n"
-  pub renames_in_sequence : tree_text (play root_tree (Mkdir (at "/e") ∷ Mknod (at "/e/b") ∷ Mkdir (at "/e/d") ∷ Mknod (at "/f") ∷ Write (at "/e/b") 0 (codes "hi") ∷ []))
+  pub renames_in_sequence : tree_text (play (root_start V1) (Mkdir (at "/e") ∷ Mknod (at "/e/b") ∷ Mkdir (at "/e/d") ∷ Mknod (at "/f") ∷ Write (at "/e/b") 0 (codes "hi") ∷ []))
       ≡ codes "tree\ndir /\ndir /e\nfile /e/b 6869\ndir /e/d\nfile /f -\n"

@@ -1,12 +1,16 @@
--- Journals that start at a tree: how one is written, and what reading one gives.
-use Rattle.std.specs.Prelude.{ℕ, ◌+◌, ◌==◌, List, [], ◌∷◌, ◌++◌, length, Result, Ok, Err, if◌then◌else◌, codes}
+-- Journals that start at a tree, by either set of limits: how one is written, and what reading one gives.
+use Rattle.std.specs.Prelude.{ℕ, ◌+◌, Bool, true, not, ◌==◌, List, [], ◌∷◌, ◌++◌, length, Result, Ok, Err, if◌then◌else◌, codes}
 use Rattle.std.specs.List.{flat_map, join_with_byte, slice_split}
 use Rattle.std.specs.Str.{bytes_eq}
 use Rattle.fs_names.specs.Keys.{Key}
+use Rattle.fs_names.specs.Limits.{name_limit, file_limit}
+use Rattle.fs_names.specs.declared.limits.Limits.{Limits}
+use Rattle.fs_names.specs.declared.limits.Limits.TheVariants.{V1, V2}
 use Rattle.fs_names.specs.Reading.{is_slash}
 use Rattle.fs_names.specs.declared.kind.Kind.{Kind}
 use Rattle.fs_names.specs.declared.kind.Kind.TheVariants.{Dir, File}
 use Rattle.fs_calls.specs.Tree.{Tree, root_tree}
+use Rattle.fs_calls.specs.Starts.{Start, root_start}
 use Rattle.fs_timeline.specs.declared.entry.Entry.{Entry}
 use Rattle.fs_seq.specs.Rows.{node_of_kind, fits_at}
 use Rattle.fs_words.specs.Lines.{lines_of, is_passed_over}
@@ -20,64 +24,71 @@ use Rattle.fs_script.specs.TreeText.{node_words, node_line}
 
 -- ---- written
 
--- the first line of a journal that tells its start tree
-abbrev pub started_header : List ℕ
-started_header = codes "atomfs-journal 2"
+-- the first line of a journal that tells its start tree, by the limits that it announces
+abbrev pub started_header : Limits → List ℕ
+started_header V1 = codes "atomfs-journal 2"
+started_header V2 = codes "atomfs-journal 3"
 
--- what stands before the entries: the start tree is told where it is more than the root alone
-unfoldable pub opening : Tree → List ℕ
+-- whether a start tree of so many nodes is told: by the first limits where it is more than the root alone, by the second always
+abbrev pub is_told : Limits → ℕ → Bool
+is_told V1 nodes = not (nodes == 1)
+is_told V2 nodes = true
+
+-- what stands before the entries
+unfoldable pub opening : Start → List ℕ
 opening start =
-    if length start == 1 then journal_header ++ codes "\n"
-    else started_header ++ codes "\nstart\n" ++ flat_map node_line start ++ codes "entries\n"
+    if is_told start.limits (length start.tree)
+    then started_header start.limits ++ codes "\nstart\n" ++ flat_map node_line start.tree ++ codes "entries\n"
+    else journal_header ++ codes "\n"
 
--- the journal of entries from a start tree
-abbrev pub journal_text : Tree → List Entry → List ℕ
+-- the journal of entries from a start
+abbrev pub journal_text : Start → List Entry → List ℕ
 journal_text start es = opening start ++ flat_map entry_line es
 
 -- ---- read
 
--- the key that a word spells, as a path of any number of names: what stands behind each slash
-abbrev pub key_at : Word → Result Key FaultKind
-key_at word = if bytes_eq word (codes "/") then Ok [] else names_at (behind_first (slice_split is_slash word))
+-- the key that a word spells, as a path of any number of names with so many bytes at most: what stands behind each slash
+abbrev pub key_at : ℕ → Word → Result Key FaultKind
+key_at most word = if bytes_eq word (codes "/") then Ok [] else names_at most (behind_first (slice_split is_slash word))
 
 -- the key, the kind and the bytes of a file, by two words
-abbrev pub file_at : Word → Word → Result (Key × Kind × List ℕ) FaultKind
-file_at path hex = key_at path >>= λ key. hex_at hex >>= λ bytes. Ok (key, File, bytes)
+abbrev pub file_at : ℕ → Word → Word → Result (Key × Kind × List ℕ) FaultKind
+file_at most path hex = key_at most path >>= λ key. hex_at hex >>= λ bytes. Ok (key, File, bytes)
 
 -- those of a node that words could tell: a directory by two, a file by three
-abbrev pub node_at : List Word → Result (Key × Kind × List ℕ) FaultKind
-node_at (k ∷ path ∷ []) = key_at path >>= λ key. Ok (key, Dir, [])
-node_at (k ∷ path ∷ hex ∷ []) = file_at path hex
-node_at _ = Err kind.BadStart
+abbrev pub node_at : ℕ → List Word → Result (Key × Kind × List ℕ) FaultKind
+node_at most (k ∷ path ∷ []) = key_at most path >>= λ key. Ok (key, Dir, [])
+node_at most (k ∷ path ∷ hex ∷ []) = file_at most path hex
+node_at most _ = Err kind.BadStart
 
 -- the node that a line tells: the line has to be the very one that is written of it
-abbrev pub node_in_line : List ℕ → Result (Key × Kind × List ℕ) FaultKind
-node_in_line line = words_of line >>= node_at >>= λ n. if bytes_eq line (join_with_byte 32 (node_words n.0 (node_of_kind n.1 n.2))) then Ok n else Err kind.BadStart
+abbrev pub node_in_line : ℕ → List ℕ → Result (Key × Kind × List ℕ) FaultKind
+node_in_line most line = words_of line >>= node_at most >>= λ n. if bytes_eq line (join_with_byte 32 (node_words n.0 (node_of_kind n.1 n.2))) then Ok n else Err kind.BadStart
 
--- the tree with one node more, where it fits
-abbrev pub grown : Tree → Key × Kind × List ℕ → Result Tree FaultKind
-grown t n = if fits_at t n.0 n.1 n.2 then Ok (t ++ (n.0, node_of_kind n.1 n.2) ∷ []) else Err kind.BadStart
+-- the tree with one node more, where it fits by these limits
+abbrev pub grown : Limits → Tree → Key × Kind × List ℕ → Result Tree FaultKind
+grown limits t n = if fits_at (file_limit limits) t n.0 n.1 n.2 then Ok (t ++ (n.0, node_of_kind n.1 n.2) ∷ []) else Err kind.BadStart
 
 -- whatever is wrong with a line of a start tree, the fault is the same
 abbrev pub in_start : {X : Type 0} → ℕ → Result X FaultKind → Result X ScriptFault
 in_start n (Ok x) = Ok x
 in_start n (Err k) = Err (fault_at n kind.BadStart)
 
--- a start tree and entries
+-- a start and entries
 abbrev pub Read : Type 0
-Read = Result (Tree × List Entry) ScriptFault
+Read = Result (Start × List Entry) ScriptFault
 
--- what is read of entries, with the tree at which they start
-abbrev pub with_start : Tree → Result (List Entry) ScriptFault → Read
-with_start t entries = entries >>= λ es. Ok (t, es)
+-- what is read of entries, with the start at which they begin
+abbrev pub with_start : Start → Result (List Entry) ScriptFault → Read
+with_start start entries = entries >>= λ es. Ok (start, es)
 
--- what the lines from this number on tell, where those before them made a tree: nodes, and behind the line `entries` entries
-unfoldable pub started_from : Tree → ℕ → List (List ℕ) → Read
-started_from t n [] = Err (fault_at n kind.BadStart)
-started_from t n (line ∷ more) =
-    if is_passed_over line then started_from t (n + 1) more
-    else (if bytes_eq line (codes "entries") then with_start t (entries_from (n + 1) more)
-    else (in_start n (node_in_line line >>= grown t) >>= λ u. started_from u (n + 1) more))
+-- what the lines from this number on tell by these limits, where those before them made a tree: nodes, and behind the line `entries` entries
+unfoldable pub started_from : Limits → Tree → ℕ → List (List ℕ) → Read
+started_from limits t n [] = Err (fault_at n kind.BadStart)
+started_from limits t n (line ∷ more) =
+    if is_passed_over line then started_from limits t (n + 1) more
+    else (if bytes_eq line (codes "entries") then with_start (record { limits = limits; tree = t }) (entries_from (name_limit limits) (n + 1) more)
+    else (in_start n (node_in_line (name_limit limits) line >>= grown limits t) >>= λ u. started_from limits u (n + 1) more))
 
 -- what the lines tell behind the first that is not passed over, which has to be this one
 unfoldable pub behind_line : List ℕ → (ℕ → List (List ℕ) → Read) → ℕ → List (List ℕ) → Read
@@ -86,9 +97,13 @@ behind_line wanted read n (line ∷ more) =
     if is_passed_over line then behind_line wanted read (n + 1) more
     else (if bytes_eq line wanted then read (n + 1) more else Err (fault_at n kind.BadStart))
 
--- what reading a journal text gives, of the first version or the second: its start tree, and its entries
+-- what a text tells behind the header that announces a start tree and these limits; behind another header it tells something else
+abbrev pub started_or : Limits → List ℕ → Read → Read
+started_or limits text other =
+    if first_is (started_header limits) (lines_of text)
+    then (behind_header (started_header limits) text >>= behind_line (codes "start") (behind_line (codes "dir /") (started_from limits root_tree)) 2)
+    else other
+
+-- what reading a journal text gives, of any version: its start, and its entries
 unfoldable pub journal_of : List ℕ → Read
-journal_of text =
-    if first_is started_header (lines_of text)
-    then (behind_header started_header text >>= behind_line (codes "start") (behind_line (codes "dir /") (started_from root_tree)) 2)
-    else with_start root_tree (entries_of text)
+journal_of text = started_or V2 text (started_or V1 text (with_start (root_start V1) (entries_of text)))

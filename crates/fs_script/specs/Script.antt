@@ -2,10 +2,13 @@
 use Rattle.std.specs.Prelude.{ℕ, ◌+◌, Bool, true, false, not, ◌&&◌, ◌||◌, ◌==◌, nat_lt, nat_le, List, [], ◌∷◌, ◌++◌, length, take, drop, Result, Ok, Err, Option, Some, None, if◌then◌else◌, codes, position}
 use Rattle.std.specs.List.{list_all, list_any}
 use Rattle.std.specs.Str.{bytes_eq}
+use Rattle.fs_names.specs.Limits.{name_limit}
+use Rattle.fs_names.specs.declared.limits.Limits.{Limits}
+use Rattle.fs_names.specs.declared.limits.Limits.TheVariants.{V1, V2}
 use Rattle.fs_calls.specs.declared.call.Call.{Call}
-use Rattle.fs_words.specs.Lines.{is_passed_over}
+use Rattle.fs_words.specs.Lines.{lines_of, is_passed_over}
 use Rattle.fs_words.specs.Words.{Word, number_of}
-use Rattle.fs_words.specs.Reading.{◌>>=◌, words_of, fault_at, at_line, behind_header}
+use Rattle.fs_words.specs.Reading.{◌>>=◌, words_of, fault_at, at_line, first_is, behind_header}
 use Rattle.fs_text.specs.Calls.{call_of}
 use Rattle.fs_script.specs.declared.limits.TheConstants.{THREAD_LIMIT, CALL_LIMIT, EVENT_LIMIT, THREAD_NAME_LIMIT}
 use Rattle.fs_words.specs.declared.fault.ScriptFault.{ScriptFault}
@@ -68,9 +71,9 @@ with_call c (calls ∷ next ∷ more) = calls ∷ with_call c (next ∷ more)
 abbrev pub new_call : Script → Call → Result Script FaultKind
 new_call s c = if nat_le CALL_LIMIT (calls_in s.lists) then Err kind.TooLarge else Ok (record s { lists = with_call c s.lists })
 
--- no call stands before the first thread
+-- no call stands before the first thread; a call is read by the limits of the script
 abbrev pub call_line : Script → List Word → Result Script FaultKind
-call_line s words = if length s.lists == 0 then Err kind.BadLine else (call_of words >>= new_call s)
+call_line s words = if length s.lists == 0 then Err kind.BadLine else (call_of (name_limit s.limits) words >>= new_call s)
 
 -- a line of blocks: a thread, or a call of the last thread
 unfoldable pub block_line : Script → List Word → Result Script FaultKind
@@ -138,14 +141,19 @@ blocks_from n s (line ∷ more) =
     else (if bytes_eq line (codes "schedule") then schedule_from (n + 1) s more
     else (at_line n (words_of line >>= block_line s) >>= λ t. blocks_from (n + 1) t more))
 
--- the first line
-abbrev pub script_header : List ℕ
-script_header = codes "atomfs 1"
+-- the first line, by the limits that it announces
+abbrev pub script_header : Limits → List ℕ
+script_header V1 = codes "atomfs 1"
+script_header V2 = codes "atomfs 2"
 
--- the script before its lines are read
-abbrev pub nothing_yet : Script
-nothing_yet = record { names = []; lists = []; words = [] }
+-- the script before its lines are read, by these limits
+abbrev pub nothing_yet : Limits → Script
+nothing_yet limits = record { names = []; lists = []; words = []; limits = limits }
 
--- what reading a script text gives
+-- what reading a script text gives behind the header of these limits
+abbrev pub script_by : Limits → List ℕ → Result Script ScriptFault
+script_by limits text = behind_header (script_header limits) text >>= blocks_from 2 (nothing_yet limits)
+
+-- what reading a script text gives: its header announces the limits
 unfoldable pub script_of : List ℕ → Result Script ScriptFault
-script_of text = behind_header script_header text >>= blocks_from 2 nothing_yet
+script_of text = if first_is (script_header V2) (lines_of text) then script_by V2 text else script_by V1 text

@@ -11,6 +11,7 @@ ghost use Rattle.fs_words.specs.code.Answers.{Becomes};
 use crate::limits::{CALL_LIMIT, EVENT_LIMIT, THREAD_LIMIT, THREAD_NAME_LIMIT};
 use crate::script::{CallLists, Script, ThreadNames, Word, WordList};
 use fs_calls::Call;
+use fs_names::Limits;
 use fs_text::calls::call_with;
 use fs_words::FaultKind;
 use fs_words::lines::cut_words;
@@ -70,14 +71,15 @@ fn star_in(word: &[u8]) -> Option<usize>
 }
 
 impl Draft {
-    pub(crate) fn new(alloc: Global) -> Draft
-        ensures { result.script ≡ nothing_yet }
+    pub(crate) fn new(alloc: Global, limits: Limits) -> Draft
+        ensures { result.script ≡ nothing_yet limits }
     {
         Draft {
             script: Script {
                 names: ThreadNames::new(alloc),
                 lists: CallLists::new(alloc),
                 words: WordList::new(alloc),
+                limits,
             },
             calls: 0,
             given: 0,
@@ -141,7 +143,7 @@ impl Draft {
         if self.script.lists.is_empty() {
             return Err(FaultKind::BadLine);
         }
-        match call_with(alloc, recent, words) {
+        match call_with(alloc, recent, self.script.limits, words) {
             Ok(call) => self.push_call(call),
             Err(kind) => Err(kind),
         }

@@ -4,17 +4,20 @@ ghost use Rattle.std.specs.Prelude.{◌≡◌, ◌∷◌, ◌++◌, ◌==◌, �
 ghost use Rattle.std.specs.List.{slice_split, join_with_byte};
 ghost use Rattle.std.specs.Str.{bytes_eq};
 ghost use Rattle.fs_names.specs.Reading.{is_slash};
+ghost use Rattle.fs_names.specs.Limits.{name_limit};
 ghost use Rattle.fs_seq.specs.Rows.{key_of, node_of_kind, row_of, is_first};
+ghost use Rattle.fs_names.specs.declared.limits.Limits.TheVariants.{V1};
 ghost use Rattle.fs_calls.specs.Tree.{root_tree};
+ghost use Rattle.fs_calls.specs.Starts.{root_start};
 ghost use Rattle.fs_words.specs.Reading.{behind_first};
 ghost use Rattle.fs_words.specs.code.Answers.{Gives, GivesText};
 ghost use Rattle.fs_text.specs.Journal.{names_at, entries_of};
 ghost use Rattle.fs_script.specs.TreeText.{node_words};
-ghost use Rattle.fs_script.specs.Journals.{key_at, file_at, node_at, node_in_line, with_start, started_from, behind_line, journal_of};
+ghost use Rattle.fs_script.specs.Journals.{key_at, file_at, node_at, node_in_line, with_start, started_from, behind_line, started_or, journal_of};
 ghost use Rattle.fs_script.specs.code.Starts.{node_of_row, IsToldBy, Expects, AreTaken, read_end, IsRootAlone, AreNumbered, MakesTree, journal_seen};
 
 use crate::node_line::push_row;
-use fs_names::{Kind, Name};
+use fs_names::{Kind, Limits, Name};
 use fs_seq::{NotTree, Row, SeqTree};
 use fs_text::{entries_in, names_at, read_entries};
 use fs_timeline::Entry;
@@ -23,7 +26,7 @@ use fs_words::words::{hex_at, is_word};
 use fs_words::{Addition, FaultKind, Lines, ScriptFault};
 use std::alloc::{AllocError, Global};
 
-/// A journal: the tree at which it starts, and its entries.
+/// A journal: the tree at which it starts, by whose limits it was read, and its entries.
 #[derive(Drop)]
 pub struct Journal {
     pub start: SeqTree,
@@ -38,24 +41,24 @@ fn pieces(alloc: Global, path: &[u8]) -> Result<Vec<&[u8]>, AllocError>
 }
 
 /// The names behind the first piece.
-fn names_behind(alloc: Global, pieces: &[&[u8]]) -> Result<Vec<Name>, FaultKind>
-    ensures { Gives (λ names. names.items) result (names_at (behind_first (map (λ p. p.now) pieces.now))) }
+fn names_behind(alloc: Global, limits: Limits, pieces: &[&[u8]]) -> Result<Vec<Name>, FaultKind>
+    ensures { Gives (λ names. names.items) result (names_at (name_limit limits) (behind_first (map (λ p. p.now) pieces.now))) }
 {
     match pieces {
         [] => Ok(Vec::new(alloc)),
-        [_, names @ ..] => names_at(alloc, names),
+        [_, names @ ..] => names_at(alloc, limits, names),
     }
 }
 
 /// The key that a word spells, as a path of any number of names.
-fn key_at(alloc: Global, word: &[u8]) -> Result<Vec<Name>, FaultKind>
-    ensures { Gives (λ key. key.items) result (key_at word.now) }
+fn key_at(alloc: Global, limits: Limits, word: &[u8]) -> Result<Vec<Name>, FaultKind>
+    ensures { Gives (λ key. key.items) result (key_at (name_limit limits) word.now) }
 {
     if is_word(word, b"/") {
         return Ok(Vec::new(alloc));
     }
     match pieces(alloc, word) {
-        Ok(pieces) => names_behind(alloc, pieces.as_slice()),
+        Ok(pieces) => names_behind(alloc, limits, pieces.as_slice()),
         Err(_) => Err(FaultKind::OutOfMemory),
     }
 }
@@ -73,10 +76,10 @@ fn dir_row(alloc: Global, key: Vec<Name>) -> Row
 
 /// The row of a file, by two words.
 #[tactic(auto, using(fs_words::proofs::ReadLemmas::fails_bind))]
-fn file_at(alloc: Global, path: &[u8], bytes: &[u8]) -> Result<Row, FaultKind>
-    ensures { Gives node_of_row result (file_at path.now bytes.now) }
+fn file_at(alloc: Global, limits: Limits, path: &[u8], bytes: &[u8]) -> Result<Row, FaultKind>
+    ensures { Gives node_of_row result (file_at (name_limit limits) path.now bytes.now) }
 {
-    let key = match key_at(alloc, path) {
+    let key = match key_at(alloc, limits, path) {
         Ok(key) => key,
         Err(kind) => return Err(kind),
     };
@@ -92,17 +95,17 @@ fn file_at(alloc: Global, path: &[u8], bytes: &[u8]) -> Result<Row, FaultKind>
 
 /// The row that words could tell.
 #[tactic(auto, using(fs_words::proofs::ReadLemmas::fails_bind))]
-fn row_at(alloc: Global, words: &[&[u8]]) -> Result<Row, FaultKind>
-    ensures { Gives node_of_row result (node_at (map (λ w. w.now) words.now)) }
+fn row_at(alloc: Global, limits: Limits, words: &[&[u8]]) -> Result<Row, FaultKind>
+    ensures { Gives node_of_row result (node_at (name_limit limits) (map (λ w. w.now) words.now)) }
 {
     match words {
         [_, path] => {
-            match key_at(alloc, path) {
+            match key_at(alloc, limits, path) {
                 Ok(key) => Ok(dir_row(alloc, key)),
                 Err(kind) => Err(kind),
             }
         }
-        [_, path, bytes] => file_at(alloc, path, bytes),
+        [_, path, bytes] => file_at(alloc, limits, path, bytes),
         _ => Err(FaultKind::BadStart),
     }
 }
@@ -118,13 +121,18 @@ fn is_line_of(alloc: Global, line: &[u8], row: &Row) -> Result<bool, AllocError>
 }
 
 /// The row that a line tells. `words` lends its memory.
-fn row_in<'a>(alloc: Global, line: &'a [u8], words: &mut Vec<&'a [u8]>) -> Result<Row, FaultKind>
-    ensures { Gives node_of_row result (node_in_line line.now) }
+fn row_in<'a>(
+    alloc: Global,
+    limits: Limits,
+    line: &'a [u8],
+    words: &mut Vec<&'a [u8]>,
+) -> Result<Row, FaultKind>
+    ensures { Gives node_of_row result (node_in_line (name_limit limits) line.now) }
 {
     if let Err(kind) = cut_words(line, words) {
         return Err(kind);
     }
-    let row = match row_at(alloc, words.as_slice()) {
+    let row = match row_at(alloc, limits, words.as_slice()) {
         Ok(row) => row,
         Err(kind) => return Err(kind),
     };
@@ -138,12 +146,13 @@ fn row_in<'a>(alloc: Global, line: &'a [u8], words: &mut Vec<&'a [u8]>) -> Resul
 /// The row that a line tells, where it tells one. `words` lends its memory.
 fn told<'a>(
     alloc: Global,
+    limits: Limits,
     line: &'a [u8],
     words: &mut Vec<&'a [u8]>,
 ) -> Result<Option<Row>, AllocError>
-    ensures { IfOk result (λ row. IsToldBy row (node_in_line line.now)) }
+    ensures { IfOk result (λ row. IsToldBy row (node_in_line (name_limit limits) line.now)) }
 {
-    match row_in(alloc, line, words) {
+    match row_in(alloc, limits, line, words) {
         Ok(row) => Ok(Some(row)),
         Err(FaultKind::OutOfMemory) => Err(AllocError),
         Err(_) => Ok(None),
@@ -162,19 +171,20 @@ pub(crate) enum End {
 /// Takes rows from lines, each with the number of its line, and answers where they end.
 fn take_rows(
     alloc: Global,
+    limits: Limits,
     lines: &mut Lines<'_>,
     rows: &mut Vec<Row>,
     numbers: &mut Vec<u64>,
 ) -> Result<End, AllocError>
     requires { numbers.old.items ≡ [] }
-    ensures { IfOk result (λ end. AreTaken lines.old rows.old.items rows.new.items numbers.new.items (read_end end lines.new)) }
+    ensures { IfOk result (λ end. AreTaken limits lines.old rows.old.items rows.new.items numbers.new.items (read_end end lines.new)) }
 {
     let mut words = Vec::new(alloc);
     'lines: while let Some(line) = lines.next() {
         if is_word(line.text, b"entries") {
             return Ok(End::Entries);
         }
-        let Some(row) = told(alloc, line.text, &mut words)? else {
+        let Some(row) = told(alloc, limits, line.text, &mut words)? else {
             return Ok(End::Wrong(line.number));
         };
         numbers.push(line.number)?;
@@ -238,14 +248,15 @@ fn wrong_row(numbers: &[u64], place: usize) -> ScriptFault
 /// The tree of rows, where the first is the root's and each of the others has the number of its line.
 fn tree_of(
     alloc: Global,
+    limits: Limits,
     rows: &[Row],
     numbers: &[u64],
     lines: &Lines<'_>,
 ) -> Result<SeqTree, ScriptFault>
     requires { AreNumbered rows.now numbers.now }
-    ensures { MakesTree rows.now numbers.now result }
+    ensures { MakesTree limits rows.now numbers.now result }
 {
-    match SeqTree::from_rows(alloc, rows) {
+    match SeqTree::from_rows(alloc, rows, limits) {
         Ok(tree) => Ok(tree),
         Err(NotTree::Bad(place)) => Err(wrong_row(numbers, place)),
         Err(NotTree::OutOfMemory) => Err(out_of_memory(lines)),
@@ -263,7 +274,7 @@ fn with_entries(
 {
     match end {
         End::Entries => {
-            let entries = entries_in(alloc, lines)?;
+            let entries = entries_in(alloc, start.limits(), lines)?;
             Ok(Journal { start, entries })
         }
         End::Wrong(line) => Err(bad_start(line)),
@@ -271,26 +282,26 @@ fn with_entries(
 }
 
 /// The journal of the lines behind the one of the root.
-fn behind_root(alloc: Global, lines: Lines<'_>) -> Result<Journal, ScriptFault>
-    ensures { GivesText journal_seen result (started_from root_tree lines.entry.number lines.entry.lines) }
+fn behind_root(alloc: Global, limits: Limits, lines: Lines<'_>) -> Result<Journal, ScriptFault>
+    ensures { GivesText journal_seen result (started_from limits root_tree lines.entry.number lines.entry.lines) }
 {
     let mut left = lines;
     let mut numbers = Vec::new(alloc);
     let Ok(mut rows) = root_rows(alloc) else {
         return Err(out_of_memory(&left));
     };
-    let Ok(end) = take_rows(alloc, &mut left, &mut rows, &mut numbers) else {
+    let Ok(end) = take_rows(alloc, limits, &mut left, &mut rows, &mut numbers) else {
         return Err(out_of_memory(&left));
     };
-    match tree_of(alloc, &rows, &numbers, &left) {
+    match tree_of(alloc, limits, &rows, &numbers, &left) {
         Ok(start) => with_entries(alloc, start, end, left),
         Err(fault) => Err(fault),
     }
 }
 
 /// The journal of the lines behind a header that announces a start tree.
-fn started(alloc: Global, lines: Lines<'_>) -> Result<Journal, ScriptFault>
-    ensures { GivesText journal_seen result (behind_line (codes "start") (behind_line (codes "dir /") (started_from root_tree)) lines.entry.number lines.entry.lines) }
+fn started(alloc: Global, limits: Limits, lines: Lines<'_>) -> Result<Journal, ScriptFault>
+    ensures { GivesText journal_seen result (behind_line (codes "start") (behind_line (codes "dir /") (started_from limits root_tree)) lines.entry.number lines.entry.lines) }
 {
     let mut left = lines;
     if let Err(fault) = expect(&mut left, b"start") {
@@ -299,18 +310,18 @@ fn started(alloc: Global, lines: Lines<'_>) -> Result<Journal, ScriptFault>
     if let Err(fault) = expect(&mut left, b"dir /") {
         return Err(fault);
     }
-    behind_root(alloc, left)
+    behind_root(alloc, limits, left)
 }
 
 /// The journal of a text of the first version, which starts at the root alone.
 fn from_root(alloc: Global, text: &[u8]) -> Result<Journal, ScriptFault>
-    ensures { GivesText journal_seen result (with_start root_tree (entries_of text.now)) }
+    ensures { GivesText journal_seen result (with_start (root_start V1) (entries_of text.now)) }
 {
     let entries = match read_entries(alloc, text) {
         Ok(entries) => entries,
         Err(fault) => return Err(fault),
     };
-    match SeqTree::new(alloc) {
+    match SeqTree::with_limits(alloc, Limits::V1) {
         Ok(start) => Ok(Journal { start, entries }),
         Err(_) => Err(ScriptFault {
             line: 1,
@@ -319,12 +330,22 @@ fn from_root(alloc: Global, text: &[u8]) -> Result<Journal, ScriptFault>
     }
 }
 
-/// Reads a journal, with or without a start tree. The fault is the first from the left, with its line.
+/// The journal of a text of the first version or the second, which have the first set of limits.
+fn by_first_limits(alloc: Global, text: &[u8]) -> Result<Journal, ScriptFault>
+    ensures { GivesText journal_seen result (started_or V1 text.now (with_start (root_start V1) (entries_of text.now))) }
+{
+    match Lines::behind_header(text, b"atomfs-journal 2") {
+        Ok(lines) => started(alloc, Limits::V1, lines),
+        Err(_) => from_root(alloc, text),
+    }
+}
+
+/// Reads a journal of any version, with its start tree. The fault is the first from the left, with its line.
 pub fn read_journal(alloc: Global, text: &[u8]) -> Result<Journal, ScriptFault>
     ensures { GivesText journal_seen result (journal_of text.now) }
 {
-    match Lines::behind_header(text, b"atomfs-journal 2") {
-        Ok(lines) => started(alloc, lines),
-        Err(_) => from_root(alloc, text),
+    match Lines::behind_header(text, b"atomfs-journal 3") {
+        Ok(lines) => started(alloc, Limits::V2, lines),
+        Err(_) => by_first_limits(alloc, text),
     }
 }

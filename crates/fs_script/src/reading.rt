@@ -2,11 +2,13 @@
 
 ghost use Rattle.std.specs.Prelude.{◌≡◌, codes, not, ◌&&◌};
 ghost use Rattle.std.specs.Str.{bytes_eq};
-ghost use Rattle.fs_script.specs.Script.{nothing_yet, blocks_from, script_of};
+ghost use Rattle.fs_script.specs.Script.{nothing_yet, blocks_from, script_by, script_of};
+ghost use Rattle.fs_names.specs.declared.limits.Limits.TheVariants.{V1};
 ghost use Rattle.fs_words.specs.code.Answers.{GivesText};
 
 use crate::draft::Draft;
 use crate::script::Script;
+use fs_names::Limits;
 use fs_words::recent::Recent;
 use fs_words::{FaultKind, Lines, ScriptFault};
 use std::alloc::Global;
@@ -18,11 +20,11 @@ fn begins_schedule(in_schedule: bool, line: &[u8]) -> bool
     !in_schedule && line == b"schedule".as_slice()
 }
 
-/// The script that lines make.
-fn script_in(alloc: Global, lines: Lines<'_>) -> Result<Script, ScriptFault>
-    ensures { GivesText (λ script. script) result (blocks_from lines.entry.number nothing_yet lines.entry.lines) }
+/// The script that lines make by these limits.
+fn script_in(alloc: Global, limits: Limits, lines: Lines<'_>) -> Result<Script, ScriptFault>
+    ensures { GivesText (λ script. script) result (blocks_from lines.entry.number (nothing_yet limits) lines.entry.lines) }
 {
-    let mut draft = Draft::new(alloc);
+    let mut draft = Draft::new(alloc, limits);
     let mut words = Vec::new(alloc);
     let mut recent = Recent::new(alloc);
     let mut left = lines;
@@ -48,10 +50,19 @@ fn script_in(alloc: Global, lines: Lines<'_>) -> Result<Script, ScriptFault>
     Ok(draft.script)
 }
 
-/// Reads a script. The fault is the first from the left, with its line.
-#[tactic(auto, unfolding(crate::specs::Script::script_of))]
+/// The script of a text of the first version.
+fn by_first_limits(alloc: Global, text: &[u8]) -> Result<Script, ScriptFault>
+    ensures { GivesText (λ script. script) result (script_by V1 text.now) }
+{
+    script_in(alloc, Limits::V1, Lines::behind_header(text, b"atomfs 1")?)
+}
+
+/// Reads a script of either version. The fault is the first from the left, with its line.
 pub fn read_script(alloc: Global, text: &[u8]) -> Result<Script, ScriptFault>
     ensures { GivesText (λ script. script) result (script_of text.now) }
 {
-    script_in(alloc, Lines::behind_header(text, b"atomfs 1")?)
+    match Lines::behind_header(text, b"atomfs 2") {
+        Ok(lines) => script_in(alloc, Limits::V2, lines),
+        Err(_) => by_first_limits(alloc, text),
+    }
 }

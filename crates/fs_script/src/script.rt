@@ -8,18 +8,21 @@ ghost use Rattle.fs_script.specs.code.Drafts.{Pushes};
 ghost use Rattle.fs_words.specs.declared.fault.FaultKind.TheVariants as kind;
 
 use fs_calls::Call;
+use fs_names::Limits;
 use fs_words::FaultKind;
 use indexmap::IndexSet;
 use std::alloc::Global;
 use std::marker::Model;
 
-/// What a script says: the threads' names and their calls, both in the order of the blocks, and the words of its
-/// schedule. The seat of a thread is its place, counted from 0.
+/// What a script says: the threads' names and their calls, both in the order of the blocks, the words of its schedule, and
+/// the limits of its version. The seat of a thread is its place, counted from 0.
 #[derive(Drop)]
 pub struct Script {
     pub names: ThreadNames,
     pub lists: CallLists,
     pub words: WordList,
+    /// The limits by which it was read, and by which it is run.
+    pub limits: Limits,
 }
 
 /// A word of a schedule.

@@ -1,9 +1,12 @@
 -- The lines of a start tree while they are read.
 use Rattle.std.specs.Prelude.{◌≡◌, ℕ, List, [], ◌∷◌, ◌++◌, length, Result, Ok, Err, Option, Some, None, MatchResult, if◌then◌else◌}
 use Rattle.fs_names.specs.Keys.{Key}
+use Rattle.fs_names.specs.Limits.{name_limit, file_limit}
+use Rattle.fs_names.specs.declared.limits.Limits.{Limits}
 use Rattle.fs_names.specs.declared.kind.Kind.{Kind}
 use Rattle.fs_names.specs.declared.kind.Kind.TheVariants.{Dir}
 use Rattle.fs_calls.specs.Tree.{Tree, root_tree}
+use Rattle.fs_calls.specs.Starts.{Start}
 use Rattle.fs_timeline.specs.declared.entry.Entry.{Entry}
 use Rattle.fs_seq.specs.declared.rows.Row.{Row}
 use Rattle.fs_seq.specs.Rows.{key_of, row_of, fits}
@@ -28,23 +31,27 @@ abbrev pub IsToldBy : Option Row → Result (Key × Kind × List ℕ) FaultKind 
 IsToldBy (Some row) told = told ≡ Ok (node_of_row row)
 IsToldBy None told = (k : FaultKind) × (told ≡ Err k)
 
+-- a start of these limits
+abbrev pub starting : Limits → Tree → Start
+starting limits t = record { limits = limits; tree = t }
+
 -- what is read behind lines of these numbers that told these rows: the first row that does not fit is the answer
-abbrev pub behind_rows : Tree → List ℕ → List Row → (Tree → Read) → Read
-behind_rows t ns [] rest = rest t
-behind_rows t [] (row ∷ rows) rest = rest t
-behind_rows t (n ∷ ns) (row ∷ rows) rest = if fits t row then behind_rows (t ++ row_of row ∷ []) ns rows rest else Err (fault_at n kind.BadStart)
+abbrev pub behind_rows : Limits → Tree → List ℕ → List Row → (Start → Read) → Read
+behind_rows limits t ns [] rest = rest (starting limits t)
+behind_rows limits t [] (row ∷ rows) rest = rest (starting limits t)
+behind_rows limits t (n ∷ ns) (row ∷ rows) rest = if fits (file_limit limits) t row then behind_rows limits (t ++ row_of row ∷ []) ns rows rest else Err (fault_at n kind.BadStart)
 
 -- what is read at the end of the rows, where they made a tree
-abbrev pub read_end : End → LinesLeft → Tree → Read
-read_end Entries left t = with_start t (entries_from left.number left.lines)
-read_end (Wrong n) left t = Err (fault_at n kind.BadStart)
+abbrev pub read_end : End → LinesLeft → Start → Read
+read_end Entries left start = with_start start (entries_from (name_limit start.limits) left.number left.lines)
+read_end (Wrong n) left start = Err (fault_at n kind.BadStart)
 
 -- rows were added, each with its number, and this is read behind them
-pub record AreTaken (old : LinesLeft) (before after : List Row) (numbers : List ℕ) (rest : Tree → Read) : Type 0 where
+pub record AreTaken (limits : Limits) (old : LinesLeft) (before after : List Row) (numbers : List ℕ) (rest : Start → Read) : Type 0 where
   pub more : List Row
   pub added : after ≡ before ++ more
   pub each : length numbers ≡ length more
-  pub read : (t : Tree) → started_from t old.number old.lines ≡ behind_rows t numbers more rest
+  pub read : (t : Tree) → started_from limits t old.number old.lines ≡ behind_rows limits t numbers more rest
 
 -- a line was taken that had to be this one
 abbrev pub Expects : List ℕ → LinesLeft → Result (Unit {0}) ScriptFault → LinesLeft → Type 0
@@ -64,11 +71,11 @@ abbrev pub AreNumbered : List Row → List ℕ → Type 0
 AreNumbered rows numbers = (root : Row) × (more : List Row) × IsRootRow root × (rows ≡ root ∷ more) × (length numbers ≡ length more)
 
 -- the rows make a tree, on which is read what stands behind them, or the fault is theirs
-abbrev pub MakesTree : List Row → List ℕ → Result Tree ScriptFault → Type 0
-MakesTree [] numbers result = Unit {0}
-MakesTree (root ∷ more) numbers result =
-    (rest : Tree → Read) → MatchResult result (λ tree. behind_rows root_tree numbers more rest ≡ rest tree) (λ f. FailsThere f.line f.kind (behind_rows root_tree numbers more rest))
+abbrev pub MakesTree : Limits → List Row → List ℕ → Result Start ScriptFault → Type 0
+MakesTree limits [] numbers result = Unit {0}
+MakesTree limits (root ∷ more) numbers result =
+    (rest : Start → Read) → MatchResult result (λ start. behind_rows limits root_tree numbers more rest ≡ rest start) (λ f. FailsThere f.line f.kind (behind_rows limits root_tree numbers more rest))
 
--- a journal as its tree and its entries
-abbrev pub journal_seen : Journal → Tree × List Entry
+-- a journal as its start and its entries
+abbrev pub journal_seen : Journal → Start × List Entry
 journal_seen journal = (journal.start, journal.entries.items)

@@ -15,5 +15,6 @@ unfolding journal_of behind_line started_from entries_of entries_from entry_of c
 returns c = record {
   root_alone = refl;
   first_version = refl;
+  third_version = refl;
   small = refl;
 }

@@ -14,5 +14,6 @@ returns c = record {
   from_the_root = refl;
   nothing = refl;
   from_a_directory = refl;
+  by_the_second = refl;
   from_a_file = refl;
 }

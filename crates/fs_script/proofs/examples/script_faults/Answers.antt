@@ -12,6 +12,8 @@ unfolding script_of blocks_from schedule_from block_line schedule_word call_of r
 returns c = record {
   empty = refl;
   other_header = refl;
+  spaced_second = refl;
+  second_unended = refl;
   spaced_header = refl;
   upper_thread = refl;
   thread_finish = refl;

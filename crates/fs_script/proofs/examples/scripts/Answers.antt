@@ -11,6 +11,7 @@ pub returns : goal.returns
 unfolding script_of blocks_from schedule_from block_line schedule_word call_of reading number_of hex_of percent_encoding_on_literals hex_on_literals
 returns c = record {
   empty_script = refl;
+  second_version = refl;
   first_mkdir = refl;
   helped_mkdir = refl;
   waiting_victim = refl;

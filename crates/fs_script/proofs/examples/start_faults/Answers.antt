@@ -33,6 +33,8 @@ returns c = record {
   tree_line = refl;
   counted = refl;
   second_entries = refl;
+  third_alone = refl;
+  third_without_start = refl;
   other_version = refl;
   first_version_alone = refl;
 }

@@ -1,22 +1,23 @@
 use Rattle.std.proofs.Common.{◌≡◌, Some, refl}
+use Rattle.fs_names.specs.Limits.{file_limit}
 use Rattle.fs_seq.specs.Rows.{misfit}
 use Rattle.fs_script.proofs.StartLemmas.{place_within, made, faulted}
 use Rattle.fs_script.proofs.journal.tree_of.Goals as goal
 
 pub wrong_row-requires-clause-low : goal.wrong_row-requires-clause-low
 wrong_row-requires-clause-low c =
-    let bad : misfit c.args.rows.now ≡ Some c.in-Err-Bad.place = c.from_rows.ensures.bad c.in-Err-Bad.place (let a = c.in-Err-Bad.is in let b = c.in-Err-Bad.field-0-is in let d = c.in-Err-Bad.place-is in cc) in
-    (place_within c.args.rows.now c.args.numbers.now c.in-Err-Bad.place c.requires bad).0
+    let bad : misfit (file_limit c.args.limits) c.args.rows.now ≡ Some c.in-Err-Bad.place = c.from_rows.ensures.bad c.in-Err-Bad.place (let a = c.in-Err-Bad.is in let b = c.in-Err-Bad.field-0-is in let d = c.in-Err-Bad.place-is in cc) in
+    (place_within c.args.limits c.args.rows.now c.args.numbers.now c.in-Err-Bad.place c.requires bad).0
 
 pub wrong_row-requires-clause-high : goal.wrong_row-requires-clause-high
 wrong_row-requires-clause-high c =
-    let bad : misfit c.args.rows.now ≡ Some c.in-Err-Bad.place = c.from_rows.ensures.bad c.in-Err-Bad.place (let a = c.in-Err-Bad.is in let b = c.in-Err-Bad.field-0-is in let d = c.in-Err-Bad.place-is in cc) in
-    (place_within c.args.rows.now c.args.numbers.now c.in-Err-Bad.place c.requires bad).1
+    let bad : misfit (file_limit c.args.limits) c.args.rows.now ≡ Some c.in-Err-Bad.place = c.from_rows.ensures.bad c.in-Err-Bad.place (let a = c.in-Err-Bad.is in let b = c.in-Err-Bad.field-0-is in let d = c.in-Err-Bad.place-is in cc) in
+    (place_within c.args.limits c.args.rows.now c.args.numbers.now c.in-Err-Bad.place c.requires bad).1
 
 pub returns-in-Ok : goal.returns-in-Ok
-returns-in-Ok c = made c.args.rows.now c.args.numbers.now c.in-Ok.tree c.requires c.in-Ok.ensures.tree c.in-Ok.ensures.fits
+returns-in-Ok c = made c.args.limits c.args.rows.now c.args.numbers.now c.in-Ok.tree c.requires c.in-Ok.ensures.tree c.in-Ok.ensures.fits
 
 pub returns-in-Err-Bad : goal.returns-in-Err-Bad
 returns-in-Err-Bad c =
-    let bad : misfit c.args.rows.now ≡ Some c.in-Err-Bad.place = c.from_rows.ensures.bad c.in-Err-Bad.place (let a = c.in-Err-Bad.is in let b = c.in-Err-Bad.field-0-is in let d = c.in-Err-Bad.place-is in cc) in
-    rw c.wrong_row.ensures (faulted c.args.rows.now c.args.numbers.now c.in-Err-Bad.place _ c.requires bad refl)
+    let bad : misfit (file_limit c.args.limits) c.args.rows.now ≡ Some c.in-Err-Bad.place = c.from_rows.ensures.bad c.in-Err-Bad.place (let a = c.in-Err-Bad.is in let b = c.in-Err-Bad.field-0-is in let d = c.in-Err-Bad.place-is in cc) in
+    rw c.wrong_row.ensures (faulted c.args.limits c.args.rows.now c.args.numbers.now c.in-Err-Bad.place _ c.requires bad refl)
