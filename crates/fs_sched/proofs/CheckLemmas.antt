@@ -1,31 +1,18 @@
 -- The verdict on what was read is the verdict on the input.
 use Rattle.std.proofs.Common.{◌≡◌, ℕ, ◌<◌, ◌≤◌, ltb, ⊎_elim, Bool, true, false, List, length, Option, Some, None, Result, Ok, Err, refl, sym, ap, ◌∙◌, subst, arith}
-use Rattle.std.specs.Prelude.{IfSome, codes, if◌then◌else◌}
-use Rattle.std.proofs.lemmas.Bool.{ltb-true, ltb-false}
+use Rattle.std.specs.Prelude.{IfSome}
+use Rattle.std.proofs.lemmas.Bool.{ltb-true, ltb-false, lt-ltb}
 use Rattle.fs_timeline.specs.declared.verdict.Verdict.{Verdict}
-use Rattle.fs_calls.specs.Tree.{root_tree}
-use Rattle.fs_words.specs.Lines.{lines_of}
-use Rattle.fs_words.specs.Reading.{◌>>=◌, fault_at, first_is, behind_header}
-use Rattle.fs_script.specs.Journals.{started_header, with_start, started_from, behind_line, journal_of}
-use Rattle.fs_text.specs.Journal.{entries_of, entries_from}
+use Rattle.fs_words.specs.Reading.{fault_at}
+use Rattle.fs_script.specs.Journals.{journal_of}
+use Rattle.fs_script.proofs.HeaderLemmas.{long_journal}
 use Rattle.fs_words.specs.declared.fault.ScriptFault.{ScriptFault}
 use Rattle.fs_words.specs.declared.fault.FaultKind.TheVariants as kind
-use Rattle.fs_words.proofs.ReadLemmas.{too_long}
 use Rattle.fs_sched.specs.Checks.{judged, verdict_of, verdict_line}
 use Rattle.fs_sched.specs.Devices.{IsSameText, WritesBeginning, WritesBeginningOf}
 
-too_large : (text : List ℕ) → 16777216 < length text → entries_of text ≡ Err (fault_at 1 kind.TooLarge)
-unfolding entries_of
-too_large text h = ap (λ r. r >>= entries_from 2) (too_long _ text h)
-
 no_journal : (text : List ℕ) → 16777216 < length text → journal_of text ≡ Err (fault_at 1 kind.TooLarge)
-unfolding journal_of
-no_journal text h = by (first_is started_header (lines_of text))
-  where
-    by : (b : Bool)
-        → (if b then (behind_header started_header text >>= behind_line (codes "start") (behind_line (codes "dir /") (started_from root_tree)) 2) else with_start root_tree (entries_of text)) ≡ Err (fault_at 1 kind.TooLarge)
-    by true = ap (λ r. r >>= behind_line (codes "start") (behind_line (codes "dir /") (started_from root_tree)) 2) (too_long started_header text h)
-    by false = ap (with_start root_tree) (too_large text h)
+no_journal text h = long_journal text (lt-ltb 16777216 (length text) h)
 
 verdict_same : (text input : List ℕ) → IsSameText text input → verdict_of text ≡ verdict_of input
 verdict_same text input h = ⊎_elim (λ e. ap verdict_of e) (λ p. ap judged (no_journal text p.0 ∙ sym (no_journal input p.1))) h

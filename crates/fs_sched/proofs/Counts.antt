@@ -3,7 +3,7 @@ use Rattle.std.proofs.Common.{◌≡◌, ℕ, zero, suc, ◌+◌, ◌≤◌, con
 use Rattle.std.proofs.lemmas.List.Sums.{sum_by_push, sum_by-append}
 use Rattle.fs_names.specs.Keys.{Key}
 use Rattle.fs_names.specs.Shapes.{Shape}
-use Rattle.fs_calls.specs.Forms.{form, reserves}
+use Rattle.fs_calls.specs.Forms.{reserved_by}
 use Rattle.fs_calls.specs.declared.call.Call.{Call}
 use Rattle.fs_calls.specs.declared.reply.Reply.{Reply}
 use Rattle.fs_nodes.specs.Graphs.{Graph, set_at, reserved_in}
@@ -69,16 +69,16 @@ counted_one count s new c op v run is ops same =
     omega (arith, a, b, e, f)
 
 -- a call begins
-counted_more : (count : Option Record → ℕ) (s : State) (seat : ℕ) (call : Call) (c : ℕ) (reserved : Option ℕ) (graph : Graph) → c ≡ begins s.timeline + 1 → counted count (began s seat call c reserved graph) ≡ counted count s + count (Some (new_op seat call reserved))
+counted_more : (count : Option Record → ℕ) (s : State) (seat : ℕ) (call : Call) (c : ℕ) (reserved : Option ℕ) (graph : Graph) → c ≡ begins s.timeline + 1 → counted count (began s seat call c reserved graph) ≡ counted count s + count (Some (new_op s.start.limits seat call reserved))
 counted_more count s seat call c reserved graph number =
-    ap (total (λ d. count (set_at c (Some (new_op seat call reserved)) s.ops d))) (begins_begins s.timeline c seat call)
-    ∙ total_more (λ d. count (set_at c (Some (new_op seat call reserved)) s.ops d)) (begins s.timeline) ∙ ap₂ (λ (a b : ℕ). a + b) others mine
+    ap (total (λ d. count (set_at c (Some (new_op s.start.limits seat call reserved)) s.ops d))) (begins_begins s.timeline c seat call)
+    ∙ total_more (λ d. count (set_at c (Some (new_op s.start.limits seat call reserved)) s.ops d)) (begins s.timeline) ∙ ap₂ (λ (a b : ℕ). a + b) others mine
   where
-    others : total (λ d. count (set_at c (Some (new_op seat call reserved)) s.ops d)) (begins s.timeline) ≡ total (λ d. count (s.ops d)) (begins s.timeline)
-    others = total_same (λ d. count (set_at c (Some (new_op seat call reserved)) s.ops d)) (λ d. count (s.ops d)) (begins s.timeline) (λ d i. ap count (upd_else c (Some (new_op seat call reserved)) s.ops d (λ e. (let z : d ≡ begins s.timeline + 1 = e ∙ number in omega (arith, z, i)))))
+    others : total (λ d. count (set_at c (Some (new_op s.start.limits seat call reserved)) s.ops d)) (begins s.timeline) ≡ total (λ d. count (s.ops d)) (begins s.timeline)
+    others = total_same (λ d. count (set_at c (Some (new_op s.start.limits seat call reserved)) s.ops d)) (λ d. count (s.ops d)) (begins s.timeline) (λ d i. ap count (upd_else c (Some (new_op s.start.limits seat call reserved)) s.ops d (λ e. (let z : d ≡ begins s.timeline + 1 = e ∙ number in omega (arith, z, i)))))
 
-    mine : count (set_at c (Some (new_op seat call reserved)) s.ops (begins s.timeline + 1)) ≡ count (Some (new_op seat call reserved))
-    mine = ap (λ (d : ℕ). count (set_at c (Some (new_op seat call reserved)) s.ops d)) (sym number) ∙ ap count (upd_here c (Some (new_op seat call reserved)) s.ops)
+    mine : count (set_at c (Some (new_op s.start.limits seat call reserved)) s.ops (begins s.timeline + 1)) ≡ count (Some (new_op s.start.limits seat call reserved))
+    mine = ap (λ (d : ℕ). count (set_at c (Some (new_op s.start.limits seat call reserved)) s.ops d)) (sym number) ∙ ap count (upd_here c (Some (new_op s.start.limits seat call reserved)) s.ops)
 
 -- ---- entries
 
@@ -162,7 +162,7 @@ tallied_begin : (s new : State) (seat : ℕ) (call : Call) (answer : Begun) → 
 tallied_begin s new seat call (Err SeatBusy) (c, on, same) t = subst Tallied (sym same) t
 tallied_begin s new seat call (Err Full) (off, full, same) t = subst Tallied (sym same) t
 tallied_begin s new seat call (Err OutOfMemory) (off, room, same) t = subst Tallied (sym same) t
-tallied_begin s new seat call (Ok c) (off, number, r) t = go (reserves (form call)) r
+tallied_begin s new seat call (Ok c) (off, number, r) t = go (reserved_by call) r
   where
     go : (o : Option Shape) → Reserves s seat call c o new → Tallied new
     go None same = subst Tallied (sym same) (tallied_began s seat call c None s.graph number t)

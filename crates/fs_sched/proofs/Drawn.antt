@@ -1,7 +1,7 @@
 -- Events of drawn threads, as words.
 use Rattle.std.proofs.Common.{◌≡◌, ℕ, List, [], ◌∷◌, ◌++◌, length, map, refl, Ok, ap, ap₂, ◌∙◌, subst, inl, inr}
 use Rattle.std.specs.List.{range_with_len}
-use Rattle.fs_calls.specs.Tree.{root_tree}
+use Rattle.fs_calls.specs.Starts.{root_start}
 use Rattle.fs_calls.specs.declared.call.Call.{Call}
 use Rattle.fs_timeline.specs.declared.entry.Entry.{Entry}
 use Rattle.fs_laws.proofs.journal.ViewOfTimeline.{begin_start, step_start}
@@ -30,7 +30,7 @@ no_checkpoint lists (seat ∷ seats) old c (inr (middle, told, does, rest)) = no
 
 -- a drawn run comes to no checkpoint
 pub never_under_way : (n : ℕ) (script : Script) (c : ℕ) → IsUnderWay (Seeded n) script c → ⊥
-never_under_way n script c under = no_checkpoint script.lists (drawn_seats n (length script.lists) DRAW_LIMIT) (start (length script.lists)) c (at_word (Seeded n) script c under)
+never_under_way n script c under = no_checkpoint script.lists (drawn_seats n (length script.lists) DRAW_LIMIT) (start script.limits (length script.lists)) c (at_word (Seeded n) script c under)
 
 event_start : (lists : List (List Call)) (old new : Stage) (seat : ℕ) → Event lists old seat new → new.state.start ≡ old.state.start
 event_start lists old new seat (Goes c answer on step kept) = step_start old.state seat answer new.state step
@@ -53,7 +53,7 @@ words_start lists (seat ∷ seats) told old new (middle, first, rest, (events, n
     (both ∙ ap₂ (λ (xs ys : List Entry). xs ++ ys) none more.0, more.1 ∙ events_start lists (seat ∷ []) old middle events)
 
 -- a drawn run is one piece, from the root alone
-pub drawn_once : (n : ℕ) (script : Script) (told : List Entry) (last : Stage) → Runs (Seeded n) script told last → Runs (Seeded n) script [] last × (last.state.start ≡ root_tree)
+pub drawn_once : (n : ℕ) (script : Script) (told : List Entry) (last : Stage) → Runs (Seeded n) script told last → Runs (Seeded n) script [] last × (last.state.start ≡ root_start script.limits)
 drawn_once n script told last runs =
-    let once : (told ≡ []) × (runs.0.state.start ≡ root_tree) = words_start script.lists (drawn_seats n (length script.lists) DRAW_LIMIT) told (start (length script.lists)) runs.0 runs.1 in
+    let once : (told ≡ []) × (runs.0.state.start ≡ root_start script.limits) = words_start script.lists (drawn_seats n (length script.lists) DRAW_LIMIT) told (start script.limits (length script.lists)) runs.0 runs.1 in
     (subst (λ (es : List Entry). Runs (Seeded n) script es last) once.0 runs, end_start script.lists runs.0 last runs.2 ∙ once.1)

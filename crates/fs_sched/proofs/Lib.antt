@@ -24,3 +24,4 @@ pub mod Drawn
 pub mod Done
 pub mod Reasons
 pub mod Starts
+pub mod ShortRuns

@@ -3,7 +3,7 @@ use Rattle.std.proofs.Common.{◌≡◌, ℕ, zero, suc, ◌+◌, ◌-◌, ◌<�
 use Rattle.std.specs.List.{range_with_len}
 use Rattle.std.proofs.lemmas.Bool.{cond-false, eqb-true}
 use Rattle.fs_calls.specs.declared.call.Call.{Call}
-use Rattle.fs_calls.specs.Forms.{form, reserves}
+use Rattle.fs_calls.specs.Forms.{reserved_by}
 use Rattle.fs_names.specs.Shapes.{Shape}
 use Rattle.fs_nodes.specs.Graphs.{set_at}
 use Rattle.fs_machine.specs.States.{State, Begins, Reserves, Step}
@@ -43,7 +43,7 @@ step_off old new seat k (Returned r) (c, op, m, ph, e) h = ap (λ (s : State). s
 
 -- a begin puts one on its own seat alone
 begins_off : (old new : State) (seat k c : ℕ) (call : Call) → Begins old seat call (Ok c) new → (k ≡ seat → ⊥) → old.on_seat k ≡ None → new.on_seat k ≡ None
-begins_off old new seat k c call begins ne h = go (reserves (form call)) begins.2
+begins_off old new seat k c call begins ne h = go (reserved_by call) begins.2
   where
     go : (o : Option Shape) → Reserves old seat call c o new → new.on_seat k ≡ None
     go None e = ap (λ (s : State). s.on_seat k) e ∙ set_other seat k (Some c) old.on_seat ne ∙ h

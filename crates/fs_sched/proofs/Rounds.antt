@@ -3,6 +3,7 @@ use Rattle.std.proofs.Common.{◌≡◌, ℕ, zero, suc, ◌+◌, ◌<◌, ◌�
 use Rattle.std.specs.List.{range_with_len}
 use Rattle.fs_calls.specs.Forms.{form}
 use Rattle.fs_calls.specs.declared.call.Call.{Call}
+use Rattle.fs_calls.specs.declared.call.Call.TheVariants as calls
 use Rattle.fs_machine.specs.Records.{Record}
 use Rattle.fs_laws.specs.Progress.{GoesOn, SomebodyGoesOn}
 use Rattle.fs_machine.specs.States.{State, Run, Beginning, Stepping, Begins, Step}
@@ -30,7 +31,21 @@ owed cost (calls ∷ lists) (n ∷ begun) = cost_of cost (drop n calls) + owed c
 
 -- the steps that a call takes at most, and its begin
 abbrev steps_of : Call → ℕ
-steps_of call = first_steps (form call) + 1
+steps_of call = first_steps (form 0 call) + 1
+
+-- which no limit of files changes
+steps_any : (most : ℕ) (call : Call) → first_steps (form most call) ≡ first_steps (form 0 call)
+steps_any most (calls.Mkdir p) = refl
+steps_any most (calls.Mknod p) = refl
+steps_any most (calls.Unlink p) = refl
+steps_any most (calls.Rmdir p) = refl
+steps_any most (calls.Rename p q) = refl
+steps_any most (calls.Exchange p q) = refl
+steps_any most (calls.Stat p) = refl
+steps_any most (calls.Readdir p) = refl
+steps_any most (calls.Read p off count) = refl
+steps_any most (calls.Write p off bytes) = refl
+steps_any most (calls.Truncate p size) = refl
 
 -- the events that are not spent and not busy, at most
 abbrev pub left_over : List (List Call) → Stage → ℕ
@@ -65,9 +80,9 @@ same_stage old new a b = ap₂ (λ (s : State) (n : List ℕ). record { state = 
 starts_less : (lists : List (List Call)) (old new : Stage) (seat c : ℕ) (call : Call) → Run old.state → length old.begun ≡ length lists → next_call lists old seat ≡ Some call → Begins old.state seat call (Ok c) new.state
     → new.begun ≡ slice_set old.begun seat (get_or old.begun seat 0 + 1) → left_over lists new + 1 ≤ left_over lists old
 starts_less lists old new seat c call run same is begins set =
-    let a : steps_left new.state ≡ steps_left old.state + first_steps (form call) = adds_work old.state run seat c call new.state begins in
+    let a : steps_left new.state ≡ steps_left old.state + first_steps (form 0 call) = adds_work old.state run seat c call new.state begins ∙ ap (λ (n : ℕ). steps_left old.state + n) (steps_any _ call) in
     let b : owed steps_of lists new.begun ≡ owed steps_of lists (slice_set old.begun seat (get_or old.begun seat 0 + 1)) = ap (owed steps_of lists) set in
-    let d : owed steps_of lists (slice_set old.begun seat (get_or old.begun seat 0 + 1)) + (first_steps (form call) + 1) ≡ owed steps_of lists old.begun = owed_less steps_of lists old.begun seat (get_or old.begun seat 0 + 1) call same (omega arith) is in
+    let d : owed steps_of lists (slice_set old.begun seat (get_or old.begun seat 0 + 1)) + (first_steps (form 0 call) + 1) ≡ owed steps_of lists old.begun = owed_less steps_of lists old.begun seat (get_or old.begun seat 0 + 1) call same (omega arith) is in
     omega (arith, a, b, d)
 
 -- it leaves all as it was, or less to do

@@ -1,12 +1,12 @@
 -- The run of what was read is a run of the input.
 use Rattle.std.proofs.Common.{◌≡◌, ℕ, ◌<◌, ◌≤◌, ltb, ⊎_elim, Bool, true, false, List, length, Option, Some, None, Result, Ok, Err, refl, sym, ap, ◌∙◌, subst, arith}
 use Rattle.std.specs.Prelude.{IfSome}
-use Rattle.std.proofs.lemmas.Bool.{ltb-true, ltb-false}
-use Rattle.fs_words.specs.Reading.{◌>>=◌, fault_at}
+use Rattle.std.proofs.lemmas.Bool.{ltb-true, ltb-false, lt-ltb}
+use Rattle.fs_words.specs.Reading.{fault_at}
 use Rattle.fs_words.specs.declared.fault.ScriptFault.{ScriptFault}
 use Rattle.fs_words.specs.declared.fault.FaultKind.TheVariants as kind
-use Rattle.fs_words.proofs.ReadLemmas.{too_long}
-use Rattle.fs_script.specs.Script.{script_of, blocks_from, nothing_yet}
+use Rattle.fs_script.specs.Script.{script_of}
+use Rattle.fs_script.proofs.HeaderLemmas.{long_script}
 use Rattle.fs_script.specs.declared.script.Script.{Script}
 use Rattle.fs_sched.specs.Devices.{IsSameText}
 use Rattle.fs_sched.specs.Runs.{IsRunOf}
@@ -14,8 +14,7 @@ use Rattle.fs_sched.specs.declared.running.RunEnd.{RunEnd}
 use Rattle.fs_sched.specs.declared.schedule.Schedule.{Schedule}
 
 too_large : (text : List ℕ) → 16777216 < length text → script_of text ≡ Err (fault_at 1 kind.TooLarge)
-unfolding script_of
-too_large text h = ap (λ r. r >>= blocks_from 2 nothing_yet) (too_long _ text h)
+too_large text h = long_script text (lt-ltb 16777216 (length text) h)
 
 pub script_same : (text input : List ℕ) → IsSameText text input → script_of text ≡ script_of input
 script_same text input h = ⊎_elim (λ e. ap script_of e) (λ p. too_large text p.0 ∙ sym (too_large input p.1)) h

@@ -2,7 +2,7 @@
 use Rattle.std.proofs.Common.{◌≡◌, ℕ, List, [], ◌++◌, ap, ◌∙◌, append_assoc}
 use Rattle.fs_timeline.specs.declared.entry.Entry.{Entry}
 use Rattle.fs_nodes.specs.Graphs.{Graph}
-use Rattle.fs_calls.specs.Tree.{Tree}
+use Rattle.fs_calls.specs.Starts.{Start}
 use Rattle.fs_script.specs.Journals.{journal_text}
 use Rattle.fs_script.specs.TreeText.{tree_text, AppendsTree}
 use Rattle.fs_sched.specs.RunTexts.{number_of, counts_line, end_line, IsRunText}
@@ -26,7 +26,7 @@ counted_line counts es are =
     ∙ ap (λ n. counts_line (number_of kind.Begin es) n counts.returned) are.committed
     ∙ ap (λ n. counts_line (number_of kind.Begin es) (number_of kind.Commit es) n) are.returned
 
-pub run_text_made : (start : Tree) (es : List Entry) (graph : Graph) (journal with_tree line all : List ℕ) → journal ≡ journal_text start es → AppendsTree graph journal with_tree → line ≡ end_line es → all ≡ with_tree ++ line → IsRunText start es graph all
+pub run_text_made : (start : Start) (es : List Entry) (graph : Graph) (journal with_tree line all : List ℕ) → journal ≡ journal_text start es → AppendsTree graph journal with_tree → line ≡ end_line es → all ≡ with_tree ++ line → IsRunText start es graph all
 run_text_made start es graph journal with_tree line all j tree l a = (
   tree.0,
   tree.1,

@@ -5,8 +5,9 @@ use Rattle.std.specs.List.{list_any}
 use Rattle.std.proofs.lemmas.Bool.{ltb-true, ltb-false}
 use Rattle.fs_names.specs.Shapes.{Shape}
 use Rattle.fs_names.specs.declared.limits.TheConstants.{NODE_LIMIT}
-use Rattle.fs_calls.specs.Forms.{form, reserves}
-use Rattle.fs_calls.specs.Tree.{root_tree}
+use Rattle.fs_calls.specs.Forms.{reserved_by}
+use Rattle.fs_calls.specs.Starts.{root_start}
+use Rattle.fs_names.specs.declared.limits.Limits.{Limits}
 use Rattle.fs_calls.specs.declared.call.Call.{Call}
 use Rattle.fs_nodes.specs.Graphs.{set_at, empty_graph}
 use Rattle.fs_timeline.specs.declared.entry.Entry.{Entry}
@@ -74,14 +75,14 @@ step_seats s new seat (Returned r) (c, op, moves, ph, same) x d on = go (place o
 
 -- a begin begins one, on its seat
 begin_begins : (s new : State) (seat c : ℕ) (call : Call) → Begins s seat call (Ok c) new → number_of kind.Begin new.timeline ≡ number_of kind.Begin s.timeline + 1
-begin_begins s new seat c call (off, number, r) = go (reserves (form call)) r
+begin_begins s new seat c call (off, number, r) = go (reserved_by call) r
   where
     go : (o : Option Shape) → Reserves s seat call c o new → number_of kind.Begin new.timeline ≡ number_of kind.Begin s.timeline + 1
     go None same = ap (λ (x : State). number_of kind.Begin x.timeline) same ∙ number_push kind.Begin s.timeline (Begin c seat call)
     go (Some shape) (n, less, unused, same) = ap (λ (x : State). number_of kind.Begin x.timeline) same ∙ number_push kind.Begin s.timeline (Begin c seat call)
 
 begin_seats : (s new : State) (seat c : ℕ) (call : Call) → Begins s seat call (Ok c) new → (x : ℕ) → new.on_seat x ≡ set_at seat (Some c) s.on_seat x
-begin_seats s new seat c call (off, number, r) x = go (reserves (form call)) r
+begin_seats s new seat c call (off, number, r) x = go (reserved_by call) r
   where
     go : (o : Option Shape) → Reserves s seat call c o new → new.on_seat x ≡ set_at seat (Some c) s.on_seat x
     go None same = ap (λ (u : State). u.on_seat x) same
@@ -199,9 +200,9 @@ owed_all (calls ∷ lists) =
     let g : cost_of one calls ≡ length calls = cost_all calls in
     omega (arith, g, h)
 
-pub kept_start : (lists : List (List Call)) → ListFacts lists [] (start (length lists))
-kept_start lists = record {
-  run = Starting NODE_LIMIT root_tree empty_graph (starts_empty NODE_LIMIT (omega arith));
+pub kept_start : (limits : Limits) (lists : List (List Call)) → ListFacts lists [] (start limits (length lists))
+kept_start limits lists = record {
+  run = Starting NODE_LIMIT (root_start limits) empty_graph (starts_empty limits NODE_LIMIT (omega arith));
   same = length_zeros (length lists);
   seats = λ x d on. absurd (none_some None d refl on);
   all = (let h : owed one lists (replicate (length lists) 0) ≡ calls_in lists = owed_all lists in omega (arith, h));
@@ -254,8 +255,8 @@ complete lists told s k over =
     let p : number_of kind.Commit (told ++ s.state.timeline) ≡ number_of kind.Begin (told ++ s.state.timeline) = again.committed in
     record { begun = omega (arith, z, b); committed = omega (arith, z, b, p); returned = omega (arith, z, b, r) }
 
-run_keeps : (schedule : Schedule) (script : Script) (told : List Entry) (middle : Stage) → Words script.lists (start (length script.lists)) (words_by schedule script.words (length script.lists)) told middle → ListFacts script.lists told middle
-run_keeps schedule script told middle done = words_keep script.lists (words_by schedule script.words (length script.lists)) [] told (start (length script.lists)) middle done (kept_start script.lists)
+run_keeps : (schedule : Schedule) (script : Script) (told : List Entry) (middle : Stage) → Words script.lists (start script.limits (length script.lists)) (words_by schedule script.words (length script.lists)) told middle → ListFacts script.lists told middle
+run_keeps schedule script told middle done = words_keep script.lists (words_by schedule script.words (length script.lists)) [] told (start script.limits (length script.lists)) middle done (kept_start script.limits script.lists)
 
 ends_keep : (b : Bool) (lists : List (List Call)) (told : List Entry) (old last : Stage) → EndsBy b lists old last → ListFacts lists told old → ListFacts lists told last
 ends_keep true lists told old last ends k = (end_keeps lists told old last ends k).0

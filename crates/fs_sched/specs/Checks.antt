@@ -1,6 +1,6 @@
 -- The verdict on a journal text, and its line.
 use Rattle.std.specs.Prelude.{ℕ, Bool, true, false, List, ◌++◌, Result, Ok, Err, codes, decimal}
-use Rattle.fs_calls.specs.Tree.{Tree}
+use Rattle.fs_calls.specs.Starts.{Start}
 use Rattle.fs_timeline.specs.declared.entry.Entry.{Entry}
 use Rattle.fs_timeline.specs.Verdicts.{verdict}
 use Rattle.fs_timeline.specs.declared.verdict.Verdict.{Verdict}
@@ -30,8 +30,8 @@ abbrev pub verdict_line : Verdict → List ℕ
 verdict_line Lawful = codes "lawful\n"
 verdict_line (Fault place k) = codes "fault " ++ (decimal place ++ (codes " " ++ (kind_word k ++ codes "\n")))
 
--- the verdict on the entries of the journal that was read, from its start tree, or the fault of the text
-abbrev pub judged : Result (Tree × List Entry) ScriptFault → Result Verdict ScriptFault
+-- the verdict on the entries of the journal that was read, from its start, or the fault of the text
+abbrev pub judged : Result (Start × List Entry) ScriptFault → Result Verdict ScriptFault
 judged (Ok journal) = Ok (verdict journal.0 journal.1)
 judged (Err f) = Err f
 

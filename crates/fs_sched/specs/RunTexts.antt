@@ -6,6 +6,7 @@ use Rattle.fs_timeline.specs.declared.entry.Entry.TheVariants.{Begin, Commit, Re
 use Rattle.fs_sched.specs.declared.run_texts.EntryKind.{EntryKind}
 use Rattle.fs_sched.specs.declared.run_texts.EntryKind.TheVariants as kind
 use Rattle.fs_calls.specs.Tree.{Tree}
+use Rattle.fs_calls.specs.Starts.{Start}
 use Rattle.fs_nodes.specs.Graphs.{Graph}
 use Rattle.fs_script.specs.Journals.{journal_text}
 use Rattle.fs_script.specs.TreeText.{tree_text, IsSpelled}
@@ -29,10 +30,10 @@ counts_line b c r = codes "begun " ++ (decimal b ++ (codes " committed " ++ (dec
 abbrev pub end_line : List Entry → List ℕ
 end_line es = counts_line (number_of kind.Begin es) (number_of kind.Commit es) (number_of kind.Return es)
 
--- the journal of the entries from a start tree, the tree, and the last line
-abbrev pub run_text : Tree → List Entry → Tree → List ℕ
+-- the journal of the entries from a start, the tree, and the last line
+abbrev pub run_text : Start → List Entry → Tree → List ℕ
 run_text start es t = journal_text start es ++ (tree_text t ++ end_line es)
 
--- the text of a run whose last piece began at this tree and ended with these entries and nodes
-abbrev pub IsRunText : Tree → List Entry → Graph → List ℕ → Type 0
+-- the text of a run whose last piece began at this start and ended with these entries and nodes
+abbrev pub IsRunText : Start → List Entry → Graph → List ℕ → Type 0
 IsRunText start es graph text = (t : Tree) × IsSpelled graph t × (text ≡ run_text start es t)

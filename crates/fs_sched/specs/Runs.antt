@@ -1,6 +1,7 @@
 -- Runs of scripts, event by event.
 use Rattle.std.specs.Prelude.{ℕ, ◌≡◌, ◌+◌, ◌-◌, ◌^◌, min, ◌<◌, Bool, true, false, ◌||◌, ◌⊎◌, List, [], ◌∷◌, ◌++◌, length, replicate, get_or, slice_get, slice_set, is_some, Ok, Option, Some, None, Err}
 use Rattle.std.specs.List.{range_with_len, list_any}
+use Rattle.fs_names.specs.declared.limits.Limits.{Limits}
 use Rattle.fs_names.specs.declared.limits.TheConstants.{NODE_LIMIT}
 use Rattle.fs_timeline.specs.declared.entry.Entry.{Entry}
 use Rattle.fs_calls.specs.declared.call.Call.{Call}
@@ -27,9 +28,9 @@ pub record Stage : Type 0 where
   pub state : State
   pub begun : List ℕ
 
--- before the first event
-abbrev pub start : ℕ → Stage
-start threads = record { state = empty NODE_LIMIT; begun = replicate threads 0 }
+-- before the first event, by these limits
+abbrev pub start : Limits → ℕ → Stage
+start limits threads = record { state = empty limits NODE_LIMIT; begun = replicate threads 0 }
 
 -- the next call of a thread, where one is left
 abbrev pub next_call : List (List Call) → Stage → ℕ → Option Call
@@ -90,7 +91,7 @@ RunsFrom schedule script old told last = (middle : Stage) × Words script.lists 
 
 -- a run of a script by a schedule, from its first stage to its last, which is of its last piece; and the entries of the pieces before
 abbrev pub Runs : Schedule → Script → List Entry → Stage → Type 0
-Runs schedule script told last = RunsFrom schedule script (start (length script.lists)) told last
+Runs schedule script told last = RunsFrom schedule script (start script.limits (length script.lists)) told last
 
 -- the next event of a thread is the begin of a call, and all numbers are in use
 abbrev pub IsRefused : List (List Call) → Stage → ℕ → Type 0
@@ -125,7 +126,7 @@ StopsFrom schedule script old f =
 
 -- the same from the first stage on
 abbrev pub StopsBy : Schedule → Script → RunFault → Type 0
-StopsBy schedule script f = StopsFrom schedule script (start (length script.lists)) f
+StopsBy schedule script f = StopsFrom schedule script (start script.limits (length script.lists)) f
 
 -- the same of the script that an input has
 abbrev pub ReachesStop : Schedule → List ℕ → RunFault → Type 0

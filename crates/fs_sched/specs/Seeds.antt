@@ -1,7 +1,7 @@
 -- The lines of drawn runs.
 use Rattle.std.specs.Prelude.{ℕ, ◌≡◌, ◌+◌, ◌≤◌, ◌<◌, List, [], ◌++◌, Ok, codes, decimal}
 use Rattle.std.specs.List.{flat_map, range_with_len}
-use Rattle.fs_calls.specs.Tree.{root_tree}
+use Rattle.fs_calls.specs.Starts.{root_start}
 use Rattle.fs_timeline.specs.Verdicts.{verdict}
 use Rattle.fs_timeline.specs.declared.verdict.Verdict.{Verdict}
 use Rattle.fs_timeline.specs.declared.verdict.Verdict.TheVariants.{Lawful}
@@ -21,7 +21,7 @@ lawful_line n = seed_line n Lawful
 
 -- the run that is drawn from a number comes to its end, and its journal is lawful; it is one piece
 abbrev pub IsLawfulFrom : Script → ℕ → Type 0
-IsLawfulFrom script n = (last : Stage) × Runs (Seeded n) script [] last × (verdict root_tree last.state.timeline ≡ Lawful)
+IsLawfulFrom script n = (last : Stage) × Runs (Seeded n) script [] last × (verdict (root_start script.limits) last.state.timeline ≡ Lawful)
 
 -- so many runs are drawn from a number, the next one, and so on: each is lawful, and the text says so, a line for each
 pub record AreLawful (script : Script) (seed : ℕ) (runs : ℕ) (text : List ℕ) : Type 0 where

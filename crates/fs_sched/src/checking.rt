@@ -17,8 +17,8 @@ use fs_script::{Journal, read_journal};
 use fs_timeline::Verdict;
 use std::alloc::Global;
 
-/// The journal that a text has.
-fn journal_in(alloc: Global, text: &[u8]) -> Result<Journal, RunFault>
+/// The journal that a text has, or why there is none.
+pub fn journal_in(alloc: Global, text: &[u8]) -> Result<Journal, RunFault>
     ensures ok { IfOk result (λ journal. journal_of text.now ≡ Ok (journal.start, journal.entries.items)) }
     ensures err { IfErr result (IsFaultOf (journal_of text.now)) }
 {

@@ -11,7 +11,7 @@ use fs_script::{Script, read_script};
 use std::alloc::Global;
 
 /// The script that a text has, or why no run of it begins.
-pub(crate) fn script_in(alloc: Global, text: &[u8]) -> Result<Script, RunFault>
+pub fn script_in(alloc: Global, text: &[u8]) -> Result<Script, RunFault>
     ensures script { IfOk result (λ script. script_of text.now ≡ Ok script) }
     ensures few { IfOk result (λ script. calls_in script.lists ≤ CALL_LIMIT) }
     ensures fault { IfErr result (IsFaultOf (script_of text.now)) }

@@ -10,8 +10,10 @@ ghost use Rattle.fs_sched.specs.code.Done.{HasDone};
 
 use crate::fault::RunFault;
 use crate::play::Play;
+use crate::progress::Progress;
 use crate::run_texts::{Counts, counts_of};
 use crate::schedule::Schedule;
+use fs_names::Limits;
 use fs_script::{CallLists, Script, Word};
 use std::alloc::{AllocError, Global};
 
@@ -22,14 +24,22 @@ pub(crate) struct Pieces {
     pub(crate) told: Counts,
 }
 
+/// How many events a word gives.
+fn events_of(word: Word) -> u64 {
+    match word {
+        Word::Events(_, times) => times,
+        Word::Checkpoint | Word::Finish => 0,
+    }
+}
+
 impl Pieces {
-    /// Before the first event of so many threads.
-    pub(crate) fn new(alloc: Global, threads: usize) -> Result<Pieces, AllocError>
-        ensures start { IfOk result (λ run. stage_of run.play ≡ start threads) }
+    /// Before the first event of so many threads, by these limits.
+    pub(crate) fn new(alloc: Global, limits: Limits, threads: usize) -> Result<Pieces, AllocError>
+        ensures start { IfOk result (λ run. stage_of run.play ≡ start limits threads) }
         ensures told { IfOk result (λ run. AreCapped run.told []) }
         ensures seats { (lists : List (List Call)) → length lists ≡ threads → IfOk result (λ run. IsMarked lists run.play) }
     {
-        let play = Play::new(alloc, threads)?;
+        let play = Play::new(alloc, limits, threads)?;
         let told = counts_of(&[]);
         Ok(Pieces { play, told })
     }
@@ -55,7 +65,13 @@ impl Pieces {
     }
 
     /// What words do, from left to right.
-    fn words(&mut self, alloc: Global, lists: &CallLists, words: &[Word]) -> Result<(), RunFault>
+    fn words<P: Progress>(
+        &mut self,
+        alloc: Global,
+        lists: &CallLists,
+        words: &[Word],
+        progress: &mut P,
+    ) -> Result<(), RunFault>
         requires { IsMarked lists.now self.old.play }
         ensures done { OnOk result (HasDone (Words lists.now (stage_of self.old.play) words.now) self.old self.new) }
         ensures seats { OnOk result (IsMarked lists.now self.new.play) }
@@ -63,38 +79,48 @@ impl Pieces {
     {
         for word in words {
             self.word(alloc, lists, *word)?;
+            progress.went_on(events_of(*word), self.play.core.timeline().len());
         }
         Ok(())
     }
 
     /// The events before rounds to the end.
-    fn before(&mut self, alloc: Global, script: &Script, schedule: Schedule) -> Result<(), RunFault>
+    fn before<P: Progress>(
+        &mut self,
+        alloc: Global,
+        script: &Script,
+        schedule: Schedule,
+        progress: &mut P,
+    ) -> Result<(), RunFault>
         requires { IsMarked script.now.lists self.old.play }
         ensures done { OnOk result (HasDone (Words script.now.lists (stage_of self.old.play) (words_by schedule script.now.words (length script.now.lists))) self.old self.new) }
         ensures seats { OnOk result (IsMarked script.now.lists self.new.play) }
         ensures why { IfErr result (IsWhy (StopsInWords script.now.lists (stage_of self.old.play) (words_by schedule script.now.words (length script.now.lists)))) }
     {
         match schedule {
-            Schedule::Given => self.words(alloc, &script.lists, script.words.as_slice()),
+            Schedule::Given => {
+                self.words(alloc, &script.lists, script.words.as_slice(), progress)
+            }
             Schedule::RoundRobin => Ok(()),
-            Schedule::Seeded(seed) => self.play.drawn(alloc, &script.lists, seed),
+            Schedule::Seeded(seed) => self.play.drawn(alloc, &script.lists, seed, progress),
         }
     }
 
     /// All events of a script by a schedule.
-    pub(crate) fn run(
+    pub(crate) fn run<P: Progress>(
         &mut self,
         alloc: Global,
         script: &Script,
         schedule: Schedule,
+        progress: &mut P,
     ) -> Result<(), RunFault>
         requires { IsMarked script.now.lists self.old.play }
         ensures run { OnOk result (HasDone (RunsFrom schedule script.now (stage_of self.old.play)) self.old self.new) }
         ensures why { IfErr result (IsWhy (StopsFrom schedule script.now (stage_of self.old.play))) }
     {
-        self.before(alloc, script, schedule)?;
+        self.before(alloc, script, schedule, progress)?;
         if schedule.goes_on(script.words.as_slice()) {
-            self.play.finish(alloc, &script.lists)?;
+            self.play.finish(alloc, &script.lists, progress)?;
         }
         Ok(())
     }

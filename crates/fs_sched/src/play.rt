@@ -11,11 +11,12 @@ ghost use Rattle.fs_sched.specs.Schedules.{drawn_seats};
 ghost use Rattle.fs_sched.specs.code.Stages.{stage_of, IsSeated, IsMarked, AreOver, IsRefusal, IsWhy, fault_of_checkpoint};
 
 use crate::fault::RunFault;
+use crate::progress::Progress;
 use crate::schedule::DRAW_LIMIT;
 use crate::seats::SeatsAhead;
 use fs_calls::Call;
 use fs_core::{Core, NoCheckpoint, Refusal, Stepped};
-use fs_names::SeatNo;
+use fs_names::{Limits, NODE_LIMIT, SeatNo};
 use fs_script::{CallLists, Word};
 use fs_timeline::Entry;
 use std::alloc::{AllocError, Global};
@@ -63,12 +64,12 @@ fn calls_of(lists: &CallLists, seat: usize) -> &[Call]
     }
 }
 
-/// A core before the first event, with so many seats.
-fn seated(alloc: Global, threads: usize) -> Result<Core, AllocError>
-    ensures state { IfOk result (λ core. state_of core ≡ empty NODE_LIMIT) }
+/// A core before the first event, with these limits and so many seats.
+fn seated(alloc: Global, limits: Limits, threads: usize) -> Result<Core, AllocError>
+    ensures state { IfOk result (λ core. state_of core ≡ empty limits NODE_LIMIT) }
     ensures seats { IfOk result (λ core. length core.seats ≡ threads) }
 {
-    let mut core = Core::new(alloc)?;
+    let mut core = Core::with_limits(alloc, NODE_LIMIT, limits)?;
     for _ in 0..threads {
         core.seat()?;
     }
@@ -97,12 +98,12 @@ fn unmarked(alloc: Global, count: usize) -> Result<Vec<bool>, AllocError>
 }
 
 impl Play {
-    /// Before the first event of so many threads.
-    pub(crate) fn new(alloc: Global, threads: usize) -> Result<Play, AllocError>
-        ensures start { IfOk result (λ play. stage_of play ≡ start threads) }
+    /// Before the first event of so many threads, by these limits.
+    pub(crate) fn new(alloc: Global, limits: Limits, threads: usize) -> Result<Play, AllocError>
+        ensures start { IfOk result (λ play. stage_of play ≡ start limits threads) }
         ensures seats { (lists : List (List Call)) → length lists ≡ threads → IfOk result (λ play. IsMarked lists play) }
     {
-        let core = seated(alloc, threads)?;
+        let core = seated(alloc, limits, threads)?;
         let begun = zeros(alloc, threads)?;
         let over = unmarked(alloc, threads)?;
         Ok(Play { core, begun, over })
@@ -259,11 +260,12 @@ impl Play {
     }
 
     /// Events of threads that are drawn from a number, until none has anything to do or the limit is reached.
-    pub(crate) fn drawn(
+    pub(crate) fn drawn<P: Progress>(
         &mut self,
         alloc: Global,
         lists: &CallLists,
         seed: u64,
+        progress: &mut P,
     ) -> Result<(), RunFault>
         requires { IsMarked lists.now self.old }
         ensures events { OnOk result (Events lists.now (stage_of self.old) (drawn_seats seed (length lists.now) DRAW_LIMIT) (stage_of self.new)) }
@@ -280,6 +282,7 @@ impl Play {
         for _ in 0..DRAW_LIMIT {
             let seat = seats.next_seat();
             self.event(alloc, lists, seat)?;
+            progress.went_on(1, self.core.timeline().len());
             first = self.first_after(lists, first, seat);
             if first >= threads {
                 return Ok(());
@@ -305,7 +308,13 @@ impl Play {
     }
 
     /// Events of the last thread, until it has nothing to do. Those before it are over, so each is a round.
-    fn last_alone(&mut self, alloc: Global, lists: &CallLists, last: usize) -> Result<(), RunFault>
+    fn last_alone<P: Progress>(
+        &mut self,
+        alloc: Global,
+        lists: &CallLists,
+        last: usize,
+        progress: &mut P,
+    ) -> Result<(), RunFault>
         requires seats { IsMarked lists.now self.old }
         requires over { AreOver lists.now (stage_of self.old) last }
         requires last { length lists.now ≡ last + 1 }
@@ -318,11 +327,17 @@ impl Play {
             if !self.event(alloc, lists, last)? {
                 return Ok(());
             }
+            progress.went_on(1, self.core.timeline().len());
         }
     }
 
     /// Rounds until no thread has anything to do.
-    pub(crate) fn finish(&mut self, alloc: Global, lists: &CallLists) -> Result<(), RunFault>
+    pub(crate) fn finish<P: Progress>(
+        &mut self,
+        alloc: Global,
+        lists: &CallLists,
+        progress: &mut P,
+    ) -> Result<(), RunFault>
         requires { IsMarked lists.now self.old }
         ensures ended { OnOk result (ToEnd lists.now (stage_of self.old) (stage_of self.new)) }
         ensures fault { IfErr result IsRefusal }
@@ -335,10 +350,11 @@ impl Play {
                 return Ok(());
             }
             if first + 1 == self.begun.len() {
-                return self.last_alone(alloc, lists, first);
+                return self.last_alone(alloc, lists, first, progress);
             }
             self.core.told();
             self.round(alloc, lists, first)?;
+            progress.went_on(self.begun.len() as u64, self.core.timeline().len());
         }
     }
 }

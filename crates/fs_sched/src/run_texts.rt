@@ -1,11 +1,13 @@
 //! The text of a run.
 
-ghost use Rattle.std.specs.Prelude.{◌≡◌, ◌≢◌, ◌++◌, List, length, OnOk, IfOk, decimal};
+ghost use Rattle.std.specs.Prelude.{◌≡◌, ◌++◌, true, List, length, OnOk, IfOk, decimal};
 ghost use Rattle.std.specs.List.{AllByRecursion};
 ghost use Rattle.fs_nodes.specs.Stores.{graph_of};
+ghost use Rattle.fs_names.specs.Limits.{name_limit};
+ghost use Rattle.fs_names.specs.declared.limits.Limits.TheVariants.{V2};
 ghost use Rattle.fs_text.specs.Fits.{AllFit};
 ghost use Rattle.fs_timeline.specs.declared.entry.Entry.{Entry};
-ghost use Rattle.fs_script.specs.Journals.{journal_text};
+ghost use Rattle.fs_script.specs.Journals.{is_told, journal_text};
 ghost use Rattle.fs_script.specs.Laws.{FitsNode};
 ghost use Rattle.fs_sched.specs.RunTexts.{is_of, number_of, counts_line, IsRunText};
 ghost use Rattle.fs_sched.specs.code.Counts.{AreCounts, AreCapped};
@@ -102,8 +104,8 @@ fn journal_text(
 ) -> Result<CountedText, AllocError>
     ensures text { IfOk result (λ made. made.text.items ≡ journal_text start.now entries.now) }
     ensures counts { IfOk result (λ made. AreCounts made.counts entries.now) }
-    ensures fit { OnOk result (AllFit entries.now) }
-    ensures told { OnOk result (length start.now ≢ 1 → AllByRecursion FitsNode start.now) }
+    ensures fit { OnOk result (AllFit (name_limit V2) entries.now) }
+    ensures told { OnOk result (is_told start.now.limits (length start.now.tree) ≡ true → AllByRecursion (FitsNode (name_limit V2)) start.now.tree) }
 {
     let mut text = Vec::new(alloc);
     write_opening(alloc, start, &mut text)?;
@@ -168,8 +170,8 @@ pub(crate) fn counted_text(
 ) -> Result<CountedText, AllocError>
     ensures text { IfOk result (λ made. IsRunText start.now entries.now (graph_of store.now) made.text.items) }
     ensures counts { IfOk result (λ made. AreCounts made.counts entries.now) }
-    ensures fit { OnOk result (AllFit entries.now) }
-    ensures told { OnOk result (length start.now ≢ 1 → AllByRecursion FitsNode start.now) }
+    ensures fit { OnOk result (AllFit (name_limit V2) entries.now) }
+    ensures told { OnOk result (is_told start.now.limits (length start.now.tree) ≡ true → AllByRecursion (FitsNode (name_limit V2)) start.now.tree) }
 {
     let mut made = journal_text(alloc, start, entries)?;
     write_tree(alloc, store, &mut made.text)?;

@@ -10,17 +10,19 @@ ghost use Rattle.fs_sched.specs.Devices.{WritesBeginning};
 ghost use Rattle.fs_sched.specs.Runs.{calls_in, end_of, IsOutput, IsRunOf, IsFaultOfRun, IsWhole, HasFinish, ReachesStop};
 ghost use Rattle.fs_sched.specs.EachRun.{AreOfTheRun, RunsAreReadAgain, EachIsReadAgain};
 ghost use Rattle.fs_sched.specs.code.Counts.{AreCounts};
-ghost use Rattle.fs_sched.specs.code.Mades.{MakesRun};
+ghost use Rattle.fs_sched.specs.code.Mades.{IsRead, MakesRun};
 ghost use Rattle.fs_sched.specs.code.Done.{IsRun, IsStop};
 
 use crate::fault::RunFault;
 use crate::input::script_in;
 use crate::pieces::Pieces;
-use crate::run_texts::{Counts, counted_text};
+use crate::progress::{Progress, Silent};
+use crate::run_texts::{Counts, counted_text, counts_of};
 use crate::schedule::Schedule;
 use fs_calls::Call;
 use fs_io::{Made, Sink, Source, transform};
 use fs_script::Script;
+use fs_timeline::Entry;
 use std::alloc::Global;
 
 /// How a run ended: how many calls began, took their place and returned, of how many calls of the script.
@@ -55,32 +57,49 @@ fn end_of(calls: usize, counts: Counts) -> RunEnd
     }
 }
 
+/// How a run of a script ended that has these entries, in all its pieces.
+pub fn run_end(script: &Script, entries: &[Entry]) -> RunEnd
+    ensures { result ≡ end_of script.now entries.now }
+{
+    end_of(count_calls(script.lists.as_slice()), counts_of(entries))
+}
+
 /// A run of a script that was read, from its first event to its last.
-pub(crate) fn play(alloc: Global, script: &Script, schedule: Schedule) -> Result<Pieces, RunFault>
+pub(crate) fn play<P: Progress>(
+    alloc: Global,
+    script: &Script,
+    schedule: Schedule,
+    progress: &mut P,
+) -> Result<Pieces, RunFault>
     requires few { calls_in script.now.lists ≤ CALL_LIMIT }
     ensures runs { IfOk result (IsRun schedule script.now) }
     ensures fault { IfErr result (IsStop schedule script.now) }
 {
-    let Ok(mut run) = Pieces::new(alloc, script.lists.as_slice().len()) else {
+    let Ok(mut run) = Pieces::new(alloc, script.limits, script.lists.as_slice().len()) else {
         return Err(RunFault::OutOfMemory);
     };
-    run.play
-        .core
-        .make_room(count_calls(script.lists.as_slice()));
-    match run.run(alloc, script, schedule) {
+    let calls = count_calls(script.lists.as_slice());
+    run.play.core.make_room(calls);
+    progress.begins(calls);
+    match run.run(alloc, script, schedule, progress) {
         Ok(()) => Ok(run),
         Err(fault) => Err(fault),
     }
 }
 
 /// The text of a run of a script, and how it ended. The script is let go before the text is made.
-fn make_text(alloc: Global, script: Script, schedule: Schedule) -> Result<Made<RunEnd>, RunFault>
+fn make_text<P: Progress>(
+    alloc: Global,
+    script: Script,
+    schedule: Schedule,
+    progress: &mut P,
+) -> Result<Made<RunEnd>, RunFault>
     requires few { calls_in script.lists ≤ CALL_LIMIT }
     ensures output { IfOk result (λ made. IsOutput schedule script made.end made.text.items) }
-    ensures again { OnOk result (RunsAreReadAgain schedule script) }
+    ensures again { OnOk result (IsRead script → RunsAreReadAgain schedule script) }
     ensures fault { IfErr result (IsStop schedule script) }
 {
-    let run = match play(alloc, &script, schedule) {
+    let run = match play(alloc, &script, schedule, progress) {
         Ok(run) => run,
         Err(fault) => return Err(fault),
     };
@@ -97,16 +116,17 @@ fn make_text(alloc: Global, script: Script, schedule: Schedule) -> Result<Made<R
 }
 
 /// The same of the script that a text has, which is let go once it is read.
-fn text_of_script(
+fn text_of_script<P: Progress>(
     alloc: Global,
     text: Vec<u8>,
     schedule: Schedule,
+    progress: &mut P,
 ) -> Result<Made<RunEnd>, RunFault>
     ensures { MakesRun schedule text.items result }
 {
     let script = script_in(alloc, text.as_slice())?;
     drop(text);
-    make_text(alloc, script, schedule)
+    make_text(alloc, script, schedule, progress)
 }
 
 /// The text of a run of a script in memory, as `run_script` writes it. The script is read where it stands, and the text is
@@ -116,7 +136,7 @@ pub fn run_bytes(alloc: Global, script: &[u8], schedule: Schedule) -> Result<Vec
     ensures fault { IfErr result (IsFaultOfRun schedule script.now) }
 {
     let read = script_in(alloc, script)?;
-    match make_text(alloc, read, schedule) {
+    match make_text(alloc, read, schedule, &mut Silent) {
         Ok(mut made) => {
             // Who keeps the text keeps no more than its bytes.
             made.text.shrink_to_fit();
@@ -128,12 +148,13 @@ pub fn run_bytes(alloc: Global, script: &[u8], schedule: Schedule) -> Result<Vec
 
 /// Reads a script to its end, runs it by a schedule, and writes the text of the run, which is made before its first
 /// byte is written. The answer says how many calls began, took their place and returned, in all pieces of the run; the text
-/// is that of the last piece.
-pub fn run_script<R: Source, W: Sink>(
+/// is that of the last piece. Whoever is told of progress hears of each round, drawn event and word.
+pub fn run_script<R: Source, W: Sink, P: Progress>(
     alloc: Global,
     reader: &mut R,
     writer: &mut W,
     schedule: Schedule,
+    progress: &mut P,
 ) -> Result<RunEnd, RunFault>
     requires reads { R.failures reader.old < 2 ^ 64 - 1 }
     requires writes { W.failures writer.old < 2 ^ 64 - 1 }
@@ -168,7 +189,7 @@ pub fn run_script<R: Source, W: Sink>(
         writer,
         |text| -> Result<Made<RunEnd>, RunFault>
             ensures { MakesRun schedule text.items result }
-        { text_of_script(alloc, text, schedule) },
+        { text_of_script(alloc, text, schedule, progress) },
     )?;
     Ok(end)
 }

@@ -2,7 +2,7 @@
 
 ghost use Rattle.std.specs.Prelude.{◌≡◌, ◌≢◌, ◌+◌, ◌-◌, ◌<◌, ◌≤◌, ◌^◌, ◌++◌, [], ℕ, List, true, Ok, Err, IfOk, OnOk, OnErr, IfErr, IfSome, IsErrOf};
 ghost use Rattle.std.specs.Io.KnownBytes.{Appends, IsAtEnd};
-ghost use Rattle.fs_calls.specs.Tree.{root_tree};
+ghost use Rattle.fs_calls.specs.Starts.{root_start};
 ghost use Rattle.fs_words.specs.declared.fault.ScriptFault.{ScriptFault};
 ghost use Rattle.fs_script.specs.Script.{script_of};
 ghost use Rattle.fs_script.specs.declared.limits.TheConstants.{CALL_LIMIT};
@@ -15,11 +15,12 @@ ghost use Rattle.fs_sched.specs.code.Stages.{stage_of};
 use crate::fault::RunFault;
 use crate::input::script_in;
 use crate::play::Play;
+use crate::progress::{Progress, Silent};
 use crate::running::play;
 use crate::schedule::Schedule;
 use crate::verdict_line::{is_lawful, push_verdict};
 use fs_io::{Made, Sink, Source, transform};
-use fs_journal::check;
+use fs_journal::check_from;
 use fs_script::Script;
 use fs_text::Addition;
 use fs_timeline::Verdict;
@@ -45,10 +46,10 @@ fn push_line(seed: u64, verdict: &Verdict, lines: &mut Addition) -> Result<(), A
 fn drawn(alloc: Global, script: &Script, seed: u64) -> Result<Play, RunFault>
     requires few { calls_in script.now.lists ≤ CALL_LIMIT }
     ensures runs { IfOk result (λ play. Runs (Schedule.Seeded seed) script.now [] (stage_of play)) }
-    ensures root { IfOk result (λ play. play.core.start ≡ root_tree) }
+    ensures root { IfOk result (λ play. play.core.start ≡ root_start script.now.limits) }
     ensures fault { IfErr result (λ fault. fault ≡ RunFault.OutOfMemory) }
 {
-    match play(alloc, script, Schedule::Seeded(seed)) {
+    match play(alloc, script, Schedule::Seeded(seed), &mut Silent) {
         Ok(run) => Ok(run.play),
         Err(fault) => Err(fault),
     }
@@ -73,7 +74,7 @@ fn push_run(
         Err(fault) => return Err(fault),
     };
     play.core.told();
-    let Ok(verdict) = check(alloc, play.core.timeline()) else {
+    let Ok(verdict) = check_from(alloc, play.core.start(), play.core.timeline()) else {
         return Err(RunFault::OutOfMemory);
     };
     match push_line(seed, &verdict, lines) {
@@ -83,7 +84,13 @@ fn push_run(
 }
 
 /// The lines of so many runs, drawn from a number, the next one, and so on, and whether each says that its run is lawful.
-fn make_lines(alloc: Global, script: &Script, seed: u64, runs: u64) -> Result<Made<bool>, RunFault>
+fn make_lines<P: Progress>(
+    alloc: Global,
+    script: &Script,
+    seed: u64,
+    runs: u64,
+    progress: &mut P,
+) -> Result<Made<bool>, RunFault>
     requires few { calls_in script.now.lists ≤ CALL_LIMIT }
     requires seed { seed ≤ SEED_LIMIT }
     requires runs { runs ≤ RUN_LIMIT }
@@ -98,6 +105,7 @@ fn make_lines(alloc: Global, script: &Script, seed: u64, runs: u64) -> Result<Ma
             Ok(well) => lawful = lawful && well,
             Err(fault) => return Err(fault),
         }
+        progress.has_run(run + 1, runs);
     }
     Ok(Made {
         text: lines.kept(),
@@ -106,11 +114,12 @@ fn make_lines(alloc: Global, script: &Script, seed: u64, runs: u64) -> Result<Ma
 }
 
 /// The same of the script that a text has, which is let go once it is read.
-fn lines_of_script(
+fn lines_of_script<P: Progress>(
     alloc: Global,
     text: Vec<u8>,
     seed: u64,
     runs: u64,
+    progress: &mut P,
 ) -> Result<Made<bool>, RunFault>
     requires seed { seed ≤ SEED_LIMIT }
     requires runs { runs ≤ RUN_LIMIT }
@@ -118,18 +127,19 @@ fn lines_of_script(
 {
     let script = script_in(alloc, text.as_slice())?;
     drop(text);
-    make_lines(alloc, &script, seed, runs)
+    make_lines(alloc, &script, seed, runs, progress)
 }
 
 /// Reads a script to its end, runs it so many times, by the threads that are drawn from a number, the next one, and so
 /// on, has each run's journal checked, and writes a line for each: `seed`, the number, and the verdict. The answer is
-/// whether each is lawful, and by the clauses it is. All lines are made before the first byte is written.
-pub fn run_seeds<R: Source, W: Sink>(
+/// whether each is lawful, and by the clauses it is. All lines are made before the first byte is written. Whoever is told of progress hears of each run.
+pub fn run_seeds<R: Source, W: Sink, P: Progress>(
     alloc: Global,
     reader: &mut R,
     writer: &mut W,
     seed: u64,
     runs: u64,
+    progress: &mut P,
 ) -> Result<bool, RunFault>
     requires reads { R.failures reader.old < 2 ^ 64 - 1 }
     requires writes { W.failures writer.old < 2 ^ 64 - 1 }
@@ -161,7 +171,7 @@ pub fn run_seeds<R: Source, W: Sink>(
             requires seed { seed ≤ SEED_LIMIT }
             requires runs { runs ≤ RUN_LIMIT }
             ensures { MakesRuns seed runs text.items result }
-        { lines_of_script(alloc, text, seed, runs) },
+        { lines_of_script(alloc, text, seed, runs, progress) },
     )?;
     Ok(lawful)
 }

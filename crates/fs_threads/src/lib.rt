@@ -1,6 +1,6 @@
 //! Scripts on real threads: each thread block's calls by a worker of its own.
 //!
-//! `run_threads` reads a script, plays its blocks by `fs_share::run_lists`, checks the closed timeline and writes the
+//! `run_threads` reads a script, plays its blocks by `fs_share::run_lists_with`, checks the closed timeline and writes the
 //! verdict. What an `Ok` wrote is a function of what was read: `lawful calls N`, with the number of the script's calls, as
 //! the contract of `run_threads` says by `specs/Lines.antt`. The order in which the calls took their places is not said.
 #![tactic(auto)]
@@ -8,6 +8,8 @@
 mod fault;
 mod line;
 mod running;
+mod watch;
 
 pub use fault::ThreadsFault;
 pub use running::run_threads;
+pub use watch::Watch;

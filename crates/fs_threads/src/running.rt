@@ -13,12 +13,13 @@ ghost use Rattle.fs_threads.specs.Lines.{lawful_line, IsLineOf};
 
 use crate::fault::{ThreadsFault, threads_fault};
 use crate::line::make_line;
+use crate::watch::Watch;
 use fs_calls::Call;
 use fs_io::{Made, Sink, Source, transform};
 use fs_sched::{EntryKind, RunFault, run_fault};
 use fs_script::read_script;
 use fs_seq::SeqTree;
-use fs_share::{Closed, Open, run_lists};
+use fs_share::{Closed, Limits, run_lists_with};
 use fs_timeline::Entry;
 use std::alloc::Global;
 use std::sync::Wait;
@@ -42,17 +43,29 @@ fn line_of_entries(
     }
 }
 
-/// The line of lists of calls, once they were played on threads.
-fn line_of_lists<R: Threads + Wait + Clock + Sync>(
+/// How many calls the lists have, up to the greatest number.
+fn calls_of(lists: &[Vec<Call>]) -> usize {
+    let mut count = 0usize;
+    for list in lists {
+        count = count.saturating_add(list.len());
+    }
+    count
+}
+
+/// The line of lists of calls, once they were played on threads, on a tree of these limits.
+fn line_of_lists<R: Threads + Wait + Clock + Sync, G: Watch + Sync>(
     rt: &R,
     alloc: Global,
     lists: &[Vec<Call>],
+    watch: &G,
+    limits: Limits,
 ) -> Result<Made<bool>, ThreadsFault>
     ensures line { IfOk result (λ made. made.text.items ≡ lawful_line (calls_in (map (λ calls. calls.items) lists.now))) }
     ensures lawful { IfOk result (λ made. made.end ≡ true) }
     ensures fault { IfErr result IsOfThreads }
 {
-    match run_lists(rt, alloc, lists, &Open) {
+    watch.begins(calls_of(lists));
+    match run_lists_with(rt, alloc, lists, watch, limits) {
         Ok(closed) => {
             let Closed {
                 start,
@@ -66,27 +79,30 @@ fn line_of_lists<R: Threads + Wait + Clock + Sync>(
 }
 
 /// The line of the script that a text has, once its blocks were played on threads.
-fn line_of_script<R: Threads + Wait + Clock + Sync>(
+fn line_of_script<R: Threads + Wait + Clock + Sync, G: Watch + Sync>(
     rt: &R,
     alloc: Global,
     text: &[u8],
+    watch: &G,
 ) -> Result<Made<bool>, ThreadsFault>
     ensures { MakesLine text.now result }
 {
     match read_script(alloc, text) {
-        Ok(script) => line_of_lists(rt, alloc, script.lists.as_slice()),
+        Ok(script) => line_of_lists(rt, alloc, script.lists.as_slice(), watch, script.limits),
         Err(fault) => Err(ThreadsFault::Run(run_fault(fault))),
     }
 }
 
 /// Reads a script to its end, plays each of its blocks by a worker of its own, whatever its schedule says, has the closed
 /// timeline checked, and writes one line: `lawful calls` and the number of calls that returned. The answer is whether the
-/// timeline is lawful, and by the clauses it is. The line is made before its first byte is written.
-pub fn run_threads<R: Threads + Wait + Clock + Sync, S: Source, W: Sink>(
+/// timeline is lawful, and by the clauses it is. The line is made before its first byte is written. Whoever watches is told how
+/// many calls there are, and then of each event, by the thread that did it.
+pub fn run_threads<R: Threads + Wait + Clock + Sync, S: Source, W: Sink, G: Watch + Sync>(
     rt: &R,
     alloc: Global,
     reader: &mut S,
     writer: &mut W,
+    watch: &G,
 ) -> Result<bool, ThreadsFault>
     requires reads { S.failures reader.old < 2 ^ 64 - 1 }
     requires writes { W.failures writer.old < 2 ^ 64 - 1 }
@@ -111,7 +127,7 @@ pub fn run_threads<R: Threads + Wait + Clock + Sync, S: Source, W: Sink>(
         writer,
         |text| -> Result<Made<bool>, ThreadsFault>
             ensures { MakesLine text.items result }
-        { line_of_script(rt, alloc, &text) },
+        { line_of_script(rt, alloc, &text, watch) },
     )?;
     Ok(lawful)
 }

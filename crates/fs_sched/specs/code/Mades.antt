@@ -3,6 +3,7 @@ use Rattle.std.specs.Prelude.{◌≡◌, ℕ, Bool, List, true, Result, Ok, IfOk
 use Rattle.fs_timeline.specs.declared.verdict.Verdict.{Verdict}
 use Rattle.fs_io.specs.declared.shell.Made.{Made}
 use Rattle.fs_script.specs.Script.{script_of}
+use Rattle.fs_script.specs.declared.script.Script.{Script}
 use Rattle.fs_sched.specs.Checks.{is_lawful, verdict_line, verdict_of}
 use Rattle.fs_sched.specs.Devices.{IsFaultOf}
 use Rattle.fs_sched.specs.EachRun.{EachIsReadAgain}
@@ -11,6 +12,10 @@ use Rattle.fs_sched.specs.Seeds.{AreRunsOf}
 use Rattle.fs_sched.specs.declared.fault.RunFault.{RunFault}
 use Rattle.fs_sched.specs.declared.running.RunEnd.{RunEnd}
 use Rattle.fs_sched.specs.declared.schedule.Schedule.{Schedule}
+
+-- a script was read from a text
+abbrev pub IsRead : Script → Type 0
+IsRead script = (input : List ℕ) × (script_of input ≡ Ok script)
 
 -- the text of a run, and how it ended; or why there is none
 pub record MakesRun (schedule : Schedule) (input : List ℕ) (result : Result (Made RunEnd) RunFault) : Type 0 where

@@ -6,6 +6,6 @@ use Rattle.fs_sched.proofs.play.seated.Given as goal
 
 abbrev pub invariant-loop : goal.invariant-loop
 invariant-loop l = record {
-  state : state_of l.core ≡ empty NODE_LIMIT;
+  state : state_of l.core ≡ empty l.fn.limits NODE_LIMIT;
   seats : length l.core.seats ≡ l.counter;
 }

@@ -12,7 +12,7 @@ use Rattle.fs_sched.proofs.Filling.{never_fills}
 use Rattle.fs_sched.proofs.running.play.Goals as goal
 
 pub run-requires : goal.run-requires
-run-requires c = rw (c.make_room.ensures) (c.in-Ok.ensures.seats c.args.script.now.lists (sym (ap length c.as_slice.ensures) ∙ length-map c.as_slice.result.now (λ calls. calls.items)))
+run-requires g c = rw (c.make_room.ensures) (c.in-Ok.ensures.seats c.args.script.now.lists (sym (ap length c.as_slice.ensures) ∙ length-map c.as_slice.result.now (λ calls. calls.items)))
 
 stopped : (schedule : Schedule) (script : Script) (fault : RunFault) → calls_in script.lists ≤ CALL_LIMIT → IsWhy (StopsBy schedule script) fault → IsStop schedule script fault
 stopped schedule script (faults.Input f) few why = absurd why
@@ -23,10 +23,10 @@ stopped schedule script faults.Full few why = absurd (never_fills schedule scrip
 stopped schedule script (faults.UnderWay c) few why = why
 
 pub returns-in-Ok-run-clause-runs : goal.returns-in-Ok-run-clause-runs
-returns-in-Ok-run-clause-runs c =
+returns-in-Ok-run-clause-runs g c =
     let done = rw (c.make_room.ensures) at c.in-Ok-run.ensures.run in
     let threads = sym (ap length c.as_slice.ensures) ∙ length-map c.as_slice.result.now (λ calls. calls.items) in
-    let first = c.in-Ok.ensures.start ∙ ap start (sym threads) in
+    let first = c.in-Ok.ensures.start ∙ ap (start c.args.script.now.limits) (sym threads) in
     record {
       told = done.told;
       runs = subst (λ (s : Stage). RunsFrom c.args.schedule c.args.script.now s done.told (stage_of c.run.new.self.play)) first done.came;
@@ -34,8 +34,8 @@ returns-in-Ok-run-clause-runs c =
     }
 
 pub returns-in-Err-clause-fault : goal.returns-in-Err-clause-fault
-returns-in-Err-clause-fault c =
+returns-in-Err-clause-fault g c =
     let why = rw (c.make_room.ensures) at c.in-Err.ensures.why in
     let threads = sym (ap length c.as_slice.ensures) ∙ length-map c.as_slice.result.now (λ calls. calls.items) in
-    let first = c.in-Ok.ensures.start ∙ ap start (sym threads) in
+    let first = c.in-Ok.ensures.start ∙ ap (start c.args.script.now.limits) (sym threads) in
     stopped c.args.schedule c.args.script.now c.in-Err.fault c.requires.few (subst (λ (s : Stage). IsWhy (StopsFrom c.args.schedule c.args.script.now s) c.in-Err.fault) first why)

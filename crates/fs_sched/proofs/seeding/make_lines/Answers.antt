@@ -4,7 +4,7 @@ use Rattle.fs_sched.proofs.seeding.make_lines.Goals as goal
 use Rattle.fs_sched.proofs.seeding.make_lines.Goals.{then-lawful, else-lawful}
 
 pub loop-run-preserved : goal.loop-run-preserved
-loop-run-preserved c =
+loop-run-preserved g c =
     let well : c.in-Ok.well ≡ true = c.in-Ok.ensures.lawful in
     record {
       before = c.in-Ok.ensures.before ∙ c.loop-run.invariant.before;

@@ -4,7 +4,7 @@ use Rattle.fs_sched.specs.Seeds.{lawful_line, IsLawfulFrom}
 use Rattle.fs_sched.proofs.seeding.make_lines.Given as goal
 
 abbrev pub invariant-loop-run : goal.invariant-loop-run
-invariant-loop-run l = record {
+invariant-loop-run g l = record {
   before : l.lines.before ≡ [];
   lawful : l.lawful ≡ true;
   each : (n : ℕ) → l.seed ≤ n → n < l.seed + l.run → IsLawfulFrom l.script n;

@@ -13,7 +13,7 @@ use Rattle.fs_sched.proofs.Drawn.{drawn_words, drawn_stops}
 use Rattle.fs_sched.proofs.pieces.Pieces.before.Goals as goal
 
 pub returns-in-Seeded-clause-done : goal.returns-in-Seeded-clause-done
-returns-in-Seeded-clause-done c =
+returns-in-Seeded-clause-done g c =
     let lists = c.args.script.now.lists in
     let old = stage_of c.args.self.now.play in
     let new = record c.args.self.now { play = c.drawn.new.self } in
@@ -21,7 +21,7 @@ returns-in-Seeded-clause-done c =
     (on_ok_weaker c.drawn.result (λ events. none_told (Words lists old (words_by (Seeded c.in-Seeded.seed) c.args.script.now.words (length lists))) c.args.self.now new (drawn_words lists (drawn_seats c.in-Seeded.seed (length lists) DRAW_LIMIT) old (stage_of c.drawn.new.self) events) refl) c.drawn.ensures.events)
 
 pub returns-in-Seeded-clause-why : goal.returns-in-Seeded-clause-why
-returns-in-Seeded-clause-why c =
+returns-in-Seeded-clause-why g c =
     let lists = c.args.script.now.lists in
     let old = stage_of c.args.self.now.play in
     subst (λ (s : Schedule). IfErr c.drawn.result (IsWhy (StopsInWords lists old (words_by s c.args.script.now.words (length lists))))) (sym c.in-Seeded.is)

@@ -6,7 +6,7 @@ use Rattle.fs_sched.proofs.pieces.Pieces.words.Given as goal
 
 -- the words so far were done
 abbrev pub invariant-loop-word : goal.invariant-loop-word
-invariant-loop-word l = record {
+invariant-loop-word g l = record {
   seats : IsMarked l.lists l.self.play;
   done : HasDone (Words l.lists (stage_of l.fn.self.play) (take l.word-index l.words)) l.fn.self l.self;
 }

@@ -8,26 +8,26 @@ use Rattle.fs_sched.proofs.Stopping.{stop_more, stop_here}
 use Rattle.fs_sched.proofs.play.Play.drawn.Goals as goal
 
 pub returns-then-first-threads-clause-events : goal.returns-then-first-threads-clause-events
-returns-then-first-threads-clause-events c = over_stays c.args.lists.now c.args.self.now c.requires.seated (λ seat less. c.first_left-first.ensures.over seat (omega (arith, c.requires.seated.begun))) _
+returns-then-first-threads-clause-events g c = over_stays c.args.lists.now c.args.self.now c.requires.seated (λ seat less. c.first_left-first.ensures.over seat (omega (arith, c.requires.seated.begun))) _
 
 pub first_after-first-requires-clause-over : goal.first_after-first-requires-clause-over
-first_after-first-requires-clause-over c k less = event_over c.args.lists.now (stage_of c.loop.self) (stage_of c.event.new.self) c.next_seat-seat.result k c.in_ok-event.ensures.event (c.loop.invariant.over k less)
+first_after-first-requires-clause-over g c k less = event_over c.args.lists.now (stage_of c.loop.self) (stage_of c.event.new.self) c.next_seat-seat.result k c.in_ok-event.ensures.event (c.loop.invariant.over k less)
 
 pub returns-then-first-threads-2-clause-events : goal.returns-then-first-threads-2-clause-events
-returns-then-first-threads-2-clause-events c =
+returns-then-first-threads-2-clause-events g c =
     lead_more c.args.lists.now (stage_of c.args.self.now) (stage_of c.loop.self) (stage_of c.event.new.self) _ _ _ c.next_seat-seat.result
     (upcoming_more c.loop.counter c.next_seat-seat.result c.loop.seats c.next_seat-seat.new.self c.loop-test.true c.next_seat-seat.ensures.seats)
     c.loop.invariant.lead c.in_ok-event.ensures.event (stage_of c.event.new.self)
     (over_stays c.args.lists.now c.event.new.self c.in_ok-event.ensures.seats.seated (λ seat less. c.first_after-first.ensures.over seat (omega (arith, c.requires.seated.begun))) _)
 
 pub returns-in_err-event-clause-full : goal.returns-in_err-event-clause-full
-returns-in_err-event-clause-full c f =
+returns-in_err-event-clause-full g c f =
     stop_here c.args.lists.now (stage_of c.args.self.now) (stage_of c.loop.self) _ _ _ c.next_seat-seat.result
     (upcoming_more c.loop.counter c.next_seat-seat.result c.loop.seats c.next_seat-seat.new.self c.loop-test.true c.next_seat-seat.ensures.seats)
     c.loop.invariant.stop (c.in_err-event.ensures.full (let k : c.in_err-event.field-0.0 ≡ Full = search rules in ap Err k))
 
 pub loop-preserved : goal.loop-preserved
-loop-preserved c =
+loop-preserved g c =
     let next = upcoming_more c.loop.counter c.next_seat-seat.result c.loop.seats c.next_seat-seat.new.self c.loop-test.true c.next_seat-seat.ensures.seats in
     record {
       threads = c.next_seat-seat.ensures.threads ∙ c.loop.invariant.threads;

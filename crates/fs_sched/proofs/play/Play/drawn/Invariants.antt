@@ -9,7 +9,7 @@ use Rattle.fs_sched.proofs.play.Play.drawn.Given as goal
 
 -- what is done and what is left is all
 abbrev pub invariant-loop : goal.invariant-loop
-invariant-loop l = record {
+invariant-loop g l = record {
   threads : l.seats.threads ≡ length l.lists;
   over : AreOver l.lists (stage_of l.self) l.first;
   marked : IsMarked l.lists l.self;

@@ -6,7 +6,7 @@ use Rattle.fs_sched.proofs.play.Play.finish.Given as goal
 
 -- what leads to the end from here leads there from the start
 abbrev pub invariant-rounds : goal.invariant-rounds
-invariant-rounds l = record {
+invariant-rounds g l = record {
   over : AreOver l.lists (stage_of l.self) l.first;
   seats : IsMarked l.lists l.self;
   stop : LeadsToStopInRounds l.lists (stage_of l.fn.self) (stage_of l.self);
@@ -15,4 +15,4 @@ invariant-rounds l = record {
 
 -- what is left to do
 abbrev pub decreases-rounds : goal.decreases-rounds
-decreases-rounds l = left_over l.lists (stage_of l.self)
+decreases-rounds g l = left_over l.lists (stage_of l.self)

@@ -10,14 +10,14 @@ use Rattle.fs_sched.specs.declared.fault.RunFault.TheVariants.{Full}
 use Rattle.fs_sched.proofs.play.Play.last_alone.Goals as goal
 
 pub rounds-smaller : goal.rounds-smaller
-rounds-smaller c =
+rounds-smaller g c =
     let more : has_more c.args.lists.now (stage_of c.rounds.self) c.args.last ≡ true = sym c.in_ok-event.ensures.more ∙ c.if-not-branch.false in
     round_smaller c.args.lists.now (stage_of c.rounds.self) (stage_of c.event.new.self) c.told.ensures.run c.rounds.invariant.seats.seated.begun (seats_there c.args.lists.now c.rounds.self c.rounds.invariant.seats.seated)
     (last_unfinished c.args.lists.now (stage_of c.rounds.self) c.args.last c.requires.last more)
     (last_round c.args.lists.now (stage_of c.rounds.self) (stage_of c.event.new.self) c.args.last c.requires.last c.rounds.invariant.over c.in_ok-event.ensures.event)
 
 pub rounds-preserved : goal.rounds-preserved
-rounds-preserved c =
+rounds-preserved g c =
     let more : has_more c.args.lists.now (stage_of c.rounds.self) c.args.last ≡ true = sym c.in_ok-event.ensures.more ∙ c.if-not-branch.false in
     let left = last_unfinished c.args.lists.now (stage_of c.rounds.self) c.args.last c.requires.last more in
     let round = last_round c.args.lists.now (stage_of c.rounds.self) (stage_of c.event.new.self) c.args.last c.requires.last c.rounds.invariant.over c.in_ok-event.ensures.event in
@@ -29,14 +29,14 @@ rounds-preserved c =
     }
 
 pub returns-then-not-branch-clause-ended : goal.returns-then-not-branch-clause-ended
-returns-then-not-branch-clause-ended c =
+returns-then-not-branch-clause-ended g c =
     let none : has_more c.args.lists.now (stage_of c.rounds.self) c.args.last ≡ false = sym c.in_ok-event.ensures.more ∙ c.if-not-branch.true in
     let same = spent_same c.args.lists.now (stage_of c.rounds.self) (stage_of c.event.new.self) c.args.last c.in_ok-event.ensures.event none in
     c.rounds.invariant.lead (stage_of c.event.new.self)
     (subst (λ (s : Stage). ToEnd c.args.lists.now (stage_of c.rounds.self) s) (sym same) (Over (last_over c.args.lists.now (stage_of c.rounds.self) c.args.last c.requires.last c.rounds.invariant.over none)))
 
 pub returns-in_err-event-clause-full : goal.returns-in_err-event-clause-full
-returns-in_err-event-clause-full c e =
+returns-in_err-event-clause-full g c e =
     let refused = c.in_err-event.ensures.full (let k : c.in_err-event.field-0.0 ≡ Full = search rules in ap Err k) in
     c.rounds.invariant.stop
     (InRound (last_unfinished c.args.lists.now (stage_of c.rounds.self) c.args.last c.requires.last (refused_more c.args.lists.now (stage_of c.rounds.self) c.args.last refused))
