@@ -1,7 +1,7 @@
 -- How the number of returns in a timeline changes.
 use Rattle.std.proofs.Common.{◌≡◌, ℕ, ◌+◌, ◌≤◌, List, [], ◌∷◌, ◌++◌, length, Option, Some, None, Result, Ok, Err, arith, ap}
 use Rattle.fs_names.specs.Shapes.{Shape}
-use Rattle.fs_calls.specs.Forms.{form, reserves}
+use Rattle.fs_calls.specs.Forms.{reserved_by}
 use Rattle.fs_calls.specs.declared.call.Call.{Call}
 use Rattle.fs_timeline.specs.declared.entry.Entry.{Entry}
 use Rattle.fs_timeline.specs.declared.entry.Entry.TheVariants.{Begin, Commit, Return}
@@ -45,7 +45,7 @@ reserve_counts s t seat call c (Some shape) (n, less, free, same) = omega (arith
 
 -- a begin adds none
 pub begin_counts : (s t : State) (seat : ℕ) (call : Call) (r : Result ℕ Refusal) → Begins s seat call r t → returns t.timeline ≡ returns s.timeline
-begin_counts s t seat call (Ok c) (free, number, made) = reserve_counts s t seat call c (reserves (form call)) made
+begin_counts s t seat call (Ok c) (free, number, made) = reserve_counts s t seat call c (reserved_by call) made
 begin_counts s t seat call (Err OutOfMemory) (free, full, same) = ap count same
 begin_counts s t seat call (Err Full) (free, full, same) = ap count same
 begin_counts s t seat call (Err SeatBusy) (c, on, same) = ap count same

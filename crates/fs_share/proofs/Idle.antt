@@ -1,7 +1,6 @@
 -- Where every call that began has returned, no call is under way.
 use Rattle.std.proofs.Common.{◌≡◌, ℕ, Bool, true, false, ◌||◌, ◌==◌, List, [], ◌∷◌, Option, Some, None, refl, sym, ap, ◌∙◌}
 use Rattle.std.proofs.lemmas.Bool.{eq-eqb, ne_eqb, or_left, or_right}
-use Rattle.fs_calls.specs.Sights.{tree_shapes}
 use Rattle.fs_calls.specs.declared.call.Call.{Call}
 use Rattle.fs_nodes.specs.Graphs.{set_at}
 use Rattle.fs_timeline.specs.Timeline.{has_begun, has_returned}
@@ -58,5 +57,5 @@ idle_when_returned s run all c = go (s.ops c) refl
     go : (o : Option Record) → s.ops c ≡ o → o ≡ None
     go None e = refl
     go (Some op) e =
-        let back = (not_back (start (tree_shapes s.start)) s.timeline c (inv.seat_of c op e).1).1 in
-        let z : false ≡ true = sym back ∙ all c (begun (start (tree_shapes s.start)) s.timeline c op.call (inv.tied.calls c op e) refl) in cc
+        let back = (not_back (start s.start) s.timeline c (inv.seat_of c op e).1).1 in
+        let z : false ≡ true = sym back ∙ all c (begun (start s.start) s.timeline c op.call (inv.tied.calls c op e) refl) in cc

@@ -4,7 +4,7 @@ use Rattle.std.proofs.lemmas.Bool.{eqb-true, or_left}
 use Rattle.std.proofs.Math.Seq.{take-append_seam}
 use mathlib.Core.List.{IsPrefix}
 use Rattle.fs_calls.specs.Starts.{Start}
-use Rattle.fs_calls.specs.Outcomes.{play, reply}
+use Rattle.fs_calls.specs.Outcomes.{reply_at, next_start}
 use Rattle.fs_calls.specs.declared.call.Call.{Call}
 use Rattle.fs_calls.specs.declared.reply.Reply.{Reply}
 use Rattle.fs_timeline.specs.Timeline.{has_begun, has_committed, call_of, with_call, commits, commits_of, before_commit, reply_after, due, IsNext, IsAnswered, Each, IsWellFormed, IsLawful}
@@ -116,7 +116,7 @@ placed es c p h =
       | false ↦ λ k. absurd (cc)
     ] h
 
-told_call : (start : Start) (calls : List Call) (o : Option Call) (r : Reply) → reply_after start calls o ≡ Some r → (call : Call) × (o ≡ Some call) × (r ≡ reply (play start calls) call)
+told_call : (start : Start) (calls : List Call) (o : Option Call) (r : Reply) → reply_after start calls o ≡ Some r → (call : Call) × (o ≡ Some call) × (r ≡ reply_at (next_start start calls) call)
 told_call start calls None r h = absurd (cc)
 told_call start calls (Some call) r h = (call, refl, sym (cc h))
 
@@ -131,5 +131,5 @@ is_told_by start es i c p call r law at inside is returned =
     record {
       inside = inside;
       stands = is;
-      replied = due_is.2 ∙ ap (λ (x : Call). reply (play start (commits (before_commit c es))) x) same ∙ ap (λ (l : List Call). reply (play start l) call) (sym first);
+      replied = due_is.2 ∙ ap (λ (x : Call). reply_at (next_start start (commits (before_commit c es))) x) same ∙ ap (λ (l : List Call). reply_at (next_start start l) call) (sym first);
     }

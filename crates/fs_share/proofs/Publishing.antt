@@ -3,7 +3,7 @@ use Rattle.std.proofs.Common.{◌≡◌, ℕ, List, [], ◌∷◌, ◌++◌, len
 use mathlib.Core.List.{IsPrefix}
 use Rattle.fs_names.specs.Shapes.{Shape}
 use Rattle.fs_calls.specs.Starts.{Start}
-use Rattle.fs_calls.specs.Forms.{form, reserves}
+use Rattle.fs_calls.specs.Forms.{reserved_by}
 use Rattle.fs_calls.specs.declared.call.Call.{Call}
 use Rattle.fs_timeline.specs.Timeline.{commits, commits_of, IsLawful}
 use Rattle.fs_timeline.specs.declared.entry.Entry.{Entry}
@@ -43,7 +43,7 @@ reserve_grows s t seat call c None law same = more _ _ _ (Begin c seat call) law
 reserve_grows s t seat call c (Some shape) law (n, less, free, same) = more _ _ _ (Begin c seat call) law (ap line same)
 
 pub begin_grows : (s t : State) (seat : ℕ) (call : Call) (r : Result ℕ Refusal) → IsLawful s.start s.timeline → Begins s seat call r t → IsPrefix (commits s.timeline) (commits t.timeline)
-begin_grows s t seat call (Ok c) law (free, number, made) = reserve_grows s t seat call c (reserves (form call)) law made
+begin_grows s t seat call (Ok c) law (free, number, made) = reserve_grows s t seat call c (reserved_by call) law made
 begin_grows s t seat call (Err OutOfMemory) law (free, full, same) = kept _ _ (ap line same)
 begin_grows s t seat call (Err Full) law (free, full, same) = kept _ _ (ap line same)
 begin_grows s t seat call (Err SeatBusy) law (c, on, same) = kept _ _ (ap line same)

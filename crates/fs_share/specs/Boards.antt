@@ -2,8 +2,7 @@
 use Rattle.std.specs.Prelude.{◌≡◌, ℕ, ◌+◌, ◌<◌, ◌≤◌, List, [], length, take, slice_get, Some}
 use mathlib.Core.List.{IsPrefix}
 use Rattle.fs_calls.specs.Starts.{Start}
-use Rattle.fs_calls.specs.Tree.{Tree}
-use Rattle.fs_calls.specs.Outcomes.{play, reply}
+use Rattle.fs_calls.specs.Outcomes.{reply_at, next_start}
 use Rattle.fs_calls.specs.declared.call.Call.{Call}
 use Rattle.fs_calls.specs.declared.reply.Reply.{Reply}
 use Rattle.fs_timeline.specs.Timeline.{commits}
@@ -22,14 +21,14 @@ pub record AreBeginnings (commits : List Call) (lists : Lists) : Type 0 where
   pub entered : IsPrefix lists.entered commits
   pub one_more : length lists.entered ≤ length lists.taken + 1
 
--- a core at rest, the tree that its commits play, and a publisher that shows it
-pub record IsReady (core : CoreValue) (tree : Tree) (lists : Lists) : Type 0 where
+-- a core at rest, the start that its commits leave, and a publisher that shows it
+pub record IsReady (core : CoreValue) (tree : Start) (lists : Lists) : Type 0 where
   pub rest : IsAtRest core
-  pub is_played : tree ≡ play core.start (commits core.timeline)
+  pub is_played : tree ≡ next_start core.start (commits core.timeline)
   pub shows : lists ≡ record { start = tree; published = []; taken = []; entered = [] }
 
--- the call stands at the place in the list, and the reply is that of the tree which the calls before it play on the start tree
+-- the call stands at the place in the list, and the reply is that of the start which the calls before it leave
 pub record IsListed (start : Start) (list : List Call) (place : ℕ) (call : Call) (answer : Reply) : Type 0 where
   pub inside : place < length list
   pub stands : slice_get list place ≡ Some call
-  pub replied : answer ≡ reply (play start (take place list)) call
+  pub replied : answer ≡ reply_at (next_start start (take place list)) call

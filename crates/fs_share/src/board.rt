@@ -2,17 +2,18 @@
 
 ghost use Rattle.std.specs.Prelude.{◌≡◌, ◌+◌, ◌<◌, ◌++◌, ◌∷◌, [], None, Some, IfOk, IfSome, IfNone, OnOk, OnErr, length, slice_get};
 ghost use mathlib.Core.List.{IsPrefix};
-ghost use Rattle.fs_calls.specs.Tree.{root_tree};
+ghost use Rattle.fs_calls.specs.Starts.{root_start};
 ghost use Rattle.fs_timeline.specs.Timeline.{commits};
 ghost use Rattle.fs_machine.specs.States.{Begins, Step, begun_again};
 ghost use Rattle.fs_core.specs.CoreValues.{state_of};
 ghost use Rattle.fs_share.specs.Boards.{AreBeginnings, IsListed, IsReady};
+ghost use Rattle.fs_share.specs.Returns.{answered, returns};
 
 use crate::checkpoint::Ready;
 use crate::told::told_place;
 use fs_calls::{Call, Reply};
 use fs_core::{Core, Refusal, Stepped};
-use fs_names::{CallNo, SeatNo};
+use fs_names::{CallNo, Limits, NODE_LIMIT, SeatNo};
 use fs_observe::{Named, NoPlace, Observer, Opened, Publisher, Stamp};
 use fs_seq::SeqTree;
 use fs_timeline::Entry;
@@ -87,21 +88,22 @@ fn catch_up<N: Named>(
 }
 
 impl<N: Named> Board<N> {
-    /// A core without seats or entries, of which nothing is published. The only error is out of memory.
+    /// A core without seats or entries, of these limits, of which nothing is published. The only error is out of memory.
     pub(crate) fn open<R: Wait>(
         rt: &R,
         alloc: Global,
         opened: Opened,
+        limits: Limits,
     ) -> Result<Board<N>, AllocError>
         requires { opened ≡ N.book }
-        ensures start { IfOk result (λ board. board.core.start ≡ root_tree) }
+        ensures start { IfOk result (λ board. board.core.start ≡ root_start limits) }
         ensures seats { IfOk result (λ board. board.core.seats ≡ []) }
         ensures timeline { IfOk result (λ board. board.core.timeline ≡ []) }
         ensures published { IfOk result (λ board. board.published ≡ []) }
     {
-        let core = Core::new(alloc)?;
-        let first = SeqTree::new(alloc)?;
-        let second = SeqTree::new(alloc)?;
+        let core = Core::with_limits(alloc, NODE_LIMIT, limits)?;
+        let first = SeqTree::with_limits(alloc, limits)?;
+        let second = SeqTree::with_limits(alloc, limits)?;
         let publisher = Publisher::open(rt, alloc, opened, first, second)?;
         Ok(Board { core, publisher })
     }
@@ -125,33 +127,39 @@ impl<N: Named> Board<N> {
         core.seat()
     }
 
-    /// A call begins on a seat.
+    /// A call begins on a seat; where the seat is not there, it is `SeatBusy`.
     pub(crate) fn begin(
         &mut self,
         alloc: Global,
         seat: SeatNo,
         call: &Call,
     ) -> Result<CallNo, Refusal>
-        requires seat { seat < length self.old.core.seats }
         ensures published { self.new.published ≡ self.old.published }
-        ensures begins { Begins (state_of self.old.core) seat call.now result (state_of self.new.core) }
+        ensures begins { seat < length self.old.core.seats → Begins (state_of self.old.core) seat call.now result (state_of self.new.core) }
+        ensures returns { returns self.new.core.timeline ≡ returns self.old.core.timeline }
         ensures seats { length self.new.core.seats ≡ length self.old.core.seats }
     {
         let Board { core, .. } = self;
         core.told();
+        if seat.get() >= core.seats() as u64 {
+            return Err(Refusal::SeatBusy);
+        }
         core.begin(alloc, seat, call)
     }
 
-    /// One step of a seat's call, by `advance`.
+    /// One step of a seat's call, by `advance`; where the seat is not there, no call is under way on it.
     #[inline(always)]
     pub(crate) fn step(&mut self, seat: SeatNo) -> Stepped
-        requires seat { seat < length self.old.core.seats }
         ensures published { self.new.published ≡ self.old.published }
-        ensures step { Step (state_of self.old.core) seat result (state_of self.new.core) }
+        ensures step { seat < length self.old.core.seats → Step (state_of self.old.core) seat result (state_of self.new.core) }
+        ensures returns { returns self.new.core.timeline ≡ returns self.old.core.timeline + answered result }
         ensures seats { length self.new.core.seats ≡ length self.old.core.seats }
     {
         let Board { core, .. } = self;
         core.told();
+        if seat.get() >= core.seats() as u64 {
+            return Stepped::Idle;
+        }
         advance(core, seat)
     }
 

@@ -3,25 +3,24 @@
 ghost use Rattle.std.specs.Prelude.{◌≡◌, ◌+◌, ◌<◌, ◌≤◌, ◌^◌, ◌++◌, ◌∷◌, ◌||◌, [], None, false, is_some, length, sum_by, vec_len, IfOk, IfSome, OnOk};
 ghost use Rattle.fs_nodes.specs.Graphs.{graph_shapes};
 ghost use Rattle.fs_nodes.specs.Stores.{graph_of};
-ghost use Rattle.fs_calls.specs.Outcomes.{play};
-ghost use Rattle.fs_calls.specs.Starts.{start_tree};
-ghost use Rattle.fs_calls.specs.Tree.{IsTree, root_tree};
+ghost use Rattle.fs_calls.specs.Outcomes.{play, next_start};
+ghost use Rattle.fs_calls.specs.Starts.{root_start, start_tree};
+ghost use Rattle.fs_calls.specs.Tree.{IsTree};
 ghost use Rattle.fs_calls.specs.Sights.{tree_shapes};
 ghost use Rattle.fs_timeline.specs.Timeline.{IsLawful, commits};
-ghost use Rattle.fs_machine.specs.States.{Begins, Step};
+ghost use Rattle.fs_machine.specs.States.{Step};
 ghost use Rattle.fs_core.specs.CoreValues.{state_of};
-ghost use Rattle.fs_share.specs.Boards.{IsListed, IsReady};
+ghost use Rattle.fs_share.specs.Boards.{IsReady};
 ghost use Rattle.fs_share.specs.Returns.{answered, returns, AllReturned};
 
 use crate::board::Board;
 use crate::checkpoint::Ready;
 use crate::session::Tally;
 use crate::tree::{Closed, Whole};
-use fs_calls::{Call, Reply};
-use fs_core::{Refusal, Stepped};
-use fs_names::{CallNo, SeatNo};
+use fs_core::Stepped;
+use fs_names::{Limits, SeatNo};
 use fs_nodes::NodeNo;
-use fs_observe::{Named, NoPlace, Observer, Opened, Stamp};
+use fs_observe::{Named, Opened};
 use fs_timeline::Entry;
 use std::alloc::{AllocError, Global};
 use std::sync::Wait;
@@ -56,20 +55,6 @@ pub(crate) fn count_of(stepped: &Stepped) -> u64
     }
 }
 
-/// One step of a seat's call; where the seat is not there, no call is under way on it.
-#[inline(always)]
-fn step_on<N: Named>(board: &mut Board<N>, seat: SeatNo) -> Stepped
-    ensures step { seat < length board.old.core.seats → Step (state_of board.old.core) seat result (state_of board.new.core) }
-    ensures returns { returns board.new.core.timeline ≡ returns board.old.core.timeline + answered result }
-    ensures seats { length board.new.core.seats ≡ length board.old.core.seats }
-{
-    if seat.get() < board.core().seats() as u64 {
-        board.step(seat)
-    } else {
-        Stepped::Idle
-    }
-}
-
 /// Puts the tallies' shares together.
 fn merge_all<N: Named>(rest: &mut Share<N>, tallies: Vec<Tally<N>>)
     ensures parts { rest.new.parts ≡ rest.old.parts + vec_len tallies }
@@ -91,23 +76,24 @@ fn entry_count<N: Named>(board: &Board<N>) -> usize
 }
 
 impl<N: Named> Desk<N> {
-    /// The root alone: no entry, no seat, and nothing is published. The only error is out of memory.
+    /// The root alone, of these limits: no entry, no seat, and nothing is published. The only error is out of memory.
     pub fn open<R: Wait>(
         rt: &R,
         alloc: Global,
         opened: Opened,
         blank: Blank,
+        limits: Limits,
     ) -> Result<Desk<N>, AllocError>
         requires book { opened ≡ N.book }
         requires name { blank.name ≡ N.name }
         requires parts { blank.parts ≡ N.parts }
         requires all { blank.parts ≡ 2 ^ 63 }
-        ensures start { IfOk result (λ desk. desk.board.core.start ≡ root_tree) }
+        ensures start { IfOk result (λ desk. desk.board.core.start ≡ root_start limits) }
         ensures timeline { IfOk result (λ desk. desk.board.core.timeline ≡ []) }
         ensures seats { IfOk result (λ desk. (desk.board.core.seats ≡ []) × (desk.before ≡ 0)) }
         ensures published { IfOk result (λ desk. desk.board.published ≡ []) }
     {
-        let board = Board::open(rt, alloc, opened)?;
+        let board = Board::open(rt, alloc, opened, limits)?;
         let (book, rest) = blank.open::<N>();
         Ok(Desk {
             board,
@@ -137,17 +123,6 @@ impl<N: Named> Desk<N> {
         Ok((seat, rest.split_off(1, 0)))
     }
 
-    /// A call begins on a seat.
-    pub fn begin(&mut self, alloc: Global, seat: SeatNo, call: &Call) -> Result<CallNo, Refusal>
-        ensures begins { seat < length self.old.board.core.seats → Begins (state_of self.old.board.core) seat call.now result (state_of self.new.board.core) }
-        ensures sleepers { self.new.sleepers ≡ self.old.sleepers }
-    {
-        if seat.get() >= self.board.core().seats() as u64 {
-            return Err(Refusal::SeatBusy);
-        }
-        self.board.begin(alloc, seat, call)
-    }
-
     /// One step of a seat's call. A call that returns counts for the share.
     #[inline(always)]
     pub fn step(&mut self, seat: SeatNo, mine: &mut Share<N>) -> Stepped
@@ -159,18 +134,11 @@ impl<N: Named> Desk<N> {
         ensures room { mine.new.amount < 2 ^ 64 }
     {
         let Desk { board, book, .. } = self;
-        let stepped = step_on(board, seat);
+        let stepped = board.step(seat);
         book.add(mine, count_of(&stepped));
         let _room = entry_count(board);
         book.audit(mine);
         stepped
-    }
-
-    /// Whether a call holds a node.
-    pub fn is_held(&self, node: NodeNo) -> bool
-        ensures { result ≡ is_some ((state_of self.now.board.core).holder node) }
-    {
-        self.board.core().holder(node).is_some()
     }
 
     /// Whether a call holds a node: whoever asks then goes to sleep, which is kept until the next wake-up.
@@ -179,7 +147,7 @@ impl<N: Named> Desk<N> {
         ensures core { self.new.board.core ≡ self.old.board.core }
         ensures sleepers { self.new.sleepers ≡ (self.old.sleepers || result) }
     {
-        let held = self.is_held(node);
+        let held = self.board.core().holder(node).is_some();
         self.sleepers = self.sleepers || held;
         held
     }
@@ -193,31 +161,6 @@ impl<N: Named> Desk<N> {
         let sleepers = self.sleepers;
         self.sleepers = false;
         sleepers
-    }
-
-    /// An observer that was told nothing yet.
-    pub fn observer<'a>(&mut self) -> Result<Observer<'a, N>, NoPlace>
-        ensures board { self.new.board ≡ self.old.board }
-        ensures sleepers { self.new.sleepers ≡ self.old.sleepers }
-        ensures first { IfOk result (λ o. o ≡ record { start = self.old.board.core.start; list = [] }) }
-    {
-        let Desk { board, .. } = self;
-        board.observer()
-    }
-
-    /// Publishes each commit, and tells of a call.
-    pub fn tell<R: Wait>(
-        &mut self,
-        rt: &R,
-        alloc: Global,
-        number: CallNo,
-        call: &Call,
-        reply: &Reply,
-    ) -> (usize, Option<Stamp<N>>)
-        ensures { IfSome result.1 (λ stamp. IsListed stamp.start stamp.list result.0 call.now reply.now) }
-    {
-        let Desk { board, .. } = self;
-        board.tell(rt, alloc, number, call, reply)
     }
 
     /// The same core under another name, with its timeline begun again; and the entries so far.
@@ -235,7 +178,7 @@ impl<N: Named> Desk<N> {
         requires all { blank.parts ≡ 2 ^ 63 }
         ensures tree { IsTree (start_tree self.board.core.start) }
         ensures lawful { IsLawful self.board.core.start result.1.items }
-        ensures start { result.0.board.core.start ≡ play self.board.core.start (commits result.1.items) }
+        ensures start { result.0.board.core.start ≡ next_start self.board.core.start (commits result.1.items) }
         ensures counted { sum_by (λ tally. tally.count) tallies.items ≤ returns result.1.items }
     {
         let Desk {

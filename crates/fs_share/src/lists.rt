@@ -13,6 +13,7 @@ use crate::session::Tally;
 use crate::tree::{AtomFs, Closed};
 use fs_calls::Call;
 use fs_core::Refusal;
+use fs_names::Limits;
 use fs_observe::{Named, Opened};
 use std::alloc::Global;
 use std::marker::Brand;
@@ -158,7 +159,7 @@ fn play_lists<N: Named + Send + Sync, R: Threads + Wait + Clock + Sync, G: Gate 
     )
 }
 
-/// The same on a tree of a name of its own.
+/// The same on a tree of a name of its own, of these limits.
 fn run_named<N: Named + Send + Sync, R: Threads + Wait + Clock + Sync, G: Gate + Sync>(
     rt: &R,
     alloc: Global,
@@ -166,6 +167,7 @@ fn run_named<N: Named + Send + Sync, R: Threads + Wait + Clock + Sync, G: Gate +
     blank: Blank,
     lists: &[Vec<Call>],
     gate: &G,
+    limits: Limits,
 ) -> Result<Closed, ListsFault>
     requires book { opened ≡ N.book }
     requires name { blank.name ≡ N.name }
@@ -175,7 +177,7 @@ fn run_named<N: Named + Send + Sync, R: Threads + Wait + Clock + Sync, G: Gate +
     ensures spelled { IfOk result (λ closed. AllReturned closed.timeline.entries → graph_shapes (graph_of closed.store) ≡ tree_shapes (play closed.start (commits closed.timeline.entries))) }
     ensures returns { IfOk result (λ closed. returns closed.timeline.entries ≡ sum_by vec_len lists.now) }
 {
-    let fs = AtomFs::<N>::open(rt, alloc, opened, blank).map_err(|_| out_of_memory())?;
+    let fs = AtomFs::<N>::open_with(rt, alloc, opened, blank, limits).map_err(|_| out_of_memory())?;
     match play_lists(rt, alloc, &fs, lists, gate) {
         Ok(tallies) => {
             let workers = tallies.len();
@@ -192,9 +194,32 @@ fn run_named<N: Named + Send + Sync, R: Threads + Wait + Clock + Sync, G: Gate +
     }
 }
 
-/// Plays each list on a new tree by a worker of its own, with a session of its own, and ends the tree. A list is played from
-/// its first call to its last; in which order calls of different lists come is nobody's promise. Each worker has ended when
-/// this answers, also where it answers an error; the tree is ended and dropped then.
+/// Plays each list on a new tree of these limits by a worker of its own, with a session of its own, and ends the tree. A list
+/// is played from its first call to its last; in which order calls of different lists come is nobody's promise. Each worker
+/// has ended when this answers, also where it answers an error; the tree is ended and dropped then.
+pub fn run_lists_with<R: Threads + Wait + Clock + Sync, G: Gate + Sync>(
+    rt: &R,
+    alloc: Global,
+    lists: &[Vec<Call>],
+    gate: &G,
+    limits: Limits,
+) -> Result<Closed, ListsFault>
+    ensures lawful { IfOk result (λ closed. IsLawful closed.start closed.timeline.entries) }
+    ensures spelled { IfOk result (λ closed. AllReturned closed.timeline.entries → graph_shapes (graph_of closed.store) ≡ tree_shapes (play closed.start (commits closed.timeline.entries))) }
+    ensures returns { IfOk result (λ closed. returns closed.timeline.entries ≡ sum_by vec_len lists.now) }
+{
+    run_named::<Brand, R, G>(
+        rt,
+        alloc,
+        Opened::new(),
+        Blank::new(1 << 63),
+        lists,
+        gate,
+        limits,
+    )
+}
+
+/// The same by the limits of the second version.
 pub fn run_lists<R: Threads + Wait + Clock + Sync, G: Gate + Sync>(
     rt: &R,
     alloc: Global,
@@ -205,5 +230,5 @@ pub fn run_lists<R: Threads + Wait + Clock + Sync, G: Gate + Sync>(
     ensures spelled { IfOk result (λ closed. AllReturned closed.timeline.entries → graph_shapes (graph_of closed.store) ≡ tree_shapes (play closed.start (commits closed.timeline.entries))) }
     ensures returns { IfOk result (λ closed. returns closed.timeline.entries ≡ sum_by vec_len lists.now) }
 {
-    run_named::<Brand, R, G>(rt, alloc, Opened::new(), Blank::new(1 << 63), lists, gate)
+    run_lists_with(rt, alloc, lists, gate, Limits::V2)
 }

@@ -2,7 +2,6 @@
 
 ghost use Rattle.std.specs.Prelude.{◌≡◌, ◌+◌, IfOk, IfSome, OnOk, OnErr};
 ghost use Rattle.fs_share.specs.Boards.{IsListed};
-ghost use Rattle.fs_share.specs.Returns.{answered};
 
 use crate::desk::count_of;
 use crate::gate::Gate;
@@ -10,7 +9,6 @@ use crate::tree::AtomFs;
 use fs_calls::{Call, Reply};
 use fs_core::{Refusal, Stepped};
 use fs_names::{CallNo, SeatNo};
-use fs_nodes::NodeNo;
 use fs_observe::{Named, Stamp};
 use std::alloc::Global;
 use std::sync::Wait;
@@ -75,10 +73,20 @@ impl<'a, N: Named> Session<'a, N> {
         ensures ok { OnOk result (self.new.count ≡ self.old.count + 1) }
         ensures err { OnErr result (self.new.count ≡ self.old.count) }
     {
-        let number = self.fs.begin(rt, alloc, self.seat, call)?;
+        let Session {
+            fs,
+            seat,
+            count,
+            share,
+        } = self;
+        let seat = *seat;
+        let number = fs
+            .desk
+            .locked(rt, |desk| desk.board.begin(alloc, seat, call))?;
         let mut wanted = None;
         for _ in rt.forever() {
-            let stepped = self.event(rt, wanted);
+            let stepped = fs.step(rt, seat, wanted, share);
+            *count += count_of(&stepped);
             gate.after(rt, &stepped);
             wanted = match stepped {
                 Stepped::Returned(reply) => {
@@ -112,28 +120,14 @@ impl<'a, N: Named> Session<'a, N> {
         ensures told { IfOk result (λ told. IfSome told.stamp (λ stamp. IsListed stamp.start stamp.list told.place call.now told.answer.reply)) }
     {
         let answer = self.call(rt, alloc, call, gate)?;
-        let (place, stamp) = self.fs.tell(rt, alloc, answer.call, call, &answer.reply);
+        let (place, stamp) = self.fs.desk.locked(rt, |desk| {
+            desk.board.tell(rt, alloc, answer.call, call, &answer.reply)
+        });
         Ok(Told {
             answer,
             place,
             stamp,
         })
-    }
-
-    /// One step under the lock, once the node that is wanted is free.
-    #[inline(always)]
-    fn event<R: Wait>(&mut self, rt: &R, wanted: Option<NodeNo>) -> Stepped
-        ensures { self.new.count ≡ self.old.count + answered result }
-    {
-        let Session {
-            fs,
-            seat,
-            count,
-            share,
-        } = self;
-        let stepped = fs.step(rt, *seat, wanted, share);
-        *count += count_of(&stepped);
-        stepped
     }
 
     /// How many calls have returned.

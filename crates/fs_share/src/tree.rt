@@ -1,37 +1,29 @@
 //! A tree that sessions share, and its end.
 
-ghost use Rattle.std.specs.Prelude.{[], ◌≡◌, ◌+◌, ◌<◌, ◌≤◌, ◌^◌, length, vec_len, sum_by, IfOk, IfErr, IfSome};
+ghost use Rattle.std.specs.Prelude.{[], ◌≡◌, ◌+◌, ◌<◌, ◌≤◌, ◌^◌, vec_len, sum_by, IfOk, IfErr};
 ghost use Rattle.fs_nodes.specs.Graphs.{graph_shapes};
 ghost use Rattle.fs_nodes.specs.Stores.{graph_of};
-ghost use Rattle.fs_calls.specs.Outcomes.{play};
+ghost use Rattle.fs_calls.specs.Outcomes.{play, next_start};
 ghost use Rattle.fs_calls.specs.Starts.{Start, start_tree};
 ghost use Rattle.fs_calls.specs.Tree.{IsTree};
 ghost use Rattle.fs_calls.specs.Sights.{tree_shapes};
 ghost use Rattle.fs_timeline.specs.Timeline.{IsLawful, commits};
-ghost use Rattle.fs_share.specs.Boards.{IsListed};
 ghost use Rattle.fs_share.specs.Returns.{answered, returns, AllReturned};
 
 use crate::checkpoint::{NotKept, make_ready};
 use crate::desk::Desk;
+use crate::lock::Lock;
 use crate::session::{Session, Tally};
-use fs_calls::{Call, Reply};
-use fs_core::{Refusal, Stepped};
-use fs_names::{CallNo, SeatNo};
+use fs_core::Stepped;
+use fs_names::{Limits, SeatNo};
 use fs_nodes::{NodeNo, Store};
 use fs_observe::{Named, NoPlace, Observer, Opened, Stamp};
 use fs_seq::SeqTree;
 use fs_timeline::{Entry, Timeline};
 use std::alloc::{AllocError, Global};
-use std::hint::spin_loop;
 use std::marker::PhantomData;
 use std::sync::ledger::{Blank, Share};
-use std::sync::{Condvar, Mutex, MutexGuard, Wait};
-
-/// How often a thread looks for the lock of an event before it sleeps for it, and after how many pauses of the processor it
-/// looks for the first time.
-const LOOKS: u32 = 6;
-
-const PAUSES: u32 = 64;
+use std::sync::{Condvar, MutexGuard, Wait};
 
 /// That the tree's ledger has 2^63 parts.
 #[derive(Drop)]
@@ -42,7 +34,7 @@ pub(crate) struct Whole<N: Named> {
 
 /// A tree that sessions share, and that observers read. It is not `Drop`: end it by `close`.
 pub struct AtomFs<N: Named> {
-    desk: Mutex<Desk<N>>,
+    pub(crate) desk: Lock<Desk<N>>,
     freed: Condvar,
     whole: Whole<N>,
 }
@@ -58,9 +50,26 @@ pub struct Closed {
 }
 
 impl<N: Named> AtomFs<N> {
-    /// A tree with the root alone, under the name of this blank and this history: no entry, no session, nothing published.
-    /// No clause can name what a lock keeps, so that stands at what this is made of (`Desk::open`). The only error is out of
-    /// memory. Most callers want `with_tree`, which asks for nothing.
+    /// A tree with the root alone, of these limits, under the name of this blank and this history: no entry, no session,
+    /// nothing published. No clause can name what a lock keeps, so that stands at what this is made of (`Desk::open`). The
+    /// only error is out of memory. Most callers want `with_tree`, which asks for nothing.
+    pub fn open_with<R: Wait>(
+        rt: &R,
+        alloc: Global,
+        opened: Opened,
+        blank: Blank,
+        limits: Limits,
+    ) -> Result<AtomFs<N>, AllocError>
+        requires book { opened ≡ N.book }
+        requires name { blank.name ≡ N.name }
+        requires parts { blank.parts ≡ N.parts }
+        requires all { blank.parts ≡ 2 ^ 63 }
+    {
+        let desk = Desk::open(rt, alloc, opened, blank, limits)?;
+        Ok(AtomFs::around(desk))
+    }
+
+    /// The same by the limits of the second version.
     pub fn open<R: Wait>(
         rt: &R,
         alloc: Global,
@@ -72,7 +81,7 @@ impl<N: Named> AtomFs<N> {
         requires parts { blank.parts ≡ N.parts }
         requires all { blank.parts ≡ 2 ^ 63 }
     {
-        Ok(AtomFs::around(Desk::open(rt, alloc, opened, blank)?))
+        AtomFs::open_with(rt, alloc, opened, blank, Limits::V2)
     }
 
     /// A lock round what it keeps.
@@ -80,44 +89,10 @@ impl<N: Named> AtomFs<N> {
         requires { N.parts ≡ 2 ^ 63 }
     {
         AtomFs {
-            desk: Mutex::new(desk),
+            desk: Lock::new(desk),
             freed: Condvar::new(),
             whole: Whole { of: PhantomData },
         }
-    }
-
-    /// The lock. Whoever has it has it for one event, and a sleep takes longer than hundreds of them. So a thread that
-    /// finds it taken first looks again some times, each time after twice as many pauses, and sleeps for it only then.
-    #[inline(always)]
-    fn lock<R: Wait>(&self, rt: &R) -> MutexGuard<'_, Desk<N>> {
-        match self.desk.try_lock() {
-            Some(desk) => desk,
-            None => self.lock_taken(rt),
-        }
-    }
-
-    /// The same where another thread has the lock just now.
-    #[inline(never)]
-    fn lock_taken<R: Wait>(&self, rt: &R) -> MutexGuard<'_, Desk<N>> {
-        for turn in 0..LOOKS {
-            for _ in 0..(PAUSES << turn) {
-                spin_loop();
-            }
-            if let Some(desk) = self.desk.try_lock() {
-                return desk;
-            }
-        }
-        self.desk.lock(rt)
-    }
-
-    /// One more seat, with a part of the ledger. The only error is out of memory.
-    fn seat<R: Wait>(&self, rt: &R) -> Result<(SeatNo, Share<N>), AllocError>
-        ensures { IfOk result (λ made. (made.1.parts ≡ 1) × (made.1.amount ≡ 0)) }
-    {
-        let mut desk = self.lock(rt);
-        let made = desk.seat();
-        MutexGuard::unlock(desk);
-        made
     }
 
     /// A session with a seat of its own. The seat is there for as long as the tree is, some 400 bytes: a seat whose session
@@ -125,15 +100,13 @@ impl<N: Named> AtomFs<N> {
     pub fn session<R: Wait>(&self, rt: &R) -> Result<Session<'_, N>, AllocError>
         ensures { IfOk result (λ session. session.count ≡ 0) }
     {
-        match self.seat(rt) {
-            Ok((seat, share)) => Ok(Session {
-                fs: self,
-                seat,
-                count: 0,
-                share,
-            }),
-            Err(refused) => Err(refused),
-        }
+        let (seat, share) = self.desk.locked(rt, |desk| desk.seat())?;
+        Ok(Session {
+            fs: self,
+            seat,
+            count: 0,
+            share,
+        })
     }
 
     /// An observer that was told nothing yet. The error is that none of the 64 reader places is free, or that there is no
@@ -141,24 +114,11 @@ impl<N: Named> AtomFs<N> {
     pub fn observer<R: Wait>(&self, rt: &R) -> Result<Observer<'_, N>, NoPlace>
         ensures { IfOk result (λ observer. observer.list ≡ []) }
     {
-        let mut desk = self.lock(rt);
-        let observer = desk.observer();
+        // By a guard: the borrow checker covers no closure that answers what names the tree's lifetime.
+        let mut desk = self.desk.take(rt);
+        let observer = desk.board.observer();
         MutexGuard::unlock(desk);
         observer
-    }
-
-    /// A call begins on a seat.
-    pub(crate) fn begin<R: Wait>(
-        &self,
-        rt: &R,
-        alloc: Global,
-        seat: SeatNo,
-        call: &Call,
-    ) -> Result<CallNo, Refusal> {
-        let mut desk = self.lock(rt);
-        let begun = desk.begin(alloc, seat, call);
-        MutexGuard::unlock(desk);
-        begun
     }
 
     /// The lock, once no call holds a node.
@@ -167,8 +127,8 @@ impl<N: Named> AtomFs<N> {
     /// `LetGo` comes under the lock, and the first one behind it takes that word and wakes all who sleep. Whoever finds
     /// a node held after that says so anew.
     #[inline(never)]
-    fn lock_free<R: Wait>(&self, rt: &R, node: NodeNo) -> MutexGuard<'_, Desk<N>> {
-        let desk = self.lock(rt);
+    fn take_free<R: Wait>(&self, rt: &R, node: NodeNo) -> MutexGuard<'_, Desk<N>> {
+        let desk = self.desk.take(rt);
         self.freed
             .wait_while(rt, desk, |desk| desk.sleeps_for(node))
     }
@@ -188,8 +148,8 @@ impl<N: Named> AtomFs<N> {
         ensures room { mine.new.amount < 2 ^ 64 }
     {
         let mut desk = match wanted {
-            None => self.lock(rt),
-            Some(node) => self.lock_free(rt, node),
+            None => self.desk.take(rt),
+            Some(node) => self.take_free(rt, node),
         };
         let stepped = desk.step(seat, mine);
         let wakes = matches!(stepped, Stepped::LetGo(_)) && desk.take_sleepers();
@@ -200,31 +160,11 @@ impl<N: Named> AtomFs<N> {
         stepped
     }
 
-    /// Publishes each commit, and tells of a call.
-    pub(crate) fn tell<R: Wait>(
-        &self,
-        rt: &R,
-        alloc: Global,
-        number: CallNo,
-        call: &Call,
-        reply: &Reply,
-    ) -> (usize, Option<Stamp<N>>)
-        ensures { IfSome result.1 (λ stamp. IsListed stamp.start stamp.list result.0 call.now reply.now) }
-    {
-        let mut desk = self.lock(rt);
-        let told = desk.tell(rt, alloc, number, call, reply);
-        MutexGuard::unlock(desk);
-        told
-    }
-
     /// A stamp of the list of no calls: it tells the tree at which the timeline starts.
     pub fn first<R: Wait>(&self, rt: &R) -> Stamp<N>
         ensures { result.list ≡ [] }
     {
-        let desk = self.lock(rt);
-        let stamp = desk.board.first();
-        MutexGuard::unlock(desk);
-        stamp
+        self.desk.locked(rt, |desk| desk.board.first())
     }
 
     /// The timeline begins again at the tree that it has come to, under another name, and its entries so far are handed
@@ -274,7 +214,7 @@ impl<N: Named> AtomFs<N> {
 
         // The entries are lawful from the tree at which the stamp's list starts, and the new tree starts at what they play.
         ensures lawful { IfOk result (λ kept. IsTree (start_tree told.now.start) × IsLawful told.now.start kept.1.items) }
-        ensures start { IfOk result (λ kept. kept.2 ≡ record { start = play told.now.start (commits kept.1.items); list = [] }) }
+        ensures start { IfOk result (λ kept. kept.2 ≡ record { start = next_start told.now.start (commits kept.1.items); list = [] }) }
 
         // At least as many calls returned as the tallies add up to.
         ensures counted { IfOk result (λ kept. sum_by (λ tally. tally.count) tallies.items ≤ returns kept.1.items) }
@@ -291,7 +231,7 @@ impl<N: Named> AtomFs<N> {
             }
             Err(why) => Err(NotKept {
                 fs: AtomFs {
-                    desk: Mutex::new(desk),
+                    desk: Lock::new(desk),
                     freed,
                     whole,
                 },

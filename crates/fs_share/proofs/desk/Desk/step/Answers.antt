@@ -5,5 +5,5 @@ use Rattle.fs_share.proofs.desk.Desk.step.Goals as goal
 pub returns-clause-room : goal.returns-clause-room
 returns-clause-room g c =
     let s = c.args.self.now in
-    let core = c.step_on-stepped.new.board.core in
-    omega (arith, s.counted, c.step_on-stepped.ensures.returns, c.count_of.ensures, c.add.ensures.total, c.audit.ensures.bound, c.audit.ensures.amount, c.entry_count-room.ensures.count, c.entry_count-room.ensures.bound, returns_le core.timeline)
+    let core = c.step-stepped.new.self.core in
+    omega (arith, s.counted, c.step-stepped.ensures.returns, c.count_of.ensures, c.add.ensures.total, c.audit.ensures.bound, c.audit.ensures.amount, c.entry_count-room.ensures.count, c.entry_count-room.ensures.bound, returns_le core.timeline)

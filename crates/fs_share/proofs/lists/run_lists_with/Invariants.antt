@@ -1,4 +1,4 @@
-use Rattle.fs_share.proofs.lists.run_lists.Given as goal
+use Rattle.fs_share.proofs.lists.run_lists_with.Given as goal
 
 abbrev pub ghosts-run_named-N-Named : goal.ghosts-run_named-N-Named
 ghosts-run_named-N-Named g a = record { book = a.opened }
