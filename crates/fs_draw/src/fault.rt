@@ -4,8 +4,8 @@ ghost use Rattle.std.specs.Prelude.{◌≡◌};
 ghost use Rattle.fs_draw.specs.Faults.{fault_between, status_of_draw};
 
 use fs_io::Failure;
+use fs_record::TraceFault;
 use fs_sched::RunFault;
-use fs_trace::TraceFault;
 use thiserror::Error;
 
 /// Why no picture was written.

@@ -1,8 +1,8 @@
 //! What stands round the rows of a picture: its head with the colours, its heading, and the legend.
 
 use crate::ink::Ink;
-use crate::scene::{Scene, What};
-use crate::space::{add, less};
+use fs_layout::{add, less};
+use fs_scene::{Scene, What};
 use std::alloc::{AllocError, Global};
 
 /// The colours, on light ground, on dark ground and in print; the hatch; and the ground.
@@ -88,14 +88,14 @@ pub(crate) fn heading_of(alloc: Global, scene: &Scene) -> Result<Vec<u8>, AllocE
     Ok(words.into_text())
 }
 
-/// The head of the file, up to the heading.
+/// The head of the file from its first attribute on, up to the heading.
 pub(crate) fn write_head(
     width: u64,
     height: u64,
     heading: &[u8],
     ink: &mut Ink,
 ) -> Result<(), AllocError> {
-    ink.with(b"<svg xmlns=\"http://www.w3.org/2000/svg\" width=\"", width)?;
+    ink.with(b"xmlns=\"http://www.w3.org/2000/svg\" width=\"", width)?;
     ink.with(b"\" height=\"", height)?;
     ink.with(b"\" viewBox=\"0 0 ", width)?;
     ink.with(b" ", height)?;

@@ -1,6 +1,6 @@
 //! The text of a picture, as it is written.
 
-use crate::scene::{ARROW, ELLIPSIS};
+use fs_scene::{ARROW, ELLIPSIS};
 use itoa::Buffer;
 use std::alloc::{AllocError, Global};
 

@@ -1,13 +1,14 @@
 //! The whole picture.
 
+ghost use Rattle.std.specs.Prelude.{IfOk};
+ghost use Rattle.fs_draw.specs.Pictures.{IsPicture};
+
 use crate::head::{heading_of, write_head, write_legend};
-use crate::heights::bands_of;
 use crate::ink::Ink;
-use crate::pieces::Rows;
-use crate::places::{Places, places_of};
 use crate::row_text::Canvas;
-use crate::scene::Scene;
-use crate::space::{Frame, ROW_GAP, add, frame_of, heading_width};
+use fs_layout::{Frame, Places, ROW_GAP, Rows, add, bands_of, frame_of, heading_width, places_of};
+use fs_scene::Scene;
+use fs_words::Addition;
 use std::alloc::{AllocError, Global};
 
 /// The least width of a picture.
@@ -42,8 +43,8 @@ fn write_rows(canvas: &Canvas<'_>, top: u64, ink: &mut Ink) -> Result<u64, Alloc
     Ok(y)
 }
 
-/// The picture of a scene, as the text of an SVG file. It is a function of the scene.
-pub(crate) fn picture_of(alloc: Global, scene: &Scene) -> Result<Vec<u8>, AllocError> {
+/// What stands in a picture between the beginning of its first tag and its last one.
+fn middle_of(alloc: Global, scene: &Scene) -> Result<Vec<u8>, AllocError> {
     let heading = heading_of(alloc, scene)?;
     let wide = frame_of(scene.lanes.as_slice());
     let places = places_of(alloc, scene, wide)?;
@@ -70,6 +71,17 @@ pub(crate) fn picture_of(alloc: Global, scene: &Scene) -> Result<Vec<u8>, AllocE
     let mut ink = Ink::new(alloc);
     write_head(frame.width, add(y, 8), heading.as_slice(), &mut ink)?;
     ink.raw(body.into_text().as_slice())?;
-    ink.raw(b"</svg>\n")?;
     Ok(ink.into_text())
+}
+
+/// The picture of a scene, as the text of an SVG file. It is a function of the scene.
+pub(crate) fn picture_of(alloc: Global, scene: &Scene) -> Result<Vec<u8>, AllocError>
+    ensures { IfOk result (λ text. IsPicture text.items) }
+{
+    let middle = middle_of(alloc, scene)?;
+    let mut text = Addition::new(Vec::new(alloc));
+    text.push(b"<svg ")?;
+    text.push(middle.as_slice())?;
+    text.push(b"</svg>\n")?;
+    Ok(text.kept())
 }

@@ -1,13 +1,12 @@
 //! A row, written.
 
-use crate::heights::{Band, Bands};
 use crate::ink::Ink;
-use crate::labels::{label_of, push_cut, push_number};
-use crate::pieces::{Arrow, Bar, Dot, Hold, Part, Piece, Row};
-use crate::places::Places;
-use crate::scene::{Card, Scene};
-use crate::space::{BAR_HEIGHT, BOX_HEIGHT, Frame, add, less, small_width};
 use crate::tips::write_tip;
+use fs_layout::{
+    Arrow, BAR_HEIGHT, BOX_HEIGHT, Band, Bands, Bar, Dot, Frame, Hold, Part, Piece, Places, Row,
+    add, less, small_width,
+};
+use fs_scene::{Card, Scene, label_of, push_cut, push_number};
 use std::alloc::{AllocError, Global};
 
 /// What is drawn, its places, and the frame.

@@ -1,65 +1,77 @@
 //! The runner that draws a script's run, or a journal.
 
-ghost use Rattle.std.specs.Prelude.{◌-◌, ◌<◌, ◌^◌};
+ghost use Rattle.std.specs.Prelude.{◌≡◌, ◌≢◌, ◌⊎◌, ◌+◌, ◌-◌, ◌<◌, ◌^◌, ℕ, Bool, List, Option, Ok, Err, Some, IfOk, OnOk, OnErr, IfErr, IfSome, IsErrOf};
+ghost use Rattle.std.specs.Io.KnownBytes.{Appends, IsAtEnd};
+ghost use Rattle.fs_words.specs.declared.fault.ScriptFault.{ScriptFault};
+ghost use Rattle.fs_script.specs.Script.{script_of};
+ghost use Rattle.fs_sched.specs.Checks.{verdict_of};
+ghost use Rattle.fs_sched.specs.Devices.{WritesBeginning};
+ghost use Rattle.fs_record.specs.Recordings.{HasCheckpoint};
+ghost use Rattle.fs_draw.specs.Faults.{IsFaultOfPicture};
+ghost use Rattle.fs_draw.specs.Pictures.{IsOfJournal, IsOfRun, IsPictureOf};
+ghost use Rattle.fs_draw.specs.code.Mades.{MakesPicture, out_of_memory};
 
-use crate::around::around;
 use crate::fault::DrawFault;
-use crate::from_journal::scene_of_journal;
-use crate::from_run::scene_of_run;
 use crate::picture::picture_of;
-use crate::scene::Scene;
 use fs_io::{Made, Sink, Source, transform};
 use fs_journal::check_from;
-use fs_sched::{EntryKind, RunFault, Schedule, is_lawful, number_of, run_fault};
-use fs_script::{Script, ScriptFault, read_journal, read_script};
-use fs_trace::{TraceFault, record};
+use fs_record::{TraceFault, recorded};
+use fs_scene::{Scene, around, scene_of_journal, scene_of_run};
+use fs_sched::{RunFault, Schedule, is_lawful, journal_in, run_end};
 use std::alloc::{AllocError, Global};
 
-fn no_memory<T>(made: Result<T, AllocError>) -> Result<T, DrawFault> {
-    match made {
-        Ok(value) => Ok(value),
-        Err(_) => Err(DrawFault::Trace(TraceFault::Run(RunFault::OutOfMemory))),
-    }
+/// The fault where memory ran out.
+fn out_of_memory() -> DrawFault
+    ensures { result ≡ out_of_memory }
+{
+    DrawFault::Trace(TraceFault::Run(RunFault::OutOfMemory))
 }
 
-/// The fault where an input is no script, or no journal.
-fn no_input(fault: ScriptFault) -> DrawFault {
-    DrawFault::Trace(TraceFault::Run(run_fault(fault)))
-}
-
-/// How many calls a script has.
-fn calls_of(script: &Script) -> usize {
-    let mut calls = 0usize;
-    for list in script.lists.as_slice() {
-        calls = calls.saturating_add(list.len());
-    }
-    calls
+/// A scene, and whether what it shows went well.
+#[derive(Drop)]
+struct Drawing {
+    scene: Scene,
+    well: bool,
 }
 
 /// The scene of a script's run, and whether each call returned.
-fn of_script(alloc: Global, text: &[u8], schedule: Schedule) -> Result<(Scene, bool), DrawFault> {
-    let script = match read_script(alloc, text) {
-        Ok(script) => script,
-        Err(fault) => return Err(no_input(fault)),
-    };
-    let recording = match record(alloc, &script, schedule) {
-        Ok(recording) => recording,
+fn of_script(alloc: Global, text: &[u8], schedule: Schedule) -> Result<Drawing, DrawFault>
+    ensures drawn { IfOk result (λ drawing. IsOfRun schedule text.now drawing.well) }
+    ensures fault { (call : Option ℕ) → IfErr result (IsFaultOfPicture schedule call text.now) }
+{
+    let (script, recording) = match recorded(alloc, text, schedule) {
+        Ok(made) => made,
         Err(fault) => return Err(DrawFault::Trace(fault)),
     };
-    let whole = number_of(EntryKind::Return, recording.core.timeline()) == calls_of(&script);
-    let scene = no_memory(scene_of_run(alloc, &script, recording.told.as_slice()))?;
-    Ok((scene, whole))
+    let end = run_end(&script, recording.core.timeline());
+    let Ok(scene) = scene_of_run(alloc, &script, recording.told.as_slice()) else {
+        return Err(out_of_memory());
+    };
+    Ok(Drawing {
+        scene,
+        well: end.returned == end.calls,
+    })
 }
 
 /// The scene of a journal, and whether that is lawful.
-fn of_journal(alloc: Global, text: &[u8]) -> Result<(Scene, bool), DrawFault> {
-    let journal = match read_journal(alloc, text) {
+fn of_journal(alloc: Global, text: &[u8]) -> Result<Drawing, DrawFault>
+    ensures drawn { IfOk result (λ drawing. IsOfJournal text.now drawing.well) }
+    ensures fault { (schedule : Schedule) (call : Option ℕ) → IfErr result (IsFaultOfPicture schedule call text.now) }
+{
+    let journal = match journal_in(alloc, text) {
         Ok(journal) => journal,
-        Err(fault) => return Err(no_input(fault)),
+        Err(fault) => return Err(DrawFault::Trace(TraceFault::Run(fault))),
     };
-    let verdict = no_memory(check_from(alloc, &journal.start, journal.entries.as_slice()))?;
-    let scene = no_memory(scene_of_journal(alloc, &journal, &verdict))?;
-    Ok((scene, is_lawful(&verdict)))
+    let Ok(verdict) = check_from(alloc, &journal.start, journal.entries.as_slice()) else {
+        return Err(out_of_memory());
+    };
+    let Ok(scene) = scene_of_journal(alloc, &journal, &verdict) else {
+        return Err(out_of_memory());
+    };
+    Ok(Drawing {
+        scene,
+        well: is_lawful(&verdict),
+    })
 }
 
 /// Whether a text is to be read as a journal.
@@ -67,14 +79,29 @@ fn is_journal(text: &[u8]) -> bool {
     text.starts_with(b"atomfs-journal")
 }
 
+/// The scene of a text, and whether what it shows went well.
+fn drawing_of(alloc: Global, text: &[u8], schedule: Schedule) -> Result<Drawing, DrawFault>
+    ensures drawn { IfOk result (λ drawing. IsOfRun schedule text.now drawing.well ⊎ IsOfJournal text.now drawing.well) }
+    ensures fault { (call : Option ℕ) → IfErr result (IsFaultOfPicture schedule call text.now) }
+{
+    if is_journal(text) {
+        of_journal(alloc, text)
+    } else {
+        of_script(alloc, text, schedule)
+    }
+}
+
 /// The part of a scene around a call, or the whole.
-fn part_of(alloc: Global, scene: Scene, call: Option<u64>) -> Result<Scene, DrawFault> {
+fn part_of(alloc: Global, scene: Scene, call: Option<u64>) -> Result<Scene, DrawFault>
+    ensures { (schedule : Schedule) (input : List ℕ) → IfErr result (IsFaultOfPicture schedule call input) }
+{
     let Some(number) = call else {
         return Ok(scene);
     };
-    match no_memory(around(alloc, scene, number))? {
-        Some(part) => Ok(part),
-        None => Err(DrawFault::NoCall(number)),
+    match around(alloc, scene, number) {
+        Ok(Some(part)) => Ok(part),
+        Ok(None) => Err(DrawFault::NoCall(number)),
+        Err(_) => Err(out_of_memory()),
     }
 }
 
@@ -84,19 +111,17 @@ fn draw_text(
     text: Vec<u8>,
     schedule: Schedule,
     call: Option<u64>,
-) -> Result<Made<bool>, DrawFault> {
-    let (scene, well) = if is_journal(text.as_slice()) {
-        of_journal(alloc, text.as_slice())?
-    } else {
-        of_script(alloc, text.as_slice(), schedule)?
-    };
+) -> Result<Made<bool>, DrawFault>
+    ensures { MakesPicture schedule call text.items result }
+{
+    let drawing = drawing_of(alloc, text.as_slice(), schedule)?;
     drop(text);
-    let part = part_of(alloc, scene, call)?;
-    let picture = no_memory(picture_of(alloc, &part))?;
-    Ok(Made {
-        text: picture,
-        end: well,
-    })
+    let well = drawing.well;
+    let part = part_of(alloc, drawing.scene, call)?;
+    match picture_of(alloc, &part) {
+        Ok(text) => Ok(Made { text, end: well }),
+        Err(_) => Err(out_of_memory()),
+    }
 }
 
 /// Reads a script to its end, runs it by a schedule and draws its run; or reads a journal and draws that, whatever the schedule.
@@ -112,12 +137,29 @@ pub fn draw_input<R: Source, W: Sink>(
 ) -> Result<bool, DrawFault>
     requires reads { R.failures reader.old < 2 ^ 64 - 1 }
     requires writes { W.failures writer.old < 2 ^ 64 - 1 }
+
+    // What is written is a picture of a run of the script that was read, or of the journal, and the answer how that went.
+    ensures ran { IfOk result (λ well. (text : List ℕ) × IfSome (R.remaining reader.old) (λ input. IsPictureOf schedule input well text) × Appends (W.contents writer.old) (W.contents writer.new) text) }
+    ensures end { OnOk result (IsAtEnd (R.remaining reader.new)) }
+    ensures input { (f : ScriptFault) → result ≡ Err (DrawFault.Trace (TraceFault.Run (RunFault.Input f))) → IfSome (R.remaining reader.old) (λ input. (script_of input ≡ Err f) ⊎ (verdict_of input ≡ Err f)) }
+    ensures checkpoint { result ≡ Err (DrawFault.Trace TraceFault.Checkpoint) → IfSome (R.remaining reader.old) (HasCheckpoint schedule) }
+    ensures no_call { (number : ℕ) → result ≡ Err (DrawFault.NoCall number) → call ≡ Some number }
+
+    // A device is blamed only where it failed in this call.
+    ensures read { IsErrOf result (DrawFault.Trace (TraceFault.Run RunFault.Read)) → R.failures reader.new ≡ R.failures reader.old + 1 }
+    ensures write { IsErrOf result (DrawFault.Trace (TraceFault.Run RunFault.Write)) → W.failures writer.new ≡ W.failures writer.old + 1 }
+
+    // After a failed write a beginning of the picture stands, and after every other error nothing was written.
+    ensures nothing { result ≢ Err (DrawFault.Trace (TraceFault.Run RunFault.Write)) → OnErr result (writer.new ≡ writer.old) }
+    ensures beginning { IsErrOf result (DrawFault.Trace (TraceFault.Run RunFault.Write)) → (well : Bool) × (text : List ℕ) × IfSome (R.remaining reader.old) (λ input. IsPictureOf schedule input well text) × WritesBeginning text (W.contents writer.old) (W.contents writer.new) }
 {
     let well = transform(
         alloc,
         reader,
         writer,
-        |text| -> Result<Made<bool>, DrawFault> { draw_text(alloc, text, schedule, call) },
+        |text| -> Result<Made<bool>, DrawFault>
+            ensures { MakesPicture schedule call text.items result }
+        { draw_text(alloc, text, schedule, call) },
     )?;
     Ok(well)
 }

@@ -1,8 +1,7 @@
 //! The words that a call shows where a pointer rests on it.
 
 use crate::ink::Ink;
-use crate::labels::push_cut;
-use crate::scene::{ARROW, Card, Scene};
+use fs_scene::{ARROW, Card, Scene, push_cut};
 use std::alloc::{AllocError, Global};
 
 /// The call and its reply.

@@ -1,2 +1,4 @@
-mod Noting
-mod Telling
+mod Lining
+mod Making
+mod Showing
+mod Turning

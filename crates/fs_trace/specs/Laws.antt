@@ -1,11 +1,8 @@
--- What holds of the answers of runs: a law, proved as the contract of a function of the module `laws`.
-use Rattle.std.specs.Prelude.{List, []}
-use Rattle.fs_script.specs.declared.script.Script.{Script}
-use Rattle.fs_sched.specs.Runs.{Stage, Runs}
-use Rattle.fs_sched.specs.declared.schedule.Schedule.{Schedule}
-use Rattle.fs_trace.specs.Answers.{TellsRun}
-use Rattle.fs_trace.specs.declared.told.Told.{Told}
+-- What holds of the events that are shown: a law, proved as the contract of a function of the module `laws`.
+use Rattle.std.specs.Prelude.{◌≡◌, true, List, map}
+use Rattle.fs_record.specs.declared.told.Told.{Told}
+use Rattle.fs_trace.specs.Shown.{shown}
 
--- events that are answered as those of a run lead where a run leads, in one piece
-abbrev pub ToldIsARun : Type 0
-ToldIsARun = (schedule : Schedule) (script : Script) (told : List Told) (last : Stage) → TellsRun schedule script told last → Runs schedule script [] last
+-- where every event is asked for, those that are shown are all
+abbrev pub EveryIsAll : Type 0
+EveryIsAll = (told : List Told) → map (λ event. event.1) (shown true told) ≡ told

@@ -1,5 +1,4 @@
-pub mod Answers
-pub mod Faults
 pub mod Laws
-pub mod Seats
+pub mod Shown
+pub mod Traces
 pub mod code

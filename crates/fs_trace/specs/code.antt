@@ -1,1 +1,4 @@
-pub mod Recorders
+pub mod LineTexts
+pub mod Mades
+pub mod TurnTexts
+pub mod Waiting

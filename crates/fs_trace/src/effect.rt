@@ -30,7 +30,7 @@ pub(crate) enum Effect {
 
 /// What a tree says of the node of a call's last path.
 fn looked(alloc: Global, tree: &SeqTree, call: &Call) -> Result<Reply, AllocError> {
-    let look = Call::Stat(paths_of(call).1.copy(alloc)?);
+    let look = Call::Stat(paths_of(call).1.copy()?);
     tree.look(alloc, &look)
 }
 

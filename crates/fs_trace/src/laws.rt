@@ -1,8 +1,8 @@
-//! What holds of the answers of runs. The function's contract is a law, and its body is empty.
+//! What holds of the events that are shown. The function's contract is a law, and its body is empty.
 
-ghost use Rattle.fs_trace.specs.Laws.{ToldIsARun};
+ghost use Rattle.fs_trace.specs.Laws.{EveryIsAll};
 
-/// What is told as a run of a script by a schedule is one of the runs of which the text is written.
-pub fn told_is_a_run()
-    ensures { ToldIsARun }
+/// Where every event is asked for, each of a run is shown, in order.
+pub fn every_is_all()
+    ensures { EveryIsAll }
 {}

@@ -5,24 +5,16 @@ ghost use Rattle.std.specs.Io.KnownBytes.{Appends, IsAtEnd};
 ghost use Rattle.fs_words.specs.declared.fault.ScriptFault.{ScriptFault};
 ghost use Rattle.fs_script.specs.Script.{script_of};
 ghost use Rattle.fs_sched.specs.Devices.{WritesBeginning};
-ghost use Rattle.fs_trace.specs.Faults.{IsOfInput};
+ghost use Rattle.fs_record.specs.Recordings.{HasCheckpoint};
+ghost use Rattle.fs_trace.specs.Traces.{IsScheduleOf, IsTraceOf};
+ghost use Rattle.fs_trace.specs.code.Mades.{MakesSchedule, MakesTrace};
 
-use crate::fault::TraceFault;
-use crate::recorder::record;
 use crate::script_text::script_text;
 use crate::trace_text::trace_text;
 use fs_io::{Made, Sink, Source, transform};
-use fs_sched::{RunEnd, RunFault, Schedule, run_fault};
-use fs_script::{Script, read_script};
+use fs_record::{TraceFault, recorded};
+use fs_sched::{RunEnd, RunFault, Schedule};
 use std::alloc::Global;
-
-/// The script that a text has, or why no run of it begins.
-fn script_in(alloc: Global, text: &[u8]) -> Result<Script, TraceFault> {
-    match read_script(alloc, text) {
-        Ok(script) => Ok(script),
-        Err(fault) => Err(TraceFault::Run(run_fault(fault))),
-    }
-}
 
 /// The text of the trace of a script's run, and how that ended.
 fn trace_of(
@@ -30,10 +22,11 @@ fn trace_of(
     text: Vec<u8>,
     schedule: Schedule,
     every: bool,
-) -> Result<Made<RunEnd>, TraceFault> {
-    let script = script_in(alloc, text.as_slice())?;
+) -> Result<Made<RunEnd>, TraceFault>
+    ensures { MakesTrace schedule every text.items result }
+{
+    let (script, recording) = recorded(alloc, text.as_slice(), schedule)?;
     drop(text);
-    let recording = record(alloc, &script, schedule)?;
     match trace_text(alloc, &script, &recording, every) {
         Ok(made) => Ok(made),
         Err(_) => Err(TraceFault::Run(RunFault::OutOfMemory)),
@@ -41,9 +34,10 @@ fn trace_of(
 }
 
 /// A script's text with the events of its run as its words.
-fn schedule_of(alloc: Global, text: Vec<u8>, schedule: Schedule) -> Result<Made<()>, TraceFault> {
-    let script = script_in(alloc, text.as_slice())?;
-    let recording = record(alloc, &script, schedule)?;
+fn schedule_of(alloc: Global, text: Vec<u8>, schedule: Schedule) -> Result<Made<()>, TraceFault>
+    ensures { MakesSchedule schedule text.items result }
+{
+    let (script, recording) = recorded(alloc, text.as_slice(), schedule)?;
     match script_text(alloc, text.as_slice(), &script, recording.told.as_slice()) {
         Ok(Some(text)) => Ok(Made { text, end: () }),
         Ok(None) => Err(TraceFault::TooManyEvents),
@@ -63,12 +57,28 @@ pub fn trace_script<R: Source, W: Sink>(
 ) -> Result<RunEnd, TraceFault>
     requires reads { R.failures reader.old < 2 ^ 64 - 1 }
     requires writes { W.failures writer.old < 2 ^ 64 - 1 }
+
+    // What is written is the trace of a run of the script that was read.
+    ensures ran { IfOk result (λ end. (text : List ℕ) × IfSome (R.remaining reader.old) (λ input. IsTraceOf schedule every input end text) × Appends (W.contents writer.old) (W.contents writer.new) text) }
+    ensures end { OnOk result (IsAtEnd (R.remaining reader.new)) }
+    ensures input { (f : ScriptFault) → result ≡ Err (TraceFault.Run (RunFault.Input f)) → IfSome (R.remaining reader.old) (λ input. script_of input ≡ Err f) }
+    ensures checkpoint { result ≡ Err TraceFault.Checkpoint → IfSome (R.remaining reader.old) (HasCheckpoint schedule) }
+
+    // A device is blamed only where it failed in this call.
+    ensures read { IsErrOf result (TraceFault.Run RunFault.Read) → R.failures reader.new ≡ R.failures reader.old + 1 }
+    ensures write { IsErrOf result (TraceFault.Run RunFault.Write) → W.failures writer.new ≡ W.failures writer.old + 1 }
+
+    // After a failed write a beginning of the text stands, and after every other error nothing was written.
+    ensures nothing { result ≢ Err (TraceFault.Run RunFault.Write) → OnErr result (writer.new ≡ writer.old) }
+    ensures beginning { IsErrOf result (TraceFault.Run RunFault.Write) → (end : RunEnd) × (text : List ℕ) × IfSome (R.remaining reader.old) (λ input. IsTraceOf schedule every input end text) × WritesBeginning text (W.contents writer.old) (W.contents writer.new) }
 {
     let end = transform(
         alloc,
         reader,
         writer,
-        |text| -> Result<Made<RunEnd>, TraceFault> { trace_of(alloc, text, schedule, every) },
+        |text| -> Result<Made<RunEnd>, TraceFault>
+            ensures { MakesTrace schedule every text.items result }
+        { trace_of(alloc, text, schedule, every) },
     )?;
     Ok(end)
 }
@@ -84,12 +94,28 @@ pub fn schedule_script<R: Source, W: Sink>(
 ) -> Result<(), TraceFault>
     requires reads { R.failures reader.old < 2 ^ 64 - 1 }
     requires writes { W.failures writer.old < 2 ^ 64 - 1 }
+
+    // What is written is the script that was read, with the events of a run of it as its words.
+    ensures ran { OnOk result ((text : List ℕ) × IfSome (R.remaining reader.old) (λ input. IsScheduleOf schedule input text) × Appends (W.contents writer.old) (W.contents writer.new) text) }
+    ensures end { OnOk result (IsAtEnd (R.remaining reader.new)) }
+    ensures input { (f : ScriptFault) → result ≡ Err (TraceFault.Run (RunFault.Input f)) → IfSome (R.remaining reader.old) (λ input. script_of input ≡ Err f) }
+    ensures checkpoint { result ≡ Err TraceFault.Checkpoint → IfSome (R.remaining reader.old) (HasCheckpoint schedule) }
+
+    // A device is blamed only where it failed in this call.
+    ensures read { IsErrOf result (TraceFault.Run RunFault.Read) → R.failures reader.new ≡ R.failures reader.old + 1 }
+    ensures write { IsErrOf result (TraceFault.Run RunFault.Write) → W.failures writer.new ≡ W.failures writer.old + 1 }
+
+    // After a failed write a beginning of the text stands, and after every other error nothing was written.
+    ensures nothing { result ≢ Err (TraceFault.Run RunFault.Write) → OnErr result (writer.new ≡ writer.old) }
+    ensures beginning { IsErrOf result (TraceFault.Run RunFault.Write) → (text : List ℕ) × IfSome (R.remaining reader.old) (λ input. IsScheduleOf schedule input text) × WritesBeginning text (W.contents writer.old) (W.contents writer.new) }
 {
-    transform(
+    let done = transform(
         alloc,
         reader,
         writer,
-        |text| -> Result<Made<()>, TraceFault> { schedule_of(alloc, text, schedule) },
+        |text| -> Result<Made<()>, TraceFault>
+            ensures { MakesSchedule schedule text.items result }
+        { schedule_of(alloc, text, schedule) },
     )?;
-    Ok(())
+    Ok(done)
 }

@@ -1,11 +1,15 @@
 //! A script with other words.
 
-use crate::told::{Answer, Told};
+ghost use Rattle.std.specs.Prelude.{◌≡◌, ◌++◌, ◌∷◌, [], ℕ, List, IfOk, IfSome, OnOk, get_or};
+ghost use Rattle.std.specs.List.{flat_map};
+ghost use Rattle.fs_trace.specs.Traces.{busy_seat, busy_seats, times_word, turn_seats, turn_word, AreTurnWords, IsGap, IsScheduleText};
+ghost use Rattle.fs_trace.specs.code.TurnTexts.{AddsWords, IsBeginning};
+
+use fs_record::{Answer, Told};
 use fs_script::limits::EVENT_LIMIT;
 use fs_script::{Script, ThreadNames};
 use fs_words::lines::cut_line;
 use fs_words::{Addition, TEXT_LIMIT};
-use itoa::Buffer;
 use std::alloc::{AllocError, Global};
 
 /// The most bytes that a line of words is to have; a single word may be longer.
@@ -19,24 +23,35 @@ pub(crate) struct Turn {
 }
 
 /// Adds an event to turns.
-fn push_event(seat: usize, turns: &mut Vec<Turn>) -> Result<(), AllocError> {
-    if let Some(last) = turns.last_mut() {
-        if last.seat == seat && last.times < u64::MAX {
-            last.times += 1;
-            return Ok(());
-        }
+fn push_event(seat: usize, turns: &mut Vec<Turn>) -> Result<(), AllocError>
+    ensures { OnOk result (flat_map turn_seats turns.new.items ≡ flat_map turn_seats turns.old.items ++ seat ∷ []) }
+{
+    let count = turns.len();
+    if count > 0 && turns[count - 1].seat == seat && turns[count - 1].times < u64::MAX {
+        turns[count - 1].times += 1;
+        return Ok(());
     }
     turns.push(Turn { seat, times: 1 })?;
     Ok(())
 }
 
+/// Adds an event to turns, where it is no idle turn.
+fn push_told(told: &Told, turns: &mut Vec<Turn>) -> Result<(), AllocError>
+    ensures { OnOk result (flat_map turn_seats turns.new.items ≡ flat_map turn_seats turns.old.items ++ busy_seat told.now.seat told.now.answer) }
+{
+    match told.answer {
+        Answer::Spent => Ok(()),
+        _ => push_event(told.seat, turns),
+    }
+}
+
 /// The turns of a run's events, without idle turns.
-fn turns_of(alloc: Global, told: &[Told]) -> Result<Vec<Turn>, AllocError> {
+fn turns_of(alloc: Global, told: &[Told]) -> Result<Vec<Turn>, AllocError>
+    ensures { IfOk result (λ turns. flat_map turn_seats turns.items ≡ busy_seats told.now) }
+{
     let mut turns = Vec::new(alloc);
     for one in told {
-        if !matches!(one.answer, Answer::Spent) {
-            push_event(one.seat, &mut turns)?;
-        }
+        push_told(one, &mut turns)?;
     }
     Ok(turns)
 }
@@ -50,51 +65,99 @@ fn is_within(turns: &[Turn]) -> bool {
     events <= EVENT_LIMIT
 }
 
-/// The part of a script's text up to its line `schedule`, with that.
-fn blocks_of(text: &[u8]) -> &[u8] {
+/// The part of a script's text up to its line `schedule`, without the line feed behind that.
+fn blocks_of(text: &[u8]) -> &[u8]
+    ensures { IsBeginning text.now result.now }
+{
     let mut left = text;
     'lines: while let Some((line, rest)) = cut_line(left) {
         left = rest;
         if line == b"schedule".as_slice() {
-            return &text[..text.len() - left.len()];
+            return without_line_feed(&text[..text.len() - left.len()]);
         }
     }
-    text
+    without_line_feed(text)
+}
+
+/// A text without the line feed at its end.
+fn without_line_feed(text: &[u8]) -> &[u8]
+    ensures { IsBeginning text.now result.now }
+{
+    if text.ends_with(b"\n") {
+        &text[..text.len() - 1]
+    } else {
+        text
+    }
+}
+
+/// The name of the thread on a seat; none where there is no such thread.
+pub(crate) fn name_of(names: &ThreadNames, seat: usize) -> &[u8]
+    ensures { result.now ≡ get_or names.now seat [] }
+{
+    match names.name(seat) {
+        Some(name) => name,
+        None => &[],
+    }
+}
+
+/// How many events a turn has, where they are not one.
+fn push_times(times: u64, word: &mut Addition) -> Result<(), AllocError>
+    ensures ok { OnOk result (word.new.added ≡ word.old.added ++ times_word times) }
+    ensures before { word.new.before ≡ word.old.before }
+{
+    if times == 1 {
+        return Ok(());
+    }
+    word.push_with_number(b"*", times)
 }
 
 /// The word of a turn.
-fn word_of(alloc: Global, names: &ThreadNames, turn: Turn) -> Result<Vec<u8>, AllocError> {
-    let mut word = Vec::new(alloc);
-    if let Some(name) = names.name(turn.seat) {
-        word.extend_from_slice(name)?;
-    }
-    if turn.times > 1 {
-        let mut buffer = Buffer::new();
-        word.extend_from_slice(b"*")?;
-        word.extend_from_slice(buffer.format(turn.times).as_bytes())?;
-    }
-    Ok(word)
+fn word_of(alloc: Global, names: &ThreadNames, turn: Turn) -> Result<Vec<u8>, AllocError>
+    ensures { IfOk result (λ word. word.items ≡ turn_word names.now turn) }
+{
+    let mut word = Addition::new(Vec::new(alloc));
+    word.push(name_of(names, turn.seat))?;
+    push_times(turn.times, &mut word)?;
+    Ok(word.kept())
 }
 
-/// The words of turns, in lines.
+/// What stands before a word: it goes on a new line where there is no room for it.
+fn gap_before(is_wide: bool) -> u8
+    ensures { IsGap result }
+{
+    if is_wide { b'\n' } else { b' ' }
+}
+
+/// Adds the word of a turn to a line of so many bytes, or to a new one, and answers how many that has.
+fn push_word(
+    alloc: Global,
+    names: &ThreadNames,
+    turn: Turn,
+    width: usize,
+    text: &mut Vec<u8>,
+) -> Result<usize, AllocError>
+    ensures { OnOk result ((gap : ℕ) × IsGap gap × (text.new.items ≡ text.old.items ++ gap ∷ turn_word names.now turn)) }
+{
+    let word = word_of(alloc, names, turn)?;
+    let is_wide = width.saturating_add(word.len()) >= LINE_WIDTH;
+    text.push(gap_before(is_wide))?;
+    text.extend_from_slice(word.as_slice())?;
+    let before = if is_wide { 0 } else { width.saturating_add(1) };
+    Ok(before.saturating_add(word.len()))
+}
+
+/// The words of turns, each with a space or a line feed before it.
 fn push_words(
     alloc: Global,
     names: &ThreadNames,
     turns: &[Turn],
     text: &mut Vec<u8>,
-) -> Result<(), AllocError> {
-    let mut begin = text.len();
-    for i in 0..turns.len() {
-        let word = word_of(alloc, names, turns[i])?;
-        if i > 0 {
-            let wide = text.len().saturating_sub(begin).saturating_add(word.len()) >= LINE_WIDTH;
-            text.push(if wide { b'\n' } else { b' ' })?;
-            begin = if wide { text.len() } else { begin };
-        }
-        text.extend_from_slice(word.as_slice())?;
-    }
-    if !turns.is_empty() {
-        text.push(b'\n')?;
+) -> Result<(), AllocError>
+    ensures { OnOk result (AddsWords names.now turns.now text.old.items text.new.items) }
+{
+    let mut width = LINE_WIDTH;
+    for turn in turns {
+        width = push_word(alloc, names, *turn, width, text)?;
     }
     Ok(())
 }
@@ -105,16 +168,16 @@ pub(crate) fn script_text(
     input: &[u8],
     script: &Script,
     told: &[Told],
-) -> Result<Option<Vec<u8>>, AllocError> {
+) -> Result<Option<Vec<u8>>, AllocError>
+    ensures { IfOk result (λ made. IfSome made (λ text. IsScheduleText input.now script.now.names told.now text.items)) }
+{
     let turns = turns_of(alloc, told)?;
     if !is_within(turns.as_slice()) {
         return Ok(None);
     }
     let mut text = Vec::from_slice(alloc, blocks_of(input))?;
-    if !text.as_slice().ends_with(b"\n") {
-        text.push(b'\n')?;
-    }
     push_words(alloc, &script.names, turns.as_slice(), &mut text)?;
+    text.push(b'\n')?;
     Ok(if text.len() > TEXT_LIMIT {
         None
     } else {

@@ -1,15 +1,19 @@
 //! The events of a run, told in words.
 
+ghost use Rattle.std.specs.Prelude.{◌≡◌, ◌∷◌, ◌++◌, [], List, map, IfOk, OnOk};
+ghost use Rattle.fs_trace.specs.Shown.{deed_of, deed_of_step, deed_shown, deed_told, shown, shown_one};
+ghost use Rattle.fs_trace.specs.code.Waiting.{AreWaits};
+ghost use Rattle.fs_record.specs.declared.told.Told.{Told};
+
 use crate::effect::{Effect, effect_of};
 use crate::holdings::{Held, let_go, meaning, position, take};
 use crate::paths::{path_of, paths_of};
-use crate::recorder::seated;
 use crate::shown::Waits;
-use crate::told::{Answer, Told};
 use fs_calls::{Call, Reply};
 use fs_core::{Core, Stepped};
 use fs_names::{CallNo, Path, SeatNo};
 use fs_nodes::NodeNo;
+use fs_record::{Answer, Told, seated};
 use fs_script::{CallLists, Script, ThreadNames};
 use fs_seq::SeqTree;
 use fs_text::{errno_text, write_call, write_reply};
@@ -42,8 +46,8 @@ pub enum Deed {
 /// An event that is shown.
 #[derive(Drop)]
 pub struct Line {
-    /// The place of the event in the run, counted from 0.
-    pub place: usize,
+    /// The number of the event in the run, counted from 1.
+    pub number: usize,
     /// The seat of its thread.
     pub seat: usize,
     /// The number of its call; 0 where there is none.
@@ -119,8 +123,8 @@ impl<'a> Teller<'a> {
             alloc,
             names: &script.names,
             lists: &script.lists,
-            core: seated(alloc, count)?,
-            tree: SeqTree::new(alloc)?,
+            core: seated(alloc, script.limits, count)?,
+            tree: SeqTree::with_limits(alloc, script.limits)?,
             threads,
             calls: Vec::new(alloc),
             effects: Vec::new(alloc),
@@ -413,7 +417,9 @@ impl<'a> Teller<'a> {
         seat: usize,
         stepped: &Stepped,
         line: &mut Vec<u8>,
-    ) -> Result<Deed, AllocError> {
+    ) -> Result<Deed, AllocError>
+        ensures { IfOk result (λ deed. deed ≡ deed_of_step stepped.now) }
+    {
         self.step_again(seat);
         self.push_who(self.under_way(seat), line)?;
         match stepped {
@@ -434,7 +440,9 @@ impl<'a> Teller<'a> {
         seat: usize,
         number: u64,
         line: &mut Vec<u8>,
-    ) -> Result<Deed, AllocError> {
+    ) -> Result<Deed, AllocError>
+        ensures { IfOk result (λ deed. deed ≡ Deed.Begins) }
+    {
         self.begin_again(seat, number)?;
         self.push_who(number, line)?;
         line.extend_from_slice(b" begins ")?;
@@ -444,7 +452,9 @@ impl<'a> Teller<'a> {
         Ok(Deed::Begins)
     }
 
-    fn tell_idle(&self, seat: usize, line: &mut Vec<u8>) -> Result<Deed, AllocError> {
+    fn tell_idle(&self, seat: usize, line: &mut Vec<u8>) -> Result<Deed, AllocError>
+        ensures { IfOk result (λ deed. deed ≡ Deed.Idles) }
+    {
         if let Some(name) = self.names.name(seat) {
             line.extend_from_slice(name)?;
         }
@@ -453,7 +463,9 @@ impl<'a> Teller<'a> {
     }
 
     /// Does an event once more, adds its words, and answers what it did.
-    fn tell(&mut self, told: &Told, line: &mut Vec<u8>) -> Result<Deed, AllocError> {
+    fn tell(&mut self, told: &Told, line: &mut Vec<u8>) -> Result<Deed, AllocError>
+        ensures { IfOk result (λ deed. deed ≡ deed_of told.now.answer) }
+    {
         match &told.answer {
             Answer::Spent => self.tell_idle(told.seat, line),
             Answer::Begun(number) => self.tell_begin(told.seat, number.get(), line),
@@ -461,8 +473,10 @@ impl<'a> Teller<'a> {
         }
     }
 
-    /// The same of an event that is shown, which is counted from 0.
-    fn show(&mut self, place: usize, told: &Told, story: &mut Story) -> Result<(), AllocError> {
+    /// The same of an event that is shown, which is counted from 1.
+    fn show(&mut self, number: usize, told: &Told, story: &mut Story) -> Result<(), AllocError>
+        ensures { OnOk result (map deed_shown story.new.lines.items ≡ map deed_shown story.old.lines.items ++ deed_told (number, told.now) ∷ []) }
+    {
         let before = self.under_way(told.seat);
         let deed = self.tell(told, &mut story.words)?;
         let call = if deed == Deed::Begins {
@@ -471,7 +485,7 @@ impl<'a> Teller<'a> {
             before
         };
         story.lines.push(Line {
-            place,
+            number,
             seat: told.seat,
             call,
             deed,
@@ -479,10 +493,32 @@ impl<'a> Teller<'a> {
         })?;
         Ok(())
     }
+
+    /// Goes on by an event, and shows it where it tells something new or every one is asked for.
+    fn go_on(
+        &mut self,
+        number: usize,
+        told: &Told,
+        every: bool,
+        waits: &mut Waits,
+        story: &mut Story,
+    ) -> Result<(), AllocError>
+        ensures waits { (before : List Told) → AreWaits waits.old before → OnOk result (AreWaits waits.new (told.now ∷ before)) }
+        ensures lines { (before : List Told) → AreWaits waits.old before → OnOk result (map deed_shown story.new.lines.items ≡ map deed_shown story.old.lines.items ++ map deed_told (shown_one every before number told.now)) }
+    {
+        let news = waits.is_news(told)?;
+        if every || news {
+            return self.show(number, told, story);
+        }
+        self.pass_over(told);
+        Ok(())
+    }
 }
 
 /// What a step did.
-fn deed_of(stepped: &Stepped) -> Deed {
+fn deed_of(stepped: &Stepped) -> Deed
+    ensures { result ≡ deed_of_step stepped.now }
+{
     match stepped {
         Stepped::Idle => Deed::Idles,
         Stepped::Took(node) => Deed::Takes(*node),
@@ -500,35 +536,50 @@ fn push_number(number: u64, line: &mut Vec<u8>) -> Result<(), AllocError> {
     line.extend_from_slice(buffer.format(number).as_bytes())
 }
 
+/// Nothing told yet.
+fn nothing_told(alloc: Global) -> Story
+    ensures { result.lines.items ≡ [] }
+{
+    Story {
+        lines: Vec::new(alloc),
+        words: Vec::new(alloc),
+        calls: Vec::new(alloc),
+        threads: Vec::new(alloc),
+    }
+}
+
+/// How far each thread came.
+fn standings(alloc: Global, threads: &[Thread]) -> Result<Vec<Standing>, AllocError> {
+    let mut standings = Vec::new(alloc);
+    for thread in threads {
+        standings.push(Standing {
+            begun: thread.begun,
+            call: thread.call,
+        })?;
+    }
+    Ok(standings)
+}
+
 /// Tells the events of a run: each, or those that tell something new.
 pub fn tell_run(
     alloc: Global,
     script: &Script,
     told: &[Told],
     every: bool,
-) -> Result<Story, AllocError> {
-    let mut waits = Waits::new(alloc, script.lists.as_slice().len())?;
+) -> Result<Story, AllocError>
+    ensures { IfOk result (λ story. map deed_shown story.lines.items ≡ map deed_told (shown every told.now)) }
+{
+    let mut waits = Waits::new(alloc);
     let mut teller = Teller::new(alloc, script)?;
-    let mut story = Story {
-        lines: Vec::new(alloc),
-        words: Vec::new(alloc),
-        calls: Vec::new(alloc),
-        threads: Vec::new(alloc),
-    };
+    let mut story = nothing_told(alloc);
     for place in 0..told.len() {
-        let one = &told[place];
-        if waits.is_news(one) || every {
-            teller.show(place, one, &mut story)?;
-        } else {
-            teller.pass_over(one);
-        }
+        teller.go_on(place + 1, &told[place], every, &mut waits, &mut story)?;
     }
-    for thread in &teller.threads {
-        story.threads.push(Standing {
-            begun: thread.begun,
-            call: thread.call,
-        })?;
-    }
-    story.calls = teller.calls;
-    Ok(story)
+    let threads = standings(alloc, teller.threads.as_slice())?;
+    Ok(Story {
+        lines: story.lines,
+        words: story.words,
+        calls: teller.calls,
+        threads,
+    })
 }

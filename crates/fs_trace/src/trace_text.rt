@@ -1,52 +1,72 @@
 //! The text of a trace.
 
-use crate::recorder::Recording;
-use crate::story::{Standing, Story, tell_run};
+ghost use Rattle.std.specs.Prelude.{◌≡◌, ◌++◌, [], IfOk, OnOk, map, codes, decimal};
+ghost use Rattle.std.specs.List.{flat_map};
+ghost use Rattle.fs_core.specs.CoreValues.{state_of};
+ghost use Rattle.fs_sched.specs.RunTexts.{counts_line};
+ghost use Rattle.fs_sched.specs.Runs.{end_of};
+ghost use Rattle.fs_trace.specs.Traces.{thread_line, IsTraceText};
+ghost use Rattle.fs_trace.specs.code.LineTexts.{AddsLine, AddsLines, IsTraceHead};
+
+use crate::script_text::name_of;
+use crate::story::{Line, Standing, Story, tell_run};
 use fs_calls::Call;
 use fs_io::Made;
-use fs_sched::{EntryKind, RunEnd, number_of};
-use fs_script::{Script, write_tree};
+use fs_record::{Recording, Told};
+use fs_sched::{RunEnd, run_end};
+use fs_script::{Script, ThreadNames, write_tree};
 use fs_text::write_call;
 use fs_words::Addition;
 use std::alloc::{AllocError, Global};
 
-/// How a run ended.
-fn end_of(script: &Script, recording: &Recording) -> RunEnd {
-    let entries = recording.core.timeline();
-    let mut calls = 0usize;
-    for list in script.lists.as_slice() {
-        calls = calls.saturating_add(list.len());
-    }
-    RunEnd {
-        begun: number_of(EntryKind::Begin, entries),
-        committed: number_of(EntryKind::Commit, entries),
-        returned: number_of(EntryKind::Return, entries),
-        calls,
-    }
+/// Adds the line of a thread.
+fn push_thread(name: &[u8], text: &mut Addition) -> Result<(), AllocError>
+    ensures ok { OnOk result (text.new.added ≡ text.old.added ++ thread_line name.now) }
+    ensures before { text.new.before ≡ text.old.before }
+{
+    text.push(b"thread ")?;
+    text.push(name)?;
+    text.push(b"\n")
 }
 
 /// A line for each thread.
-fn push_threads(script: &Script, text: &mut Addition) -> Result<(), AllocError> {
-    for seat in 0..script.names.len() {
-        if let Some(name) = script.names.name(seat) {
-            text.push(b"thread ")?;
-            text.push(name)?;
-            text.push(b"\n")?;
-        }
+fn push_threads(names: &ThreadNames, text: &mut Addition) -> Result<(), AllocError>
+    ensures ok { OnOk result (text.new.added ≡ text.old.added ++ flat_map thread_line names.now) }
+    ensures before { text.new.before ≡ text.old.before }
+{
+    for seat in 0..names.len() {
+        push_thread(name_of(names, seat), text)?;
     }
     Ok(())
 }
 
-/// A line for each event that is shown.
-fn push_lines(story: &Story, text: &mut Addition) -> Result<(), AllocError> {
+/// Adds the line of an event: its number, and words.
+fn push_line(number: usize, words: &[u8], text: &mut Addition) -> Result<(), AllocError>
+    ensures ok { OnOk result (AddsLine number text.old.added text.new.added) }
+    ensures before { text.new.before ≡ text.old.before }
+{
+    text.push_number(number as u64)?;
+    text.push(b" ")?;
+    text.push(words)?;
+    text.push(b"\n")
+}
+
+/// The words between two places; none where there is no such part.
+fn words_between(words: &[u8], from: usize, end: usize) -> &[u8] {
+    match words.get(from..end) {
+        Some(words) => words,
+        None => &[],
+    }
+}
+
+/// A line for each event that is shown, with its words.
+fn push_lines(lines: &[Line], words: &[u8], text: &mut Addition) -> Result<(), AllocError>
+    ensures ok { OnOk result (AddsLines (map (λ line. line.number) lines.now) text.old.added text.new.added) }
+    ensures before { text.new.before ≡ text.old.before }
+{
     let mut from = 0;
-    for line in &story.lines {
-        text.push_number((line.place as u64).saturating_add(1))?;
-        text.push(b" ")?;
-        if let Some(words) = story.words.get(from..line.end) {
-            text.push(words)?;
-        }
-        text.push(b"\n")?;
+    for line in lines {
+        push_line(line.number, words_between(words, from, line.end), text)?;
         from = line.end;
     }
     Ok(())
@@ -96,28 +116,55 @@ fn push_left_of(
     Ok(())
 }
 
-/// The same of each thread.
-fn push_all_left(
-    alloc: Global,
-    script: &Script,
-    story: &Story,
-    text: &mut Addition,
-) -> Result<(), AllocError> {
+/// The lines of all calls that did not return.
+fn left_text(alloc: Global, script: &Script, story: &Story) -> Result<Vec<u8>, AllocError> {
+    let mut text = Addition::new(Vec::new(alloc));
     let lists = script.lists.as_slice();
     for seat in 0..lists.len() {
         if let (Some(name), Some(standing)) = (script.names.name(seat), story.threads.get(seat)) {
-            push_left_of(alloc, name, lists[seat].as_slice(), *standing, text)?;
+            push_left_of(alloc, name, lists[seat].as_slice(), *standing, &mut text)?;
         }
     }
-    Ok(())
+    Ok(text.kept())
+}
+
+/// A word and a number.
+fn push_count(word: &[u8], count: usize, text: &mut Addition) -> Result<(), AllocError>
+    ensures ok { OnOk result (text.new.added ≡ text.old.added ++ word.now ++ decimal count) }
+    ensures before { text.new.before ≡ text.old.before }
+{
+    text.push(word)?;
+    text.push_number(count as u64)
 }
 
 /// The last line of a run.
-fn push_counts(end: &RunEnd, text: &mut Addition) -> Result<(), AllocError> {
-    text.push_with_number(b"begun ", end.begun as u64)?;
-    text.push_with_number(b" committed ", end.committed as u64)?;
-    text.push_with_number(b" returned ", end.returned as u64)?;
+fn push_counts(end: RunEnd, text: &mut Addition) -> Result<(), AllocError>
+    ensures ok { OnOk result (text.new.added ≡ text.old.added ++ counts_line end.begun end.committed end.returned) }
+    ensures before { text.new.before ≡ text.old.before }
+{
+    push_count(b"begun ", end.begun, text)?;
+    push_count(b" committed ", end.committed, text)?;
+    push_count(b" returned ", end.returned, text)?;
     text.push(b"\n")
+}
+
+/// The text of a trace up to its tree: the threads, each event that is shown, and what did not return.
+fn head_text(
+    alloc: Global,
+    script: &Script,
+    told: &[Told],
+    every: bool,
+) -> Result<Vec<u8>, AllocError>
+    ensures { IfOk result (λ head. IsTraceHead every script.now.names told.now head.items) }
+{
+    let story = tell_run(alloc, script, told, every)?;
+    let mut head = Addition::new(Vec::new(alloc));
+    head.push(b"atomfs-trace 1\n")?;
+    push_threads(&script.names, &mut head)?;
+    push_lines(story.lines.as_slice(), story.words.as_slice(), &mut head)?;
+    let left = left_text(alloc, script, &story)?;
+    head.push(left.as_slice())?;
+    Ok(head.kept())
 }
 
 /// The text of the trace of a run: each event in words, or those that tell something new, and behind them what did not return
@@ -127,18 +174,15 @@ pub(crate) fn trace_text(
     script: &Script,
     recording: &Recording,
     every: bool,
-) -> Result<Made<RunEnd>, AllocError> {
-    let story = tell_run(alloc, script, recording.told.as_slice(), every)?;
-    let end = end_of(script, recording);
-    let mut head = Addition::new(Vec::new(alloc));
-    head.push(b"atomfs-trace 1\n")?;
-    push_threads(script, &mut head)?;
-    push_lines(&story, &mut head)?;
-    push_all_left(alloc, script, &story, &mut head)?;
-    let mut text = head.kept();
+) -> Result<Made<RunEnd>, AllocError>
+    ensures end { IfOk result (λ made. made.end ≡ end_of script.now (state_of recording.now.core).timeline) }
+    ensures text { IfOk result (λ made. IsTraceText every script.now.names recording.now.told.items (state_of recording.now.core) made.text.items) }
+{
+    let end = run_end(script, recording.core.timeline());
+    let mut text = head_text(alloc, script, recording.told.as_slice(), every)?;
     write_tree(alloc, recording.core.store(), &mut text)?;
     let mut last = Addition::new(text);
-    push_counts(&end, &mut last)?;
+    push_counts(end, &mut last)?;
     Ok(Made {
         text: last.kept(),
         end,

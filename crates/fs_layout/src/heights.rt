@@ -1,0 +1,82 @@
+//! Where the lanes of a row stand.
+
+use crate::pieces::Row;
+use crate::space::{AXIS_HEIGHT, BAR_HEIGHT, EMPTY_HEIGHT, LABEL_HEIGHT, SLOT_HEIGHT, add};
+use fs_scene::Scene;
+use std::alloc::{AllocError, Global};
+
+/// A lane in a row: its top, whether a bar stands in it, how many slots are used below, and whether it is shown at all.
+#[derive(Clone, Copy, Debug)]
+pub struct Band {
+    pub top: u64,
+    pub bars: bool,
+    pub slots: usize,
+    pub shown: bool,
+}
+
+impl Band {
+    /// The top of its bars.
+    pub fn bar(&self) -> u64 {
+        add(self.top, add(4, LABEL_HEIGHT))
+    }
+
+    /// The middle of its bars.
+    pub fn middle(&self) -> u64 {
+        add(self.bar(), 8)
+    }
+
+    /// The top of the boxes of a slot.
+    pub fn slot(&self, slot: usize) -> u64 {
+        add(
+            self.bar(),
+            add(19, (slot as u64).saturating_mul(SLOT_HEIGHT)),
+        )
+    }
+
+    fn height(&self) -> u64 {
+        if self.bars {
+            let slots = (self.slots as u64).saturating_mul(SLOT_HEIGHT);
+            return add(add(4, add(LABEL_HEIGHT, BAR_HEIGHT)), add(add(3, slots), 9));
+        }
+        if self.shown { EMPTY_HEIGHT } else { 0 }
+    }
+}
+
+/// The lanes of a row, and where it ends below.
+#[derive(Drop)]
+pub struct Bands {
+    pub bands: Vec<Band>,
+    pub top: u64,
+    pub bottom: u64,
+}
+
+/// Notes in which lanes the pieces of a row stand.
+fn note_pieces(row: &Row, bands: &mut Vec<Band>) {
+    for piece in &row.pieces {
+        if let Some(band) = bands.get_mut(piece.lane) {
+            band.bars = true;
+            band.shown = true;
+            band.slots = band.slots.max(piece.slots);
+        }
+    }
+}
+
+/// The lanes of a row whose axis begins here.
+pub fn bands_of(alloc: Global, scene: &Scene, row: &Row, top: u64) -> Result<Bands, AllocError> {
+    let mut bands = Vec::new(alloc);
+    for _ in &scene.lanes {
+        bands.push(Band {
+            top: 0,
+            bars: false,
+            slots: 0,
+            shown: !scene.is_wide(),
+        })?;
+    }
+    note_pieces(row, &mut bands);
+    let mut bottom = add(top, AXIS_HEIGHT);
+    for band in bands.iter_mut() {
+        band.top = bottom;
+        bottom = add(bottom, band.height());
+    }
+    Ok(Bands { bands, top, bottom })
+}

@@ -1,0 +1,92 @@
+//! Lengths of a picture, in pixels. A sum that has no room is the greatest number: no picture comes to that.
+
+/// Where the lanes begin, behind a name of no characters.
+const NAME_ROOM: u64 = 34;
+
+/// The height of a label, of a bar, and of a lane without a bar.
+pub const LABEL_HEIGHT: u64 = 16;
+
+pub const BAR_HEIGHT: u64 = 16;
+
+pub const EMPTY_HEIGHT: u64 = 18;
+
+/// From one box to the next one below it, and the height of a box.
+pub const SLOT_HEIGHT: u64 = 13;
+
+pub const BOX_HEIGHT: u64 = 11;
+
+/// The height of the axis, and between two rows.
+pub const AXIS_HEIGHT: u64 = 20;
+
+pub const ROW_GAP: u64 = 22;
+
+/// How wide so many characters are, of so many quarters of a pixel each.
+fn quarters(characters: usize, each: u64) -> u64 {
+    (characters as u64).saturating_mul(each).saturating_add(3) / 4
+}
+
+/// How wide a label of so many characters is.
+pub fn label_width(characters: usize) -> u64 {
+    quarters(characters, 29)
+}
+
+/// How wide a name in a box, or a number, of so many characters is.
+pub fn small_width(characters: usize) -> u64 {
+    quarters(characters, 25)
+}
+
+/// How wide the heading of so many characters is.
+pub fn heading_width(characters: usize) -> u64 {
+    quarters(characters, 32)
+}
+
+/// How many digits a number has.
+pub fn digits(number: u64) -> usize {
+    let mut left = number / 10;
+    let mut count = 1usize;
+    for _ in 0..20 {
+        if left == 0 {
+            return count;
+        }
+        left /= 10;
+        count = count.saturating_add(1);
+    }
+    count
+}
+
+/// The sum of two lengths.
+pub fn add(a: u64, b: u64) -> u64 {
+    a.saturating_add(b)
+}
+
+/// What is left of a length.
+pub fn less(a: u64, b: u64) -> u64 {
+    a.saturating_sub(b)
+}
+
+/// Where the lanes begin and end, and how wide the whole is.
+#[derive(Clone, Copy, Debug)]
+pub struct Frame {
+    pub left: u64,
+    pub right: u64,
+    pub width: u64,
+}
+
+/// The frame of lanes with these names.
+pub fn frame_of(lanes: &[Vec<u8>]) -> Frame {
+    let mut widest = 0;
+    for name in lanes {
+        widest = widest.max(name.len());
+    }
+    let least = 1_280;
+    let width = if lanes.len() > 16 {
+        least.max((lanes.len() as u64).saturating_mul(45))
+    } else {
+        least
+    };
+    Frame {
+        left: add(NAME_ROOM, label_width(widest)),
+        right: less(width, 18),
+        width,
+    }
+}

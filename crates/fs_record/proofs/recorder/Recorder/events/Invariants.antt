@@ -1,0 +1,11 @@
+use Rattle.std.proofs.Common.{◌-◌, length, replicate}
+use Rattle.fs_record.specs.code.Recorders.{IsSeated}
+use Rattle.fs_record.proofs.Noting.{NotesOf}
+use Rattle.fs_record.proofs.recorder.Recorder.events.Given as goal
+
+-- what is noted and what is left is all
+abbrev pub invariant-loop : goal.invariant-loop
+invariant-loop l = record {
+  seats : IsSeated l.self (length l.lists);
+  notes : NotesOf l.lists l.fn.self (replicate l.times l.seat) l.self (replicate (l.times - l.counter) l.seat);
+}

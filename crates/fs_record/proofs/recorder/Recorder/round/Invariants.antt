@@ -1,0 +1,12 @@
+use Rattle.std.proofs.Common.{◌-◌, length}
+use Rattle.std.specs.List.{range_with_len}
+use Rattle.fs_record.specs.code.Recorders.{IsSeated}
+use Rattle.fs_record.proofs.Noting.{NotesOf}
+use Rattle.fs_record.proofs.recorder.Recorder.round.Given as goal
+
+-- what is noted and what is left is all
+abbrev pub invariant-loop-seat : goal.invariant-loop-seat
+invariant-loop-seat l = record {
+  seats : IsSeated l.self (length l.lists);
+  notes : NotesOf l.lists l.fn.self (range_with_len 0 (length l.lists)) l.self (range_with_len l.seat (length l.lists - l.seat));
+}

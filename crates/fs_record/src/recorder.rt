@@ -1,0 +1,338 @@
+//! A run of a script, event by event, with what each was answered.
+
+ghost use Rattle.std.specs.Prelude.{◌≡◌, ◌<◌, ◌≤◌, ◌∷◌, ◌-◌, ◌^◌, [], ℕ, List, IfOk, OnOk, IfErr, Ok, None, true, length, get_or, replicate};
+ghost use Rattle.std.specs.List.{range_with_len, list_any};
+ghost use Rattle.fs_names.specs.declared.limits.TheConstants.{NODE_LIMIT};
+ghost use Rattle.fs_core.specs.CoreValues.{state_of};
+ghost use Rattle.fs_machine.specs.States.{empty};
+ghost use Rattle.fs_sched.specs.Runs.{Stage, start, has_more};
+ghost use Rattle.fs_sched.specs.Schedules.{drawn_seats};
+ghost use Rattle.fs_sched.specs.declared.schedule.TheConstants.{DRAW_LIMIT};
+ghost use Rattle.fs_sched.specs.code.Stages.{IsRefusal};
+ghost use Rattle.fs_record.specs.Answers.{AnswersEvent, TellsRun};
+ghost use Rattle.fs_record.specs.Seats.{word_seats, given_seats, seats_before, is_checkpoint, has_checkpoint};
+ghost use Rattle.fs_record.specs.code.Recorders.{stage_of, IsSeated, AreOver, Notes, NotesCut, NotesToEnd, NotesRun, IsUnrecorded};
+
+use crate::fault::TraceFault;
+use crate::told::{Answer, Told};
+use fs_calls::Call;
+use fs_core::Core;
+use fs_names::{Limits, NODE_LIMIT, SeatNo};
+use fs_sched::{DRAW_LIMIT, Divisor, Draws, RunFault, Schedule};
+use fs_script::{CallLists, Script, Word};
+use std::alloc::{AllocError, Global};
+
+/// The core, with a seat for each thread, how many calls of each thread have begun, and what each event so far was answered.
+#[derive(Drop)]
+pub(crate) struct Recorder {
+    pub(crate) core: Core,
+    pub(crate) begun: Vec<usize>,
+    pub(crate) told: Vec<Told>,
+}
+
+/// A run of a script: the core after its last event, and what each event was answered.
+#[derive(Drop)]
+pub struct Recording {
+    pub core: Core,
+    pub told: Vec<Told>,
+}
+
+/// The calls of a thread; none where there is no such thread.
+fn calls_of(lists: &CallLists, seat: usize) -> &[Call]
+    ensures { result.now ≡ get_or lists.now seat [] }
+{
+    let lists = lists.as_slice();
+    if seat < lists.len() {
+        lists[seat].as_slice()
+    } else {
+        &[]
+    }
+}
+
+/// A core before the first event, with these limits and so many seats.
+pub fn seated(alloc: Global, limits: Limits, threads: usize) -> Result<Core, AllocError>
+    ensures state { IfOk result (λ core. state_of core ≡ empty limits NODE_LIMIT) }
+    ensures seats { IfOk result (λ core. length core.seats ≡ threads) }
+{
+    let mut core = Core::with_limits(alloc, NODE_LIMIT, limits)?;
+    for _ in 0..threads {
+        core.seat()?;
+    }
+    Ok(core)
+}
+
+fn zeros(alloc: Global, count: usize) -> Result<Vec<usize>, AllocError>
+    ensures { IfOk result (λ numbers. numbers.items ≡ replicate count 0) }
+{
+    let mut numbers = Vec::new(alloc);
+    for _ in 0..count {
+        numbers.push(0)?;
+    }
+    Ok(numbers)
+}
+
+impl Recorder {
+    /// Before the first event of so many threads, by these limits.
+    fn new(alloc: Global, limits: Limits, threads: usize) -> Result<Recorder, AllocError>
+        ensures start { IfOk result (λ recorder. stage_of recorder ≡ start limits threads) }
+        ensures seats { IfOk result (λ recorder. IsSeated recorder threads) }
+        ensures told { IfOk result (λ recorder. recorder.told.items ≡ []) }
+    {
+        let core = seated(alloc, limits, threads)?;
+        let begun = zeros(alloc, threads)?;
+        Ok(Recorder {
+            core,
+            begun,
+            told: Vec::new(alloc),
+        })
+    }
+
+    /// Whether a thread has a call under way, or one left.
+    fn has_more(&self, lists: &CallLists, seat: usize) -> bool
+        requires seats { IsSeated self.now (length lists.now) }
+        requires seat { seat < length lists.now }
+        ensures { result ≡ has_more lists.now (stage_of self.now) seat }
+    {
+        self.core.under_way(SeatNo::new(seat as u64)).is_some()
+            || self.begun[seat] < calls_of(lists, seat).len()
+    }
+
+    /// The first thread that has; where none has, the number of threads.
+    fn first_left(&self, lists: &CallLists) -> usize
+        requires seats { IsSeated self.now (length lists.now) }
+        ensures over { AreOver lists.now (stage_of self.now) result }
+        ensures left { result < length lists.now → has_more lists.now (stage_of self.now) result ≡ true }
+    {
+        for seat in 0..self.begun.len() {
+            if self.has_more(lists, seat) {
+                return seat;
+            }
+        }
+        self.begun.len()
+    }
+
+    /// The next call of a thread begins, where one is left.
+    fn start(&mut self, alloc: Global, lists: &CallLists, seat: usize) -> Result<Answer, RunFault>
+        requires seats { IsSeated self.old (length lists.now) }
+        requires seat { seat < length lists.now }
+        requires free { (state_of self.old.core).on_seat seat ≡ None }
+        ensures event { IfOk result (λ answer. AnswersEvent lists.now (stage_of self.old) seat answer (stage_of self.new)) }
+        ensures seats { OnOk result (IsSeated self.new (length lists.now)) }
+        ensures told { self.new.told.items ≡ self.old.told.items }
+        ensures fault { IfErr result IsRefusal }
+    {
+        let calls = calls_of(lists, seat);
+        let at = self.begun[seat];
+        if at >= calls.len() {
+            return Ok(Answer::Spent);
+        }
+        match self.core.begin(alloc, SeatNo::new(seat as u64), &calls[at]) {
+            Ok(number) => {
+                self.begun[seat] = at + 1;
+                Ok(Answer::Begun(number))
+            }
+            Err(fs_core::Refusal::Full) => Err(RunFault::Full),
+            Err(_) => Err(RunFault::OutOfMemory),
+        }
+    }
+
+    /// An event of a thread, and what it was answered.
+    fn happen(&mut self, alloc: Global, lists: &CallLists, seat: usize) -> Result<Answer, RunFault>
+        requires { IsSeated self.old (length lists.now) }
+        ensures event { IfOk result (λ answer. AnswersEvent lists.now (stage_of self.old) seat answer (stage_of self.new)) }
+        ensures seats { OnOk result (IsSeated self.new (length lists.now)) }
+        ensures told { self.new.told.items ≡ self.old.told.items }
+        ensures fault { IfErr result IsRefusal }
+    {
+        if seat >= self.begun.len() {
+            return Ok(Answer::Spent);
+        }
+        let number = SeatNo::new(seat as u64);
+        let Some(_) = self.core.under_way(number) else {
+            return self.start(alloc, lists, seat);
+        };
+        Ok(Answer::Stepped(self.core.step(number)))
+    }
+
+    /// An event of a thread, with what it was answered noted; and whether the thread may have come to its end.
+    fn event(&mut self, alloc: Global, lists: &CallLists, seat: usize) -> Result<bool, RunFault>
+        requires { IsSeated self.old (length lists.now) }
+        ensures notes { OnOk result (Notes lists.now self.old (seat ∷ []) self.new) }
+        ensures seats { OnOk result (IsSeated self.new (length lists.now)) }
+        ensures fault { IfErr result IsRefusal }
+    {
+        let answer = self.happen(alloc, lists, seat)?;
+        let may_end = answer.may_end();
+        match self.told.push(Told { seat, answer }) {
+            Ok(()) => Ok(may_end),
+            Err(_) => Err(RunFault::OutOfMemory),
+        }
+    }
+
+    /// So many events of a thread.
+    fn events(
+        &mut self,
+        alloc: Global,
+        lists: &CallLists,
+        seat: usize,
+        times: u64,
+    ) -> Result<(), RunFault>
+        requires { IsSeated self.old (length lists.now) }
+        ensures notes { OnOk result (Notes lists.now self.old (replicate times seat) self.new) }
+        ensures seats { OnOk result (IsSeated self.new (length lists.now)) }
+        ensures fault { IfErr result IsRefusal }
+    {
+        for _ in 0..times {
+            self.event(alloc, lists, seat)?;
+        }
+        Ok(())
+    }
+
+    /// The events that a word gives; no run that is recorded comes to a checkpoint.
+    fn word(&mut self, alloc: Global, lists: &CallLists, word: Word) -> Result<(), RunFault>
+        requires { IsSeated self.old (length lists.now) }
+        ensures notes { OnOk result (Notes lists.now self.old (word_seats word) self.new) }
+        ensures seats { OnOk result (IsSeated self.new (length lists.now)) }
+        ensures fault { IfErr result IsRefusal }
+    {
+        match word {
+            Word::Events(seat, times) => self.events(alloc, lists, seat, times),
+            Word::Checkpoint | Word::Finish => Ok(()),
+        }
+    }
+
+    /// The events that words give, from left to right.
+    fn words(&mut self, alloc: Global, lists: &CallLists, words: &[Word]) -> Result<(), RunFault>
+        requires { IsSeated self.old (length lists.now) }
+        ensures notes { OnOk result (Notes lists.now self.old (given_seats words.now) self.new) }
+        ensures seats { OnOk result (IsSeated self.new (length lists.now)) }
+        ensures fault { IfErr result IsRefusal }
+    {
+        for word in words {
+            self.word(alloc, lists, *word)?;
+        }
+        Ok(())
+    }
+
+    /// Events of threads that are drawn from a number, until none has anything to do or the limit is reached.
+    fn drawn(&mut self, alloc: Global, lists: &CallLists, seed: u64) -> Result<(), RunFault>
+        requires { IsSeated self.old (length lists.now) }
+        ensures notes { OnOk result (NotesCut lists.now self.old (drawn_seats seed (length lists.now) DRAW_LIMIT) self.new) }
+        ensures seats { OnOk result (IsSeated self.new (length lists.now)) }
+        ensures fault { IfErr result IsRefusal }
+    {
+        let threads = self.begun.len();
+        if self.first_left(lists) >= threads {
+            return Ok(());
+        }
+        let divisor = Divisor::new(threads);
+        let mut draws = Draws::new(seed);
+        for _ in 0..DRAW_LIMIT {
+            let seat = draws.seat(&divisor);
+            let may_end = self.event(alloc, lists, seat)?;
+            if may_end && self.first_left(lists) >= threads {
+                return Ok(());
+            }
+        }
+        Ok(())
+    }
+
+    /// One event of each thread.
+    fn round(&mut self, alloc: Global, lists: &CallLists) -> Result<(), RunFault>
+        requires { IsSeated self.old (length lists.now) }
+        ensures notes { OnOk result (Notes lists.now self.old (range_with_len 0 (length lists.now)) self.new) }
+        ensures seats { OnOk result (IsSeated self.new (length lists.now)) }
+        ensures fault { IfErr result IsRefusal }
+    {
+        for seat in 0..self.begun.len() {
+            self.event(alloc, lists, seat)?;
+        }
+        Ok(())
+    }
+
+    /// Rounds until no thread has anything to do.
+    fn finish(&mut self, alloc: Global, lists: &CallLists) -> Result<(), RunFault>
+        requires { IsSeated self.old (length lists.now) }
+        ensures notes { OnOk result (NotesToEnd lists.now self.old self.new) }
+        ensures seats { OnOk result (IsSeated self.new (length lists.now)) }
+        ensures fault { IfErr result IsRefusal }
+    {
+        'rounds: loop {
+            if self.first_left(lists) >= self.begun.len() {
+                return Ok(());
+            }
+            self.core.told();
+            self.round(alloc, lists)?;
+        }
+    }
+
+    /// The events before rounds to the end.
+    fn before(&mut self, alloc: Global, script: &Script, schedule: Schedule) -> Result<(), RunFault>
+        requires { IsSeated self.old (length script.now.lists) }
+        ensures notes { OnOk result (NotesCut script.now.lists self.old (seats_before schedule script.now.words (length script.now.lists)) self.new) }
+        ensures seats { OnOk result (IsSeated self.new (length script.now.lists)) }
+        ensures fault { IfErr result IsRefusal }
+    {
+        match schedule {
+            Schedule::Given => self.words(alloc, &script.lists, script.words.as_slice()),
+            Schedule::RoundRobin => Ok(()),
+            Schedule::Seeded(seed) => self.drawn(alloc, &script.lists, seed),
+        }
+    }
+
+    /// All events of a script by a schedule.
+    fn run(&mut self, alloc: Global, script: &Script, schedule: Schedule) -> Result<(), RunFault>
+        requires { IsSeated self.old (length script.now.lists) }
+        ensures notes { OnOk result (NotesRun schedule script.now self.old self.new) }
+        ensures seats { OnOk result (IsSeated self.new (length script.now.lists)) }
+        ensures fault { IfErr result IsRefusal }
+    {
+        self.before(alloc, script, schedule)?;
+        if schedule.goes_on(script.words.as_slice()) {
+            self.finish(alloc, &script.lists)?;
+        }
+        Ok(())
+    }
+}
+
+fn is_checkpoint(word: &Word) -> bool
+    ensures { result ≡ is_checkpoint word.now }
+{
+    matches!(word, Word::Checkpoint)
+}
+
+fn any_checkpoint(words: &[Word]) -> bool
+    ensures { result ≡ list_any is_checkpoint words.now }
+{
+    words.iter().any(|word| is_checkpoint(word))
+}
+
+/// Whether a run by a schedule comes to the word for a checkpoint.
+fn has_checkpoint(schedule: Schedule, words: &[Word]) -> bool
+    ensures { result ≡ has_checkpoint schedule words.now }
+{
+    match schedule {
+        Schedule::Given => any_checkpoint(words),
+        Schedule::RoundRobin | Schedule::Seeded(_) => false,
+    }
+}
+
+/// Runs a script by a schedule, and notes what each event is answered. A run that comes to a checkpoint is not recorded.
+pub fn record(alloc: Global, script: &Script, schedule: Schedule) -> Result<Recording, TraceFault>
+    ensures told { IfOk result (λ recording. (last : Stage) × (last.state ≡ state_of recording.core) × TellsRun schedule script.now recording.told.items last) }
+    ensures fault { IfErr result (IsUnrecorded schedule script.now.words) }
+{
+    if has_checkpoint(schedule, script.words.as_slice()) {
+        return Err(TraceFault::Checkpoint);
+    }
+    let Ok(mut recorder) = Recorder::new(alloc, script.limits, script.lists.as_slice().len()) else {
+        return Err(TraceFault::Run(RunFault::OutOfMemory));
+    };
+    match recorder.run(alloc, script, schedule) {
+        Ok(()) => Ok(Recording {
+            core: recorder.core,
+            told: recorder.told,
+        }),
+        Err(fault) => Err(TraceFault::Run(fault)),
+    }
+}

@@ -1,0 +1,260 @@
+//! The scene of a journal.
+
+use crate::scene::{Card, Fault, Mark, Scene, What};
+use fs_calls::Call;
+use fs_names::{CallNo, SeatNo};
+use fs_sched::push_verdict;
+use fs_script::Journal;
+use fs_text::{write_call, write_reply};
+use fs_timeline::{Entry, FaultKind, Verdict};
+use fs_words::Addition;
+use std::alloc::{AllocError, Global};
+use std::collections::BTreeMap;
+
+/// A journal that is gone through: the calls so far by their numbers, the lane of each seat, and the seats that are busy.
+#[derive(Drop)]
+struct Reading {
+    alloc: Global,
+    scene: Scene,
+    cards: BTreeMap<u64, usize>,
+    lanes: BTreeMap<u64, usize>,
+    busy: Vec<bool>,
+    commits: u64,
+}
+
+/// The seats that occur, in the order of their numbers, with their lanes.
+fn lanes_of(alloc: Global, entries: &[Entry]) -> Result<BTreeMap<u64, usize>, AllocError> {
+    let mut seats = BTreeMap::new(alloc);
+    for entry in entries {
+        if let Entry::Begin(_, seat, _) = entry {
+            seats.insert(seat.get(), 0)?;
+        }
+    }
+    let mut lane = 0usize;
+    for slot in seats.values_mut() {
+        *slot = lane;
+        lane = lane.saturating_add(1);
+    }
+    Ok(seats)
+}
+
+/// The names of lanes.
+fn names_of(alloc: Global, lanes: &BTreeMap<u64, usize>) -> Result<Vec<Vec<u8>>, AllocError> {
+    let mut names = Vec::new(alloc);
+    for seat in lanes.keys() {
+        let mut name = Addition::new(Vec::new(alloc));
+        name.push_with_number(b"seat ", *seat)?;
+        names.push(name.kept())?;
+    }
+    Ok(names)
+}
+
+/// The words of a verdict, where it tells of a fault.
+fn fault_of(alloc: Global, verdict: &Verdict) -> Result<Option<Fault>, AllocError> {
+    let Verdict::Fault(place, kind) = verdict else {
+        return Ok(None);
+    };
+    let mut line = Addition::new(Vec::new(alloc));
+    push_verdict(verdict, &mut line)?;
+    let mut words = line.kept();
+    let _ = words.pop();
+    let mark = if *kind == FaultKind::WrongReply {
+        Some(place.saturating_sub(1))
+    } else {
+        None
+    };
+    Ok(Some(Fault { words, mark }))
+}
+
+impl Reading {
+    fn new(alloc: Global, entries: &[Entry], verdict: &Verdict) -> Result<Reading, AllocError> {
+        let lanes = lanes_of(alloc, entries)?;
+        let names = names_of(alloc, &lanes)?;
+        let mut busy = Vec::new(alloc);
+        for _ in &names {
+            busy.push(false)?;
+        }
+        Ok(Reading {
+            alloc,
+            scene: Scene {
+                lanes: names,
+                cards: Vec::new(alloc),
+                marks: Vec::new(alloc),
+                fault: fault_of(alloc, verdict)?,
+                is_run: false,
+                calls: 0,
+                around: None,
+            },
+            cards: BTreeMap::new(alloc),
+            lanes,
+            busy,
+            commits: 0,
+        })
+    }
+
+    fn push_mark(&mut self, at: u64, card: usize, what: What) -> Result<(), AllocError> {
+        self.scene.note(at, card, what, self.commits);
+        self.scene.marks.push(Mark {
+            at,
+            card,
+            what,
+            name: Vec::new(self.alloc),
+        })?;
+        Ok(())
+    }
+
+    /// Whether the seat of a lane is busy, and that it is so from here on.
+    fn set_busy(&mut self, lane: usize, busy: bool) -> bool {
+        match self.busy.get_mut(lane) {
+            Some(slot) => {
+                let before = *slot;
+                *slot = busy;
+                before
+            }
+            None => true,
+        }
+    }
+
+    fn begin(
+        &mut self,
+        at: u64,
+        number: CallNo,
+        seat: SeatNo,
+        call: &Call,
+    ) -> Result<bool, AllocError> {
+        let lane = match self.lanes.get(&seat.get()) {
+            Some(lane) => *lane,
+            None => return Ok(false),
+        };
+        if self.cards.contains_key(&number.get()) {
+            return Ok(false);
+        }
+        if self.set_busy(lane, true) {
+            return Ok(false);
+        }
+        let mut words = Vec::new(self.alloc);
+        write_call(self.alloc, call, &mut words)?;
+        let card = self.scene.cards.len();
+        self.cards.insert(number.get(), card)?;
+        self.scene.cards.push(Card {
+            number: number.get(),
+            lane,
+            words,
+            reply: Vec::new(self.alloc),
+            due: Vec::new(self.alloc),
+            first: 0,
+            last: 0,
+            order: 0,
+            commit: 0,
+            helper: None,
+            carried: 0,
+        })?;
+        self.push_mark(at, card, What::Begin)?;
+        Ok(true)
+    }
+
+    /// The place of a call among the calls, whether it has committed, and whether it has returned.
+    fn find(&self, number: CallNo) -> Option<(usize, bool, bool)> {
+        let at = *self.cards.get(&number.get())?;
+        let card = self.scene.cards.get(at)?;
+        Some((at, card.order > 0, !card.reply.is_empty()))
+    }
+
+    fn commit(&mut self, at: u64, number: CallNo) -> Result<bool, AllocError> {
+        match self.find(number) {
+            Some((card, false, _)) => {
+                self.commits = self.commits.saturating_add(1);
+                self.push_mark(at, card, What::Commit)?;
+                Ok(true)
+            }
+            _ => Ok(false),
+        }
+    }
+
+    /// An entry is drawn, and the answer is whether it fits those before it; one that does not fit is not drawn.
+    fn entry(&mut self, at: u64, entry: &Entry) -> Result<bool, AllocError> {
+        match entry {
+            Entry::Begin(number, seat, call) => self.begin(at, *number, *seat, call),
+            Entry::Commit(number) => self.commit(at, *number),
+            Entry::Return(number, reply) => {
+                let Some((place, true, false)) = self.find(*number) else {
+                    return Ok(false);
+                };
+                if let Some(card) = self.scene.cards.get_mut(place) {
+                    write_reply(self.alloc, reply, &mut card.reply)?;
+                    let lane = card.lane;
+                    let _ = self.set_busy(lane, false);
+                }
+                self.push_mark(at, place, What::Return)?;
+                Ok(true)
+            }
+        }
+    }
+}
+
+/// The words of the reply that was due to a call, by the commits up to its own.
+fn due_to(alloc: Global, journal: &Journal, number: CallNo) -> Result<Vec<u8>, AllocError> {
+    let mut tree = journal.start.copy()?;
+    let mut calls = BTreeMap::new(alloc);
+    let mut words = Vec::new(alloc);
+    for entry in journal.entries.as_slice() {
+        match entry {
+            Entry::Begin(other, _, call) => {
+                calls.insert(other.get(), call)?;
+            }
+            Entry::Commit(other) => {
+                if let Some(call) = calls.get(&other.get()) {
+                    let reply = tree.apply(alloc, call)?;
+                    if *other == number {
+                        write_reply(alloc, &reply, &mut words)?;
+                        return Ok(words);
+                    }
+                }
+            }
+            Entry::Return(_, _) => {}
+        }
+    }
+    Ok(words)
+}
+
+/// Notes at the call of a wrong reply which one was due.
+fn set_due(alloc: Global, journal: &Journal, scene: &mut Scene) -> Result<(), AllocError> {
+    let Some(
+        Fault {
+            mark: Some(place),
+            ..
+        },
+    ) = &scene.fault
+    else {
+        return Ok(());
+    };
+    if let Some(Entry::Return(number, _)) = journal.entries.as_slice().get(*place) {
+        let due = due_to(alloc, journal, *number)?;
+        let wrong = number.get();
+        if let Some(at) = scene.cards.iter().position(|card| card.number == wrong) {
+            scene.cards[at].due = due;
+        }
+    }
+    Ok(())
+}
+
+/// The scene of a journal's entries, up to the first one that does not fit those before it.
+pub fn scene_of_journal(
+    alloc: Global,
+    journal: &Journal,
+    verdict: &Verdict,
+) -> Result<Scene, AllocError> {
+    let entries = journal.entries.as_slice();
+    let mut reading = Reading::new(alloc, entries, verdict)?;
+    let mut at = 0u64;
+    for entry in entries {
+        at = at.saturating_add(1);
+        if !reading.entry(at, entry)? {
+            break;
+        }
+    }
+    let mut scene = reading.scene;
+    scene.calls = scene.cards.len();
+    set_due(alloc, journal, &mut scene)?;
+    Ok(scene)
+}

@@ -1,0 +1,214 @@
+//! The words of labels, cut where they are long. A `%` with its two digits stays whole.
+
+use crate::scene::{ARROW, Card, ELLIPSIS};
+use itoa::Buffer;
+use std::alloc::{AllocError, Global};
+
+/// The most characters of a path in a label, of each of two paths, of another word of a call, and of a reply.
+const PATH_WIDTH: usize = 28;
+
+const PATHS_WIDTH: usize = 20;
+
+const WORD_WIDTH: usize = 10;
+
+const REPLY_WIDTH: usize = 20;
+
+/// The front of a text of at most so many bytes, which parts no escape.
+fn front(text: &[u8], most: usize) -> &[u8] {
+    let mut end = most;
+    if end >= 1 && text.get(end - 1) == Some(&b'%') {
+        end -= 1;
+    } else if end >= 2 && text.get(end - 2) == Some(&b'%') {
+        end -= 2;
+    }
+    match text.get(..end) {
+        Some(front) => front,
+        None => text,
+    }
+}
+
+/// Adds a text, cut at its end where it is longer than so many characters.
+pub fn push_cut(text: &[u8], most: usize, label: &mut Vec<u8>) -> Result<(), AllocError> {
+    if text.len() <= most {
+        return label.extend_from_slice(text);
+    }
+    label.extend_from_slice(front(text, most.saturating_sub(1)))?;
+    label.push(ELLIPSIS)?;
+    Ok(())
+}
+
+/// Where the last names of a path begin that have at most so many characters; the end of the path where the last one has more.
+fn tail(path: &[u8], most: usize) -> usize {
+    let from = path.len().saturating_sub(most);
+    for at in from..path.len() {
+        if path[at] == b'/' {
+            return at;
+        }
+    }
+    path.len()
+}
+
+/// Where the last name of a path begins, with the slash before it.
+fn last_slash(path: &[u8]) -> usize {
+    let mut last = 0;
+    for at in 0..path.len() {
+        if path[at] == b'/' {
+            last = at;
+        }
+    }
+    last
+}
+
+/// The last name of a path, or the path of the root.
+pub fn last_name(path: &[u8]) -> &[u8] {
+    if path.len() <= 1 {
+        return path;
+    }
+    match path.get(last_slash(path).saturating_add(1)..) {
+        Some(name) => name,
+        None => path,
+    }
+}
+
+/// Adds a path, cut at its front where it is longer than so many characters, and else at the end of its last name.
+fn push_path(path: &[u8], most: usize, label: &mut Vec<u8>) -> Result<(), AllocError> {
+    if path.len() <= most {
+        return label.extend_from_slice(path);
+    }
+    let from = tail(path, most.saturating_sub(1));
+    if from > 0 {
+        label.push(ELLIPSIS)?;
+    }
+    match path.get(from..) {
+        Some(names) if !names.is_empty() => label.extend_from_slice(names),
+        _ => push_last_name(path, most.saturating_sub(1), label),
+    }
+}
+
+/// Adds the last name of a path with its slash, cut at its end.
+fn push_last_name(path: &[u8], most: usize, label: &mut Vec<u8>) -> Result<(), AllocError> {
+    match path.get(last_slash(path)..) {
+        Some(name) => push_cut(name, most, label),
+        None => Ok(()),
+    }
+}
+
+/// Whether a call of these words has two paths.
+fn has_two_paths(words: &[u8]) -> bool {
+    words.starts_with(b"rename ") || words.starts_with(b"exchange ")
+}
+
+fn push_word(word: &[u8], path_width: usize, label: &mut Vec<u8>) -> Result<(), AllocError> {
+    if word.starts_with(b"/") {
+        push_path(word, path_width, label)
+    } else {
+        push_cut(word, WORD_WIDTH, label)
+    }
+}
+
+/// Where the word ends that begins at a place.
+fn word_end(words: &[u8], from: usize) -> usize {
+    for at in from..words.len() {
+        if words[at] == b' ' {
+            return at;
+        }
+    }
+    words.len()
+}
+
+/// Adds the words of a call, each cut by itself.
+fn push_call(words: &[u8], label: &mut Vec<u8>) -> Result<(), AllocError> {
+    let path_width = if has_two_paths(words) {
+        PATHS_WIDTH
+    } else {
+        PATH_WIDTH
+    };
+    let mut from = 0;
+    for _ in 0..5 {
+        let end = word_end(words, from);
+        if let Some(word) = words.get(from..end) {
+            push_word(word, path_width, label)?;
+        }
+        if end >= words.len() {
+            return Ok(());
+        }
+        label.push(b' ')?;
+        from = end + 1;
+    }
+    Ok(())
+}
+
+/// Adds `#` and a number.
+pub fn push_number(number: u64, label: &mut Vec<u8>) -> Result<(), AllocError> {
+    let mut buffer = Buffer::new();
+    label.push(b'#')?;
+    label.extend_from_slice(buffer.format(number).as_bytes())
+}
+
+/// A label: what is plain in it, and what is told as a failure.
+#[derive(Drop)]
+pub struct Label {
+    pub plain: Vec<u8>,
+    pub failure: Vec<u8>,
+}
+
+impl Label {
+    /// How many characters it has.
+    pub fn len(&self) -> usize {
+        self.plain.len().saturating_add(self.failure.len())
+    }
+}
+
+/// The word of an error, where a reply's words tell one.
+fn errno_in(reply: &[u8]) -> Option<&[u8]> {
+    if reply.starts_with(b"failed ") {
+        reply.get(7..)
+    } else {
+        None
+    }
+}
+
+/// Adds a reply to a label.
+fn push_reply(card: &Card, label: &mut Label) -> Result<(), AllocError> {
+    if card.reply.is_empty() {
+        return Ok(());
+    }
+    label.plain.push(b' ')?;
+    match errno_in(card.reply.as_slice()) {
+        Some(errno) => {
+            label.failure.extend_from_slice(&[ARROW, b' '])?;
+            label.failure.extend_from_slice(errno)?;
+        }
+        None => {
+            label.plain.extend_from_slice(&[ARROW, b' '])?;
+            push_cut(card.reply.as_slice(), REPLY_WIDTH, &mut label.plain)?;
+        }
+    }
+    if card.due.is_empty() {
+        return Ok(());
+    }
+    label.failure.extend_from_slice(b", due ")?;
+    match errno_in(card.due.as_slice()) {
+        Some(errno) => label.failure.extend_from_slice(errno),
+        None => push_cut(card.due.as_slice(), REPLY_WIDTH, &mut label.failure),
+    }
+}
+
+/// The label of a call: where it begins, or in a later row.
+pub fn label_of(alloc: Global, card: &Card, again: bool, short: bool) -> Result<Label, AllocError> {
+    let mut label = Label {
+        plain: Vec::new(alloc),
+        failure: Vec::new(alloc),
+    };
+    if again {
+        label.plain.extend_from_slice(&[ELLIPSIS, b' '])?;
+    }
+    push_number(card.number, &mut label.plain)?;
+    if again && short {
+        return Ok(label);
+    }
+    label.plain.push(b' ')?;
+    push_call(card.words.as_slice(), &mut label.plain)?;
+    push_reply(card, &mut label)?;
+    Ok(label)
+}

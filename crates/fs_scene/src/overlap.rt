@@ -1,0 +1,209 @@
+//! One call, and those that overlap it.
+
+use crate::scene::{Card, Fault, Mark, Scene, What};
+use std::alloc::{AllocError, Global};
+
+/// Whether two calls overlap: neither ended before the other began. A call that did not return has no end.
+fn overlap(one: &Card, other: &Card) -> bool {
+    let before = |card: &Card, than: &Card| !card.reply.is_empty() && card.last < than.first;
+    !before(one, other) && !before(other, one)
+}
+
+/// Which calls overlap the one of a place.
+fn kept_at(alloc: Global, scene: &Scene, place: usize) -> Result<Vec<bool>, AllocError> {
+    let mut kept = Vec::new(alloc);
+    for card in &scene.cards {
+        let keeps = match scene.cards.get(place) {
+            Some(one) => overlap(one, card),
+            None => false,
+        };
+        kept.push(keeps)?;
+    }
+    Ok(kept)
+}
+
+/// Keeps a call too where the other one is kept, and the other way round; and answers whether that is new.
+fn join(kept: &mut Vec<bool>, one: usize, other: usize) -> bool {
+    if one >= kept.len() || other >= kept.len() || kept[one] == kept[other] {
+        return false;
+    }
+    kept[one] = true;
+    kept[other] = true;
+    true
+}
+
+/// Keeps who helped a kept call, and whom it helped.
+fn keep_helpers(scene: &Scene, kept: &mut Vec<bool>) {
+    for _ in 0..scene.cards.len() {
+        let mut grew = false;
+        for i in 0..scene.cards.len() {
+            if let Some(helper) = scene.cards[i].helper {
+                grew = join(kept, i, helper) || grew;
+            }
+        }
+        if !grew {
+            return;
+        }
+    }
+}
+
+/// The new places of what is kept.
+fn new_places(alloc: Global, kept: &[bool]) -> Result<Vec<Option<usize>>, AllocError> {
+    let mut places = Vec::new(alloc);
+    let mut next = 0usize;
+    for keeps in kept {
+        if *keeps {
+            places.push(Some(next))?;
+            next = next.saturating_add(1);
+        } else {
+            places.push(None)?;
+        }
+    }
+    Ok(places)
+}
+
+fn place_in(places: &[Option<usize>], old: usize) -> Option<usize> {
+    *places.get(old)?
+}
+
+/// Which lanes have a call that is kept.
+fn lanes_kept(alloc: Global, scene: &Scene, kept: &[bool]) -> Result<Vec<bool>, AllocError> {
+    let mut lanes = Vec::new(alloc);
+    for _ in &scene.lanes {
+        lanes.push(false)?;
+    }
+    for i in 0..scene.cards.len() {
+        if kept.get(i) == Some(&true) {
+            if let Some(slot) = lanes.get_mut(scene.cards[i].lane) {
+                *slot = true;
+            }
+        }
+    }
+    Ok(lanes)
+}
+
+/// A mark of calls that have new places.
+fn mark_at(mark: Mark, cards: &[Option<usize>]) -> Option<Mark> {
+    let Mark {
+        at,
+        card,
+        what,
+        name,
+    } = mark;
+    let card = place_in(cards, card)?;
+    let what = match what {
+        What::Help(helped) => What::Help(place_in(cards, helped)?),
+        _ => what,
+    };
+    Some(Mark {
+        at,
+        card,
+        what,
+        name,
+    })
+}
+
+/// The scene of the call of a number and those that overlap it, or help a call that is shown, or are helped by one; none where
+/// no call has this number.
+pub fn around(alloc: Global, scene: Scene, number: u64) -> Result<Option<Scene>, AllocError> {
+    let Some(place) = scene.cards.iter().position(|card| card.number == number) else {
+        return Ok(None);
+    };
+    let mut kept = kept_at(alloc, &scene, place)?;
+    keep_helpers(&scene, &mut kept);
+    let cards = new_places(alloc, kept.as_slice())?;
+    let lanes_kept = lanes_kept(alloc, &scene, kept.as_slice())?;
+    let lanes = new_places(alloc, lanes_kept.as_slice())?;
+    Ok(Some(moved(alloc, scene, cards.as_slice(), lanes.as_slice(), number)?))
+}
+
+/// The cards that have new places, with the new places of their lanes.
+fn moved_cards(
+    alloc: Global,
+    old: Vec<Card>,
+    cards: &[Option<usize>],
+    lanes: &[Option<usize>],
+) -> Result<Vec<Card>, AllocError> {
+    let mut new = Vec::new(alloc);
+    let mut at = 0usize;
+    for mut card in old {
+        if let (Some(_), Some(lane)) = (place_in(cards, at), place_in(lanes, card.lane)) {
+            card.lane = lane;
+            card.helper = match card.helper {
+                Some(helper) => place_in(cards, helper),
+                None => None,
+            };
+            new.push(card)?;
+        }
+        at = at.saturating_add(1);
+    }
+    Ok(new)
+}
+
+/// The names of lanes that have new places.
+fn moved_lanes(
+    alloc: Global,
+    old: Vec<Vec<u8>>,
+    lanes: &[Option<usize>],
+) -> Result<Vec<Vec<u8>>, AllocError> {
+    let mut new = Vec::new(alloc);
+    let mut at = 0usize;
+    for name in old {
+        if place_in(lanes, at).is_some() {
+            new.push(name)?;
+        }
+        at = at.saturating_add(1);
+    }
+    Ok(new)
+}
+
+/// The fault with the new place of its mark; none where that mark has none.
+fn moved_fault(fault: Option<Fault>, mark: Option<usize>) -> Option<Fault> {
+    let Fault { words, mark: old } = fault?;
+    if old.is_some() && mark.is_none() {
+        return None;
+    }
+    Some(Fault { words, mark })
+}
+
+/// The scene of what has new places.
+fn moved(
+    alloc: Global,
+    scene: Scene,
+    cards: &[Option<usize>],
+    lanes: &[Option<usize>],
+    number: u64,
+) -> Result<Scene, AllocError> {
+    let Scene {
+        lanes: names,
+        cards: old,
+        marks: all,
+        fault,
+        is_run,
+        calls,
+        ..
+    } = scene;
+    let mut marks = Vec::new(alloc);
+    let mut fault_at = None;
+    let mut at = 0usize;
+    for mark in all {
+        if let Some(mark) = mark_at(mark, cards) {
+            if let Some(one) = &fault {
+                if one.mark == Some(at) {
+                    fault_at = Some(marks.len());
+                }
+            }
+            marks.push(mark)?;
+        }
+        at = at.saturating_add(1);
+    }
+    Ok(Scene {
+        lanes: moved_lanes(alloc, names, lanes)?,
+        cards: moved_cards(alloc, old, cards, lanes)?,
+        marks,
+        fault: moved_fault(fault, fault_at),
+        is_run,
+        calls,
+        around: Some(number),
+    })
+}

@@ -1,7 +1,0 @@
-use Rattle.std.proofs.Common.{length}
-use Rattle.fs_sched.specs.Runs.{start}
-use Rattle.fs_trace.proofs.Telling.{run_told}
-use Rattle.fs_trace.proofs.laws.told_is_a_run.Goals as goal
-
-pub returns : goal.returns
-returns c schedule script told last (none, tells) = run_told schedule script (start (length script.lists)) last told none tells
