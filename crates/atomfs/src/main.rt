@@ -13,68 +13,74 @@ ghost use Rattle.fs_command.specs.Commands.{IsWithin};
 mod tests;
 
 use fs_command::{
-    Subcommand, Topic, explanation, parse, report, report_draw, report_trace, status_of_run,
-    status_of_unreadable_args, status_of_usage, status_of_verdict,
+    Line, SharedLine, Subcommand, Topic, explanation, parse, report, report_draw, report_trace,
+    status_of_run, status_of_unreadable_args, status_of_usage, status_of_verdict,
 };
 use fs_draw::{DrawFault, draw_input};
+use fs_record::TraceFault;
 use fs_sched::{
-    Device, RunFault, Schedule, Sink, Source, check_journal, run_script, run_seeds, write_text,
+    Device, Progress, RunFault, Schedule, Silent, Sink, Source, check_journal, run_script,
+    run_seeds, write_text,
 };
-use fs_threads::{ThreadsFault, run_threads};
-use fs_trace::{TraceFault, schedule_script, trace_script};
+use fs_share::Open;
+use fs_threads::{ThreadsFault, Watch, run_threads};
+use fs_trace::{schedule_script, trace_script};
 use std::alloc::Global;
 use std::convert::AsStr;
-use std::io::{Read, Write};
+use std::io::{IsTerminal, Read, Stderr, Write};
 use std::process::ExitCode;
 use std::sync::Wait;
 use std::thread::Threads;
 use std::time::Clock;
 
 /// Runs a script, and answers the status.
-fn run<R: Source, W: Sink>(
+fn run<R: Source, W: Sink, P: Progress>(
     alloc: Global,
     reader: &mut R,
     writer: &mut W,
     schedule: Schedule,
+    progress: &mut P,
 ) -> Result<u8, RunFault>
     requires reads { R.failures reader.old < 2 ^ 64 - 1 }
     requires writes { W.failures writer.old < 2 ^ 64 - 1 }
 {
-    match run_script(alloc, reader, writer, schedule) {
+    match run_script(alloc, reader, writer, schedule, progress) {
         Ok(end) => Ok(status_of_run(&end)),
         Err(fault) => Err(fault),
     }
 }
 
 /// Makes drawn runs of a script, and answers the status.
-fn seeds<R: Source, W: Sink>(
+fn seeds<R: Source, W: Sink, P: Progress>(
     alloc: Global,
     reader: &mut R,
     writer: &mut W,
     seed: u64,
     runs: u64,
+    progress: &mut P,
 ) -> Result<u8, RunFault>
     requires reads { R.failures reader.old < 2 ^ 64 - 1 }
     requires writes { W.failures writer.old < 2 ^ 64 - 1 }
     requires within { IsWithin (Subcommand.Seeds seed runs) }
 {
-    match run_seeds(alloc, reader, writer, seed, runs) {
+    match run_seeds(alloc, reader, writer, seed, runs, progress) {
         Ok(lawful) => Ok(status_of_verdict(lawful)),
         Err(fault) => Err(fault),
     }
 }
 
 /// Runs the threads of a script on real ones, and answers the status.
-fn threads<T: Threads + Wait + Clock + Sync, R: Source, W: Sink>(
+fn threads<T: Threads + Wait + Clock + Sync, R: Source, W: Sink, G: Watch + Sync>(
     rt: &T,
     alloc: Global,
     reader: &mut R,
     writer: &mut W,
+    watch: &G,
 ) -> Result<u8, ThreadsFault>
     requires reads { R.failures reader.old < 2 ^ 64 - 1 }
     requires writes { W.failures writer.old < 2 ^ 64 - 1 }
 {
-    match run_threads(rt, alloc, reader, writer) {
+    match run_threads(rt, alloc, reader, writer, watch) {
         Ok(lawful) => Ok(status_of_verdict(lawful)),
         Err(fault) => Err(fault),
     }
@@ -157,8 +163,72 @@ fn explain<W: Sink>(
     Ok(0)
 }
 
+/// Runs a script, and tells on a terminal how far that is.
+fn run_shown<C: Clock, R: Source, W: Sink>(
+    clock: &C,
+    alloc: Global,
+    reader: &mut R,
+    writer: &mut W,
+    schedule: Schedule,
+    terminal: Option<Stderr>,
+) -> Result<u8, RunFault>
+    requires reads { R.failures reader.old < 2 ^ 64 - 1 }
+    requires writes { W.failures writer.old < 2 ^ 64 - 1 }
+{
+    let Some(errors) = terminal else {
+        return run(alloc, reader, writer, schedule, &mut Silent);
+    };
+    let mut line = Line::new(alloc, clock, errors);
+    let outcome = run(alloc, reader, writer, schedule, &mut line);
+    line.end();
+    outcome
+}
+
+/// Makes drawn runs of a script, and tells on a terminal how far they are.
+fn seeds_shown<C: Clock, R: Source, W: Sink>(
+    clock: &C,
+    alloc: Global,
+    reader: &mut R,
+    writer: &mut W,
+    numbers: (u64, u64),
+    terminal: Option<Stderr>,
+) -> Result<u8, RunFault>
+    requires reads { R.failures reader.old < 2 ^ 64 - 1 }
+    requires writes { W.failures writer.old < 2 ^ 64 - 1 }
+    requires within { IsWithin (Subcommand.Seeds numbers.0 numbers.1) }
+{
+    let (first, runs) = numbers;
+    let Some(errors) = terminal else {
+        return seeds(alloc, reader, writer, first, runs, &mut Silent);
+    };
+    let mut line = Line::new(alloc, clock, errors);
+    let outcome = seeds(alloc, reader, writer, first, runs, &mut line);
+    line.end();
+    outcome
+}
+
+/// Runs the threads of a script on real ones, and tells on a terminal how far they are.
+fn threads_shown<T: Threads + Wait + Clock + Sync, R: Source, W: Sink>(
+    rt: &T,
+    alloc: Global,
+    reader: &mut R,
+    writer: &mut W,
+    terminal: Option<Stderr>,
+) -> Result<u8, ThreadsFault>
+    requires reads { R.failures reader.old < 2 ^ 64 - 1 }
+    requires writes { W.failures writer.old < 2 ^ 64 - 1 }
+{
+    let Some(errors) = terminal else {
+        return threads(rt, alloc, reader, writer, &Open);
+    };
+    let line = SharedLine::new(alloc, rt, errors);
+    let outcome = threads(rt, alloc, reader, writer, &line);
+    line.end();
+    outcome
+}
+
 /// Does what a subcommand asks for, from a reader to a writer, and answers the exit status. The message of a fault goes
-/// to `errors`.
+/// to `errors`. Where these are shown on a terminal, that is told how far a long command is.
 fn perform<T: Threads + Wait + Clock + Sync, R: Source, W: Sink, E: Write>(
     rt: &T,
     alloc: Global,
@@ -166,14 +236,17 @@ fn perform<T: Threads + Wait + Clock + Sync, R: Source, W: Sink, E: Write>(
     reader: &mut R,
     writer: &mut W,
     errors: &mut E,
+    terminal: Option<Stderr>,
 ) -> u8
     requires within { IsWithin subcommand.now }
     requires reads { R.failures reader.old < 2 ^ 64 - 1 }
     requires writes { W.failures writer.old < 2 ^ 64 - 1 }
 {
     let outcome = match subcommand {
-        Subcommand::Run(schedule) => run(alloc, reader, writer, *schedule),
-        Subcommand::Seeds(first, runs) => seeds(alloc, reader, writer, *first, *runs),
+        Subcommand::Run(order) => run_shown(rt, alloc, reader, writer, *order, terminal),
+        Subcommand::Seeds(first, runs) => {
+            seeds_shown(rt, alloc, reader, writer, (*first, *runs), terminal)
+        }
         Subcommand::Check => check(alloc, reader, writer),
         Subcommand::Explain(first, second) => explain(alloc, writer, *first, *second),
         Subcommand::Trace(order, every) => {
@@ -185,7 +258,9 @@ fn perform<T: Threads + Wait + Clock + Sync, R: Source, W: Sink, E: Write>(
         Subcommand::Schedule(order) => {
             return report_trace(errors, schedule(alloc, reader, writer, *order));
         }
-        Subcommand::Threads => return report(errors, threads(rt, alloc, reader, writer)),
+        Subcommand::Threads => {
+            return report(errors, threads_shown(rt, alloc, reader, writer, terminal));
+        }
     };
     report(errors, outcome.map_err(ThreadsFault::Run))
 }
@@ -198,6 +273,7 @@ fn status_of_args<T, S: AsStr, R: Read + Drop, W: Write + Drop, E: Write>(
     input: R,
     mut output: W,
     errors: &mut E,
+    terminal: Option<Stderr>,
 ) -> u8
 where
     T: Threads + Wait + Clock + Sync,
@@ -206,7 +282,15 @@ where
         Ok(subcommand) => {
             let mut reader = Device::new(input);
             let mut writer = Device::new(output);
-            perform(rt, alloc, &subcommand, &mut reader, &mut writer, errors)
+            perform(
+                rt,
+                alloc,
+                &subcommand,
+                &mut reader,
+                &mut writer,
+                errors,
+                terminal,
+            )
         }
         Err(error) => status_of_usage(&mut output, errors, error),
     }
@@ -217,6 +301,11 @@ where
 fn exit_status<T: Threads + Wait + Clock + Sync>(rt: &HostRuntime, threads: &T) -> u8 {
     let alloc = rt.alloc();
     let mut errors = rt.stderr();
+    let terminal = if errors.is_terminal() {
+        Some(errors)
+    } else {
+        None
+    };
     let args = match std::env::args(rt) {
         Ok(args) => args,
         Err(error) => return status_of_unreadable_args(&mut errors, &error),
@@ -232,6 +321,7 @@ fn exit_status<T: Threads + Wait + Clock + Sync>(rt: &HostRuntime, threads: &T) 
         rt.stdin(),
         rt.stdout(),
         &mut errors,
+        terminal,
     )
 }
 

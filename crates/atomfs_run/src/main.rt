@@ -4,7 +4,7 @@
 //! nothing is proved yet. Output, messages and exit statuses are those of `atomfs run`.
 #![tactic(auto)]
 
-use fs_sched::{Device, RunEnd, RunFault, Schedule, run_script};
+use fs_sched::{Device, RunEnd, RunFault, Schedule, Silent, run_script};
 use std::io::Write;
 use std::process::ExitCode;
 
@@ -24,6 +24,12 @@ fn status_of<E: Write>(errors: &mut E, outcome: Result<RunEnd, RunFault>) -> u8 
 fn main(rt: HostRuntime) -> ExitCode {
     let mut reader = Device::new(rt.stdin());
     let mut writer = Device::new(rt.stdout());
-    let outcome = run_script(rt.alloc(), &mut reader, &mut writer, Schedule::Given);
+    let outcome = run_script(
+        rt.alloc(),
+        &mut reader,
+        &mut writer,
+        Schedule::Given,
+        &mut Silent,
+    );
     ExitCode::from(status_of(&mut rt.stderr(), outcome))
 }

@@ -6,8 +6,8 @@ use Rattle.fs_threads.specs.declared.fault.ThreadsFault.{ThreadsFault}
 use Rattle.fs_threads.specs.declared.fault.ThreadsFault.TheVariants.{Run, Lists}
 use Rattle.fs_draw.specs.Faults.{status_of_draw}
 use Rattle.fs_draw.specs.declared.fault.DrawFault.{DrawFault}
-use Rattle.fs_trace.specs.Faults.{status_of_trace}
-use Rattle.fs_trace.specs.declared.fault.TraceFault.{TraceFault}
+use Rattle.fs_record.specs.Faults.{status_of_trace}
+use Rattle.fs_record.specs.declared.fault.TraceFault.{TraceFault}
 
 -- the status that a command came to, or that of its fault: 4 where there was no worker
 abbrev pub status_of : Result ℕ ThreadsFault → ℕ

@@ -14,7 +14,7 @@ use std::alloc::Global;
 use std::convert::AsStr;
 
 /// The version of the program.
-pub const VERSION: &str = "0.2.0";
+pub const VERSION: &str = "0.3.0";
 
 /// What the command line asks for.
 #[derive(Clone, Copy, Debug, PartialEq, Eq)]
@@ -38,6 +38,8 @@ pub enum Subcommand {
 }
 
 const RUN_STATUSES: &str = "\
+Where standard error is a terminal, a command that takes longer than a quarter of a second shows there how far it is.
+
 Exit status:
   0  every call of the script returned
   1  the script ended with calls left: begun and not returned, or not begun; or a checkpoint found calls under way
@@ -50,6 +52,8 @@ Example:
   atomfs run --seed 7 < examples/moved_ancestor.script";
 
 const SEEDS_STATUSES: &str = "\
+Where standard error is a terminal, a command that takes longer than a quarter of a second shows there how far it is.
+
 Exit status:
   0  every run is lawful
   1  a run has a fault
@@ -62,6 +66,8 @@ Example:
   atomfs seeds --seed 1 --runs 100 < examples/moved_ancestor.script";
 
 const THREADS_STATUSES: &str = "\
+Where standard error is a terminal, a command that takes longer than a quarter of a second shows there how far it is.
+
 Exit status:
   0  the timeline of the calls is lawful
   1  it has a fault

@@ -14,11 +14,11 @@ use fs_timeline::FaultKind as EntryFault;
 use std::alloc::{AllocError, Global};
 
 const BAD_HEADER: &str = "\
-BadHeader: the first line is not `atomfs 1`, or for a journal `atomfs-journal 1` or `atomfs-journal 2`; or the input is empty
+BadHeader: the first line is not `atomfs 1` or `atomfs 2`, or for a journal `atomfs-journal 1`, `2` or `3`; or the input is empty
 
-In a script, for    atomfs 2
-write               atomfs 1
-because             there is one version, and no line precedes it
+In a script, for    atomfs 3
+write               atomfs 2
+because             there are two versions, and no line precedes theirs
 
 In a journal, for   atomfs 1
 write               atomfs-journal 1
@@ -98,11 +98,11 @@ because             no name has a byte zero, and `%25` is a `%`
 ";
 
 const NAME_TOO_LONG: &str = "\
-NameTooLong: a name in a path has more than 32 bytes
+NameTooLong: a name in a path has more than 32 bytes, in a text of version 2 more than 64
 
 In a script, for    stat /abcdefghijklmnopqrstuvwxyz0123456
 write               stat /abcdefghijklmnopqrstuvwxyz012345
-because             a name has at most 32 bytes
+because             a name has at most 32 bytes, in a text of version 2 at most 64
 ";
 
 const TOO_MANY_NAMES: &str = "\

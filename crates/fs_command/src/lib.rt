@@ -3,7 +3,8 @@
 //! `parse` reads the arguments by `clap`: the subcommand, a run's schedule, and the numbers of drawn runs, which are within
 //! their ranges (`within`). `explanation` is the text of `atomfs explain`, which begins with the word that was asked for.
 //! `status_of_run`, `status_of_verdict` and `report` tell the exit status of what the subcommand
-//! came to; the message of a fault goes to standard error. Nothing here reads input or runs a script.
+//! came to; the message of a fault goes to standard error. `Line` and `SharedLine` tell on a terminal how far a command is.
+//! Nothing here reads input or runs a script.
 //!
 //! The definitions are in `specs/`: `Commands` (what is asked for), `Topics` (the words of faults) and `Statuses` (the exit
 //! statuses).
@@ -11,11 +12,13 @@
 
 pub mod cli;
 mod explanations;
+mod progress;
 pub mod status;
 pub mod topic;
 
 pub use cli::{Subcommand, parse};
 pub use explanations::explanation;
+pub use progress::{Line, SharedLine};
 pub use status::{
     report, report_draw, report_trace, status_of_run, status_of_unreadable_args, status_of_usage,
     status_of_verdict,

@@ -8,9 +8,9 @@ ghost use Rattle.fs_command.specs.Statuses.{status_of, status_of_drawn, status_o
 use clap::Error;
 use clap::error::ErrorKind;
 use fs_draw::DrawFault;
+use fs_record::TraceFault;
 use fs_sched::{RunEnd, RunFault};
 use fs_threads::ThreadsFault;
-use fs_trace::TraceFault;
 use std::io::{self, ErrorKind as IoErrorKind, Write};
 
 /// The status after a run: success where every call of the script returned.

@@ -1,0 +1,289 @@
+//! How far a command is, told on a terminal: one line, which is written anew in its place and erased at the end.
+
+use fs_core::Stepped;
+use fs_sched::Progress;
+use fs_share::Gate;
+use fs_threads::Watch;
+use fs_words::Addition;
+use std::alloc::{AllocError, Global};
+use std::io::{Stderr, Write};
+use std::sync::Wait;
+use std::sync::atomic::{AtomicU64, Ordering};
+use std::time::Clock;
+
+/// How many bytes the line has. A shorter one is filled with spaces, so that it covers the one before.
+const WIDTH: usize = 72;
+
+/// How many milliseconds pass before the line is shown first, and between two.
+const FIRST: u64 = 250;
+
+const BETWEEN: u64 = 100;
+
+/// After how many events the clock is looked at.
+const EVENTS: u64 = 4_096;
+
+/// The milliseconds of a clock that never goes back; 0 where it cannot be read.
+fn milliseconds<C: Clock>(clock: &C) -> u64 {
+    match clock.monotonic() {
+        Ok(time) => time
+            .as_secs()
+            .saturating_mul(1_000)
+            .saturating_add(u64::from(time.subsec_millis())),
+        Err(_) => 0,
+    }
+}
+
+/// How much is done, of how much, after so many milliseconds.
+#[derive(Clone, Copy, Debug)]
+struct Share {
+    done: u64,
+    all: u64,
+    gone: u64,
+}
+
+impl Share {
+    /// How many of a hundred parts are done.
+    fn percent(self) -> u64 {
+        if self.all == 0 {
+            return 0;
+        }
+        (self.done.saturating_mul(100) / self.all).min(100)
+    }
+
+    /// How many seconds are left, where the rest goes on like what is done; none before anything is done.
+    fn seconds_left(self) -> Option<u64> {
+        if self.done == 0 {
+            return None;
+        }
+        let left = self.all.saturating_sub(self.done);
+        Some(self.gone.saturating_mul(left) / self.done / 1_000)
+    }
+
+    /// Adds how much is done of what, the share, and the time that is left.
+    fn push(self, what: &[u8], words: &mut Addition) -> Result<(), AllocError> {
+        words.push_number(self.done)?;
+        words.push_with_number(b" of ", self.all)?;
+        words.push(what)?;
+        words.push_with_number(b", ", self.percent())?;
+        words.push(b" %")?;
+        if let Some(seconds) = self.seconds_left() {
+            words.push_with_number(b", ", seconds)?;
+            words.push(b" s left")?;
+        }
+        Ok(())
+    }
+}
+
+/// The words of a line, from its left end on, with spaces up to its width.
+fn line_of(alloc: Global, words: &[u8]) -> Result<Vec<u8>, AllocError> {
+    let mut line = Vec::new(alloc);
+    line.push(b'\r')?;
+    line.extend_from_slice(words)?;
+    for _ in words.len()..WIDTH {
+        line.push(b' ')?;
+    }
+    Ok(line)
+}
+
+/// A terminal on standard error.
+#[derive(Clone, Copy)]
+struct Terminal {
+    alloc: Global,
+    errors: Stderr,
+}
+
+impl Terminal {
+    /// Writes words in the place of the line. Where there is no memory or standard error takes nothing, nothing is shown.
+    fn show(self, words: &[u8]) {
+        let mut errors = self.errors;
+        if let Ok(line) = line_of(self.alloc, words) {
+            let _ = errors.write_all(line.as_slice());
+        }
+    }
+
+    /// Erases the line.
+    fn erase(self) {
+        let mut errors = self.errors;
+        self.show(b"");
+        let _ = errors.write_all(b"\r");
+    }
+}
+
+/// How far runs are.
+#[derive(Drop)]
+pub struct Line<'a, C: Clock> {
+    terminal: Terminal,
+    clock: &'a C,
+    began: u64,
+    shown: u64,
+    is_shown: bool,
+    calls: u64,
+    events: u64,
+    unseen: u64,
+    entries_before: u64,
+    entries: u64,
+}
+
+impl<'a, C: Clock> Line<'a, C> {
+    /// Before the first run. Nothing is shown yet.
+    pub fn new(alloc: Global, clock: &'a C, errors: Stderr) -> Line<'a, C> {
+        let began = milliseconds(clock);
+        Line {
+            terminal: Terminal { alloc, errors },
+            clock,
+            began,
+            shown: began,
+            is_shown: false,
+            calls: 0,
+            events: 0,
+            unseen: 0,
+            entries_before: 0,
+            entries: 0,
+        }
+    }
+
+    /// How many milliseconds have gone, where it is time to show the line.
+    fn is_time(&mut self) -> Option<u64> {
+        let now = milliseconds(self.clock);
+        let gone = now.saturating_sub(self.began);
+        if gone < FIRST || now.saturating_sub(self.shown) < BETWEEN {
+            return None;
+        }
+        self.shown = now;
+        self.is_shown = true;
+        Some(gone)
+    }
+
+    /// Shows how much is done of what, behind how many events that took.
+    fn show(&mut self, share: Share, what: &[u8]) {
+        let mut words = Addition::new(Vec::new(self.terminal.alloc));
+        let made = if self.events > 0 {
+            words
+                .push_number(self.events)
+                .and_then(|_| words.push(b" events, "))
+        } else {
+            Ok(())
+        };
+        if made.is_ok() && share.push(what, &mut words).is_ok() {
+            self.terminal.show(words.kept().as_slice());
+        }
+    }
+
+    /// Erases the line, where it was shown.
+    pub fn end(&mut self) {
+        if self.is_shown {
+            self.terminal.erase();
+            self.is_shown = false;
+        }
+    }
+}
+
+impl<'a, C: Clock> Progress for Line<'a, C> {
+    fn begins(&mut self, calls: usize) {
+        self.calls = calls as u64;
+    }
+
+    fn went_on(&mut self, events: u64, entries: usize) {
+        self.events = self.events.saturating_add(events);
+        self.unseen = self.unseen.saturating_add(events);
+        if self.unseen < EVENTS {
+            return;
+        }
+        self.unseen = 0;
+        let entries = entries as u64;
+        if entries < self.entries {
+            self.entries_before = self.entries_before.saturating_add(self.entries);
+        }
+        self.entries = entries;
+        if let Some(gone) = self.is_time() {
+            let done = self.entries_before.saturating_add(entries) / 3;
+            let all = self.calls;
+            self.show(Share { done, all, gone }, b" calls");
+        }
+    }
+
+    fn has_run(&mut self, done: u64, runs: u64) {
+        if let Some(gone) = self.is_time() {
+            self.show(
+                Share {
+                    done,
+                    all: runs,
+                    gone,
+                },
+                b" runs",
+            );
+        }
+    }
+}
+
+/// How far threads are. Each tells of its own calls; whoever finds it time shows the line.
+#[derive(Drop)]
+pub struct SharedLine {
+    terminal: Terminal,
+    began: u64,
+    shown: AtomicU64,
+    calls: AtomicU64,
+    returned: AtomicU64,
+}
+
+impl SharedLine {
+    /// Before the first call. Nothing is shown yet.
+    pub fn new<C: Clock>(alloc: Global, clock: &C, errors: Stderr) -> SharedLine {
+        SharedLine {
+            terminal: Terminal { alloc, errors },
+            began: milliseconds(clock),
+            shown: AtomicU64::new(0),
+            calls: AtomicU64::new(0),
+            returned: AtomicU64::new(0),
+        }
+    }
+
+    /// Whether this thread is to show the line, after so many milliseconds: it is time, and no other does.
+    fn is_ours(&self, gone: u64) -> bool {
+        let shown = self.shown.load(Ordering::SeqCst);
+        if gone < FIRST || gone.saturating_sub(shown) < BETWEEN {
+            return false;
+        }
+        self.shown
+            .compare_exchange(shown, gone, Ordering::SeqCst, Ordering::SeqCst)
+            .is_ok()
+    }
+
+    /// Shows how many calls returned, after so many milliseconds.
+    fn show(&self, done: u64, gone: u64) {
+        let all = self.calls.load(Ordering::SeqCst);
+        let mut words = Addition::new(Vec::new(self.terminal.alloc));
+        if (Share { done, all, gone })
+            .push(b" calls", &mut words)
+            .is_ok()
+        {
+            self.terminal.show(words.kept().as_slice());
+        }
+    }
+
+    /// Erases the line, where it was shown.
+    pub fn end(&self) {
+        if self.shown.load(Ordering::SeqCst) > 0 {
+            self.terminal.erase();
+        }
+    }
+}
+
+impl Gate for SharedLine {
+    fn after<R: Wait + Clock>(&self, rt: &R, stepped: &Stepped) {
+        if !matches!(stepped, Stepped::Returned(_)) {
+            return;
+        }
+        let before = self.returned.fetch_add(1, Ordering::SeqCst);
+        let gone = milliseconds(rt).saturating_sub(self.began);
+        if self.is_ours(gone) {
+            self.show(before.saturating_add(1), gone);
+        }
+    }
+}
+
+impl Watch for SharedLine {
+    fn begins(&self, calls: usize) {
+        self.calls.store(calls as u64, Ordering::SeqCst);
+    }
+}
