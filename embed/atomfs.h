@@ -27,7 +27,7 @@ extern "C" {
 #endif
 
 /* The version of this header; atomfs_version is that of the library. */
-#define ATOMFS_VERSION "0.2.0"
+#define ATOMFS_VERSION "0.3.0"
 
 /* A handle. Its fields are the library's own. */
 typedef struct atomfs {
@@ -38,7 +38,7 @@ typedef struct atomfs {
 /* A closed handle: atomfs fs = ATOMFS_INIT; */
 #define ATOMFS_INIT { 0, 0 }
 
-/* The greatest limit of nodes, and the first line of the journal of a tree that began empty. */
+/* The greatest limit of nodes, and the first line of the journal of a tree that began empty by the limits ATOMFS_V1. */
 #define ATOMFS_NODE_LIMIT 1048576
 #define ATOMFS_JOURNAL_HEADER "atomfs-journal 1\n"
 
@@ -61,6 +61,7 @@ enum {
     ATOMFS_FULL = 10,         /* the call needs a node, and all are in use */
     ATOMFS_NO_REPLY = 11,     /* no call of this number has returned */
     ATOMFS_UNDER_WAY = 12,    /* a call is under way, the one of the least number is *number */
+    ATOMFS_BAD_VERSION = 13,  /* the limits are neither ATOMFS_V1 nor ATOMFS_V2 */
     ATOMFS_NULL = 14,         /* a pointer is null, and may not be */
     ATOMFS_BAD_LENGTH = 15,   /* a length is 2^63 or more */
     /* Faults of what is read: a path, a request, a line, or a script or a journal, whose line *count is. */
@@ -80,6 +81,12 @@ enum {
        error, as ATOMFS_FAILED + ENOENT. Errors are ENOENT, ENOTDIR, EEXIST, ENOTEMPTY, EISDIR, EINVAL, EBUSY, EPERM,
        ENOSPC (too many entries) and EFBIG. */
     ATOMFS_FAILED = 128
+};
+
+/* The limits of names and files of a tree. */
+enum {
+    ATOMFS_V1 = 1, /* names of at most 32 bytes, files of at most 65,536 */
+    ATOMFS_V2 = 2  /* names of at most 64 bytes, files of at most 1,048,576 */
 };
 
 /* What a step did, and what *about is then. */
@@ -130,9 +137,13 @@ typedef struct atomfs_request {
 
 /* ---- Handles and seats */
 
-/* Opens a closed handle: an empty tree for at most limit nodes, its root included.
+/* Opens a closed handle: an empty tree for at most limit nodes, its root included, by the limits ATOMFS_V1.
  * OK, ALREADY_OPEN, BAD_LIMIT, NO_MEMORY. By an error the handle stays as it was. */
 uint8_t atomfs_open(atomfs *fs, size_t limit);
+
+/* The same by the limits of a version, ATOMFS_V1 or ATOMFS_V2. Paths, lines and files of the tree are bounded by them, and its
+ * journal is of their version. OK, ALREADY_OPEN, BAD_LIMIT, BAD_VERSION, NO_MEMORY. By an error the handle stays as it was. */
+uint8_t atomfs_open_with(atomfs *fs, size_t limit, uint8_t version);
 
 /* Closes a handle, and frees its tree and its journal. OK, CLOSED. */
 uint8_t atomfs_close(atomfs *fs);
@@ -228,7 +239,7 @@ uint8_t atomfs_reply_wrote(atomfs *fs, uint64_t number, uint64_t *wrote);
 
 /* ---- Words for statuses */
 
-/* The version of the library, as "0.2.0". */
+/* The version of the library, as "0.3.0". */
 const char *atomfs_version(void);
 
 /* The name of the error of a status from ATOMFS_FAILED on, as "ENOENT"; null for any other status. */

@@ -89,6 +89,11 @@ uint8_t atomfs_open(atomfs *fs, size_t limit) {
     return refused(status) ? status : PROVED(open)(fs, limit);
 }
 
+uint8_t atomfs_open_with(atomfs *fs, size_t limit, uint8_t version) {
+    uint8_t status = there(fs);
+    return refused(status) ? status : PROVED(open_with)(fs, limit, version);
+}
+
 uint8_t atomfs_close(atomfs *fs) {
     uint8_t status = there(fs);
     return refused(status) ? status : PROVED(close)(fs);
@@ -296,6 +301,7 @@ const char *atomfs_status_text(uint8_t status) {
     case ATOMFS_FULL: return "all nodes are in use";
     case ATOMFS_NO_REPLY: return "no call of this number has returned";
     case ATOMFS_UNDER_WAY: return "a call is under way";
+    case ATOMFS_BAD_VERSION: return "no limits have this version";
     case ATOMFS_NULL: return "a pointer is null";
     case ATOMFS_BAD_LENGTH: return "a length is 2^63 or more";
     case ATOMFS_BAD_HEADER: return "the first line is another than it has to be";

@@ -8,7 +8,7 @@ from fs.test import FSTestCases
 from atomfs.fs import AtomFS
 
 # What a test of the suite needs, and a tree has not.
-LONG_FILES = "it stores files of up to 5,505,024 bytes, and a file has at most 65,536"
+LONG_FILES = "it stores files of up to 5,505,024 bytes, and a file has at most 1,048,576"
 LEFT_OUT = {f"test_{way}_{workers}": LONG_FILES for way in ("upload", "download") for workers in (0, 1, 2, 4)}
 
 
@@ -40,7 +40,7 @@ class LeftOut(unittest.TestCase):
     def test_each(self):
         for name in LEFT_OUT:
             with self.subTest(name), self.assertRaises((OSError, errors.BulkCopyFailed)) as raised:
-                suite = type("Suite", (FSTestCases, unittest.TestCase), {"make_fs": lambda self: Checked()})(name)
+                suite = type("Suite", (FSTestCases, unittest.TestCase), {"make_fs": lambda self: AtomFS()})(name)
                 suite.setUp()
                 getattr(suite, name)()
             causes = getattr(raised.exception, "errors", [raised.exception])

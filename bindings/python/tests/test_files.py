@@ -11,7 +11,7 @@ from fs import errors
 import atomfs
 from atomfs.fs import AtomFS
 
-LONG = "n" * 33
+LONG = "n" * 65
 
 
 class Files(unittest.TestCase):
@@ -38,13 +38,22 @@ class Files(unittest.TestCase):
             self.assertEqual(tree.readdir("/"), ["a"])
 
     def test_limits(self):
-        self.assertEqual(self.files.getmeta("atomfs"), {"name_bytes": 32, "path_names": 64})
+        self.assertEqual(self.files.getmeta("atomfs"), {"name_bytes": 64, "path_names": 64, "file_bytes": 1_048_576})
         for path in (LONG, f"a/{LONG}/b", "n/" * 65):
             with self.subTest(path):
                 self.assertRaises(errors.InvalidPath, self.files.makedir, path)
                 self.assertRaises(errors.InvalidPath, self.files.validatepath, path)
                 self.assertRaises(errors.InvalidPath, self.files.exists, path)
-        self.files.makedir("n" * 32)
+        self.files.makedir("n" * 64)
+
+    def test_first_limits(self):
+        """A file system by the first limits refuses what one by the second takes."""
+        with AtomFS(limits=atomfs.Limits.V1) as files:
+            self.assertEqual(files.getmeta("atomfs"), {"name_bytes": 32, "path_names": 64, "file_bytes": 65_536})
+            self.assertRaises(errors.InvalidPath, files.makedir, "n" * 33)
+            files.makedir("n" * 32)
+            self.assertRaises(OSError, files.writebytes, "f", b"x" * 65_537)
+            files.writebytes("f", b"x" * 65_536)
 
     def test_full(self):
         for at in range(256):
@@ -123,11 +132,11 @@ class Files(unittest.TestCase):
     def test_too_long(self):
         """A write that passes the limit of a file writes nothing."""
         with self.files.openbin("f", "w", 0) as file:
-            self.assertEqual(file.write(b"x" * 65_536), 65_536)
+            self.assertEqual(file.write(b"x" * 1_048_576), 1_048_576)
             with self.assertRaises(OSError) as raised:
                 file.write(b"y")
             self.assertEqual(raised.exception.errno, errno.EFBIG)
-        self.assertEqual(self.files.getsize("f"), 65_536)
+        self.assertEqual(self.files.getsize("f"), 1_048_576)
 
     def test_removed_meanwhile(self):
         """An open file is a path: behind its removal there is nothing to read."""
@@ -137,11 +146,13 @@ class Files(unittest.TestCase):
             self.assertRaises(FileNotFoundError, file.read)
 
     def test_one_call_for_a_file(self):
-        """A file of today's limit is written by one call and read by one."""
-        self.files.writebytes("f", b"x" * 65_536)
-        self.assertEqual(self.files.readbytes("f"), b"x" * 65_536)
-        journal = self.tree.journal()
-        self.assertEqual((journal.count(" write /f"), journal.count("read /f 0 65537")), (1, 1))
+        """A file of any length is written by one call; one that the room holds is read by one, behind the read that looks for it."""
+        for size, counts in ((65_536, (1, 2)), (1_048_576, (1, 3))):
+            with AtomFS() as files:
+                files.writebytes("f", b"x" * size)
+                self.assertEqual(files.readbytes("f"), b"x" * size)
+                journal = files.atom_tree.journal()
+                self.assertEqual((journal.count(" write /f"), journal.count(" read /f 0 ")), counts)
 
     def test_moves(self):
         """A file moves by one rename."""

@@ -68,7 +68,7 @@ class Calls(OfTree):
             (OSError, errno.EINVAL, lambda: tree.rename("/d", "/d/e/g"), "/d", "/d/e/g"),
             (OSError, errno.EBUSY, lambda: tree.exchange("/d", "/"), "/d", "/"),
             (PermissionError, errno.EPERM, lambda: tree.unlink("/d"), "/d"),
-            (OSError, errno.EFBIG, lambda: tree.truncate("/f", 2**63), "/f"),
+            (OSError, errno.EFBIG, lambda: tree.truncate("/f", 1_048_577), "/f"),
             (OSError, errno.EFBIG, lambda: tree.write("/f", 2**64, b"x"), "/f"),
         )
         for kind, number, call, *paths in rows:
@@ -91,15 +91,15 @@ class Calls(OfTree):
             ("/a/", errno.EINVAL),
             ("/a/../b", errno.EINVAL),
             ("/a\0b", errno.EINVAL),
-            ("/" + "n" * 33, errno.ENAMETOOLONG),
+            ("/" + "n" * 65, errno.ENAMETOOLONG),
             ("/n" * 65, errno.ENAMETOOLONG),
         )
         for path, number in rows:
             with self.subTest(path):
                 self.fails(OSError, number, lambda path=path: self.tree.mkdir(path), path)
         self.fails(OSError, errno.EINVAL, lambda: self.tree.rename("/a", "b"), "b")
-        self.assertEqual(self.tree.journal(), "atomfs-journal 1\n")
-        self.tree.mkdir("/" + "n" * 32)
+        self.assertEqual(self.tree.journal(), "atomfs-journal 3\nstart\ndir /\nentries\n")
+        self.tree.mkdir("/" + "n" * 64)
 
     def test_kinds_of_paths(self):
         """Paths may be strings, bytes and path objects, and names come as the path came."""
@@ -121,7 +121,7 @@ class Calls(OfTree):
             self.assertEqual(self.tree.write("/f", 0, data), 65_536)
             self.assertEqual(self.tree.read("/f"), every)
         self.assertEqual(self.tree.read("/f", 0, 2**64 - 1), every)
-        self.fails(OSError, errno.EFBIG, lambda: self.tree.write("/f", 1, every), "/f")
+        self.fails(OSError, errno.EFBIG, lambda: self.tree.write("/f", 1_048_576, b"x"), "/f")
         self.assertEqual(self.tree.write("/f", 2**64 - 1, b""), 0)
         for call in (lambda: self.tree.read("/f", -1), lambda: self.tree.write("/f", -1, b""), lambda: self.tree.truncate("/f", -1)):
             self.assertRaises(ValueError, call)
@@ -153,6 +153,20 @@ class OpenAndClosed(OfTree):
     def test_limits(self):
         for limit in (0, -1, atomfs.NODE_LIMIT + 1):
             self.assertRaises(ValueError, atomfs.Tree, limit)
+        self.assertRaises(ValueError, lambda: atomfs.Tree(limits=3))
+
+    def test_limits_of_names_and_files(self):
+        """What each set of limits takes at most, and the version of the journal."""
+        for limits, header in ((atomfs.Limits.V1, "atomfs-journal 1\n"), (atomfs.Limits.V2, "atomfs-journal 3\nstart\ndir /\nentries\n")):
+            name = "/" + "n" * limits.name_bytes
+            with self.subTest(limits), atomfs.Tree(limits=limits) as tree:
+                tree.mknod(name)
+                self.assertEqual(tree.write(name, limits.file_bytes - 1, b"x"), 1)
+                self.assertEqual(tree.stat(name), (False, limits.file_bytes))
+                self.fails(OSError, errno.EFBIG, lambda: tree.write(name, limits.file_bytes, b"x"), name)
+                self.fails(OSError, errno.ENAMETOOLONG, lambda: tree.mknod(name + "n"), name + "n")
+                self.assertTrue(tree.journal().startswith(header + "begin 1 0 mknod"))
+                self.assertEqual(atomfs.check(tree.journal()), "lawful")
 
     def test_copies(self):
         self.assertRaises(TypeError, copy.copy, self.tree)
@@ -169,7 +183,9 @@ class OpenAndClosed(OfTree):
 class Journals(OfTree):
     def test_journal(self):
         self.tree.mkdir("/a")
-        self.assertEqual(self.tree.journal(), "atomfs-journal 1\nbegin 1 0 mkdir /a\ncommit 1\nreturn 1 ok\n")
+        self.assertEqual(
+            self.tree.journal(), "atomfs-journal 3\nstart\ndir /\nentries\nbegin 1 0 mkdir /a\ncommit 1\nreturn 1 ok\n"
+        )
 
     def test_check(self):
         """A verdict on any journal, and the line of what is none."""
@@ -190,7 +206,7 @@ class Journals(OfTree):
         """The journal in pieces: each of them is lawful, and the tree stays."""
         self.tree.mkdir("/a")
         first = self.tree.checkpoint()
-        self.assertEqual(first, "atomfs-journal 1\nbegin 1 0 mkdir /a\ncommit 1\nreturn 1 ok\n")
+        self.assertEqual(first, "atomfs-journal 3\nstart\ndir /\nentries\nbegin 1 0 mkdir /a\ncommit 1\nreturn 1 ok\n")
         self.tree.mkdir("/a/b")
         second = self.tree.checkpoint()
         self.assertTrue(second.endswith("begin 1 0 mkdir /a/b\ncommit 1\nreturn 1 ok\n"))

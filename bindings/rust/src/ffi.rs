@@ -52,7 +52,7 @@ pub type OnPaths =
     unsafe extern "C" fn(*mut Handle, u64, *const u8, usize, *const u8, usize, *mut u64) -> u8;
 
 extern "C" {
-    pub fn atomfs_open(fs: *mut Handle, limit: usize) -> u8;
+    pub fn atomfs_open_with(fs: *mut Handle, limit: usize, version: u8) -> u8;
     pub fn atomfs_close(fs: *mut Handle) -> u8;
     pub fn atomfs_seat(fs: *mut Handle, seat: *mut u64) -> u8;
 

@@ -38,12 +38,14 @@
 mod call;
 mod error;
 mod ffi;
+mod limits;
 mod session;
 mod tree;
 
 pub use call::{Call, Did, Reply, Seat, Stat};
 pub use error::{Errno, Error};
 pub use session::Session;
+pub use limits::Limits;
 pub use tree::{check, run, Tree};
 
 /// The greatest limit of nodes.

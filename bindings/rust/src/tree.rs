@@ -6,9 +6,10 @@ use std::ptr;
 use crate::call::{Call, Did, Kind, Reply, Seat, Stat};
 use crate::error::Error;
 use crate::ffi::{self, Handle, OnPath, OnPaths, RawStat, OK, TOO_SMALL, UNTOLD, WAITS};
+use crate::limits::Limits;
 use crate::NODE_LIMIT;
 
-/// Room for the bytes of a file and the names of a directory, of the library's first limits.
+/// Room for the names of a full directory, and for the bytes of most files: where a file has more, the room becomes longer.
 const ROOM: usize = 65_536;
 
 /// A tree with the journal of its calls. It is closed when it is dropped.
@@ -41,6 +42,20 @@ impl Tree {
     /// # Ok::<(), atomfs::Error>(())
     /// ```
     pub fn with_limit(limit: usize) -> Result<Tree, Error> {
+        Tree::with_limits(limit, Limits::default())
+    }
+
+    /// The same with names and files by these limits.
+    ///
+    /// ```
+    /// use atomfs::{Errno, Error, Limits, Tree, NODE_LIMIT};
+    ///
+    /// let mut tree = Tree::with_limits(NODE_LIMIT, Limits::V1)?;
+    /// tree.mknod("/f")?;
+    /// assert_eq!(tree.truncate("/f", 65_537), Err(Error::Failed(Errno::EFBIG)));
+    /// # Ok::<(), Error>(())
+    /// ```
+    pub fn with_limits(limit: usize, limits: Limits) -> Result<Tree, Error> {
         let handle = Box::new(Handle {
             is_open: 0,
             at: ptr::null_mut(),
@@ -51,7 +66,7 @@ impl Tree {
             own: None,
             last: Vec::new(),
         };
-        done(unsafe { ffi::atomfs_open(&mut *tree.handle, limit) })?;
+        done(unsafe { ffi::atomfs_open_with(&mut *tree.handle, limit, limits as u8) })?;
         tree.own()?;
         Ok(tree)
     }

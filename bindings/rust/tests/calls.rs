@@ -115,14 +115,17 @@ fn what_is_refused_is_not_in_the_journal() {
         "/a/",
         "/a/../b",
         "/a\0b",
-        "/012345678901234567890123456789012",
+        "/01234567890123456789012345678901234567890123456789012345678901234",
     ] {
         assert_eq!(tree.mkdir(path), Err(Error::BadPath), "{path:?}");
     }
     assert_eq!(tree.mkdir("/a"), Err(Error::Full));
     let seat = tree.seat().unwrap();
     assert_eq!(tree.reply(seat), Err(Error::NoReply));
-    assert_eq!(tree.journal().unwrap(), "atomfs-journal 1\n");
+    assert_eq!(
+        tree.journal().unwrap(),
+        "atomfs-journal 3\nstart\ndir /\nentries\n"
+    );
     tree.begin(seat, &Call::stat("/")).unwrap();
     assert_eq!(tree.begin(seat, &Call::stat("/")), Err(Error::SeatBusy));
     assert_eq!(tree.checkpoint(), Err(Error::UnderWay(1)));

@@ -1,10 +1,9 @@
 -- What the status of a call says of it.
 use Rattle.std.proofs.Common.{◌≡◌, ◌<◌, ◌≤◌, ℕ, Result, Ok, Err, Option, Some, None, refl, sym, subst, arith}
-use Rattle.fs_calls.specs.declared.call.Call.{Call}
 use Rattle.fs_calls.specs.declared.reply.Reply.{Reply}
-use Rattle.fs_words.specs.declared.fault.FaultKind.{FaultKind}
 use Rattle.fs_core.specs.CoreValues.{CoreValue}
 use Rattle.fs_embed.specs.Calls.{RunsCall, WaitsCall, IsNotBegun, IsNotReturned}
+use Rattle.fs_embed.specs.Requests.{Asked}
 use Rattle.fs_embed.specs.declared.calls.NotBegun.{NotBegun}
 use Rattle.fs_embed.specs.declared.calls.NotReturned.{NotReturned}
 use Rattle.fs_embed.specs.declared.calls.NotReturned.TheVariants as not_returned
@@ -32,7 +31,7 @@ not_waits status returned at = let e : status ≡ 3 = at in let b : 128 ≤ stat
 pub not_refused : (status : ℕ) → IsReturned status → IsRefusal status → ⊥
 not_refused status returned is = let a : 4 < status = is.above in let b : status < 128 = is.below in let c : 128 ≤ status = returned (omega (arith, a)) in omega (arith, b, c)
 
-module _ (given : Result Call FaultKind) (seat number : ℕ) (old new : Option CoreValue) where
+module _ (given : Asked) (seat number : ℕ) (old new : Option CoreValue) where
   -- a call that returned, and whose reply is told
   pub called : (Told : Reply → Type 0) (status : ℕ) (reply : Reply) → Comes given seat (Ok reply) number old new → Told reply → IsReturned status → IsCalled given seat Told status number old new
   called Told status reply came told is = record {

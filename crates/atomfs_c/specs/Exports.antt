@@ -1,26 +1,35 @@
 -- What exports say of the core behind a handle, and of the bytes that a caller gives.
-use Rattle.std.specs.Prelude.{◌≡◌, ◌<◌, ◌≤◌, ℕ, Result, Ok, Err, List, Option, Some, None, IsSome, IsSomeAnd, IfSome, length}
+use Rattle.std.specs.Prelude.{◌≡◌, ◌<◌, ◌≤◌, ℕ, eqb, if◌then◌else◌, [], Result, Ok, Err, List, Option, Some, None, IsSome, IsSomeAnd, IfSome, length}
 use Rattle.fs_calls.specs.Outcomes.{play}
 use Rattle.fs_calls.specs.Sights.{tree_shapes}
 use Rattle.fs_nodes.specs.Graphs.{graph_shapes}
 use Rattle.fs_nodes.specs.Stores.{graph_of}
 use Rattle.fs_timeline.specs.Timeline as timeline
-use Rattle.fs_machine.specs.States.{begun_again}
+use Rattle.fs_names.specs.declared.limits.Limits.{Limits}
+use Rattle.fs_names.specs.declared.limits.Limits.TheVariants.{V1, V2}
+use Rattle.fs_machine.specs.States.{begun_again, empty}
 use Rattle.fs_core.specs.CoreValues.{CoreValue, state_of, IsAtRest}
 use Rattle.fs_script.specs.Journals.{journal_text}
 use Rattle.fs_names.specs.declared.kind.Kind.{Kind}
 use Rattle.fs_names.specs.declared.kind.Kind.TheVariants.{Dir, File}
-use Rattle.fs_calls.specs.declared.call.Call.{Call}
 use Rattle.fs_calls.specs.declared.reply.Reply.{Reply}
 use Rattle.fs_calls.specs.declared.reply.Reply.TheVariants as answer
 use Rattle.fs_calls.specs.declared.reply.Reply.TheVariants.{Done, Names, Bytes, Wrote, Failed}
-use Rattle.fs_words.specs.declared.fault.FaultKind.{FaultKind}
 use Rattle.fs_embed.specs.Calls.{BeginsCall, RunsCall, WaitsCall, IsNotBegun}
+use Rattle.fs_embed.specs.Requests.{Asked}
 use Rattle.fs_embed.specs.Texts.{IsCopied, IsReply, HasNoReply, IsShown, reply_text, names_text}
 use Rattle.fs_embed.specs.declared.calls.NotBegun.{NotBegun}
 use Rattle.atomfs_c.specs.Statuses.{IsReturned, IsRefusal, failed_status, begin_status}
 use Rattle.atomfs_c.specs.declared.status.TheConstants.{OK, TOO_SMALL, UNTOLD, WAITS, CLOSED, NO_REPLY, FAILED}
 use Rattle.atomfs_c.specs.declared.told.Stat.{Stat as StatValue}
+
+-- the limits of names and files that have a version
+abbrev pub limits_of : ℕ → Option Limits
+limits_of version = if eqb version 1 then Some V1 else if eqb version 2 then Some V2 else None
+
+-- a core before anything began, without seats
+abbrev pub IsOpened : Limits → ℕ → CoreValue → Type 0
+IsOpened limits limit core = (state_of core ≡ empty limits limit) × (core.seats ≡ [])
 
 -- the handle is open before and after, and what became of the core is such
 abbrev pub Goes : (CoreValue → CoreValue → Type 0) → Option CoreValue → Option CoreValue → Type 0
@@ -108,7 +117,7 @@ IsToldBehind _ after status count old new = status ≡ UNTOLD
 -- ---- what came of a call
 
 -- what a status says of a call that was asked for on a seat, and Told of its reply
-pub record IsCalled (given : Result Call FaultKind) (seat : ℕ) (Told : Reply → Type 0) (status number : ℕ) (old new : Option CoreValue) : Type 0 where
+pub record IsCalled (given : Asked) (seat : ℕ) (Told : Reply → Type 0) (status number : ℕ) (old new : Option CoreValue) : Type 0 where
   -- it began under this number and its steps led to its return with a reply, which is told
   pub returned : IsReturned status → (reply : Reply) × Goes (λ a b. RunsCall a seat given number reply b) old new × Told reply
   -- it began under this number and is under way, at a node that a call of another seat holds
@@ -118,7 +127,7 @@ pub record IsCalled (given : Result Call FaultKind) (seat : ℕ) (Told : Reply �
   pub closed : ToldIfClosed status old new
 
 -- what a status says of the begin of a call that was asked for on a seat
-pub record IsBegun (given : Result Call FaultKind) (seat status number : ℕ) (old new : Option CoreValue) : Type 0 where
+pub record IsBegun (given : Asked) (seat status number : ℕ) (old new : Option CoreValue) : Type 0 where
   pub begun : status ≡ OK → Goes (λ a b. BeginsCall a seat given number b) old new
   pub refused : IsRefusal status → Goes (λ a b. (why : NotBegun) × (status ≡ begin_status why) × IsNotBegun a seat given why b) old new
   pub closed : ToldIfClosed status old new
@@ -129,6 +138,6 @@ pub record IsReplied (core : Option CoreValue) (Told : Reply → Type 0) (number
   pub none : status ≡ NO_REPLY → IsSomeAnd core (λ c. HasNoReply c.timeline number)
 
 -- what came of a call behind a handle: its reply, or the status that says why there is none
-abbrev pub Comes : Result Call FaultKind → ℕ → Result Reply ℕ → ℕ → Option CoreValue → Option CoreValue → Type 0
+abbrev pub Comes : Asked → ℕ → Result Reply ℕ → ℕ → Option CoreValue → Option CoreValue → Type 0
 Comes given seat (Ok reply) number old new = Goes (λ a b. RunsCall a seat given number reply b) old new
 Comes given seat (Err status) number old new = IsCalled given seat (λ reply. ⊥) status number old new × (UNTOLD < status) × (status < FAILED)

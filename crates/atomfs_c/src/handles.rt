@@ -2,15 +2,15 @@
 
 ghost use Rattle.std.specs.Prelude.{◌≡◌, ◌≢◌, ◌<◌, ◌++◌, ◌∷◌, [], ◌⊎◌, ◌↔◌, Some, None, is_some, IsSome, IsSomeAnd, MatchOption, length};
 ghost use Rattle.fs_names.specs.declared.limits.TheConstants.{NODE_LIMIT};
-ghost use Rattle.fs_machine.specs.States.{empty};
+ghost use Rattle.fs_names.specs.declared.limits.Limits.TheVariants as Limits;
 ghost use Rattle.fs_core.specs.CoreValues.{state_of};
-ghost use Rattle.atomfs_c.specs.Exports.{Goes, ToldIfClosed, IsLawful, IsSpelled};
+ghost use Rattle.atomfs_c.specs.Exports.{IsOpened, limits_of, Goes, ToldIfClosed, IsLawful, IsSpelled};
 
 use crate::held::Held;
 use crate::parts::Parts;
-use crate::status::{ALREADY_OPEN, BAD_LIMIT, CLOSED, NO_MEMORY, OK};
+use crate::status::{ALREADY_OPEN, BAD_LIMIT, BAD_VERSION, CLOSED, NO_MEMORY, OK};
 use fs_core::Core;
-use fs_names::NODE_LIMIT;
+use fs_names::{Limits, NODE_LIMIT};
 use std::alloc::Global;
 use std::mem;
 
@@ -58,12 +58,23 @@ pub fn put(handle: &mut Handle, core: Box<Core>)
     };
 }
 
-/// Opens a closed handle: a core of no seats and no entries, for at most `limit` nodes, the root included.
-#[unsafe(no_mangle)]
-pub extern "C" fn atomfs_open(alloc: Global, handle: &mut Handle, limit: usize) -> u8
-    ensures opened { result ≡ OK → (handle.old.held.core ≡ None) × IsSomeAnd handle.new.held.core (λ core. (state_of core ≡ empty limit) × (core.seats ≡ [])) }
+/// The limits of names and files that have a version.
+fn limits_of(version: u8) -> Option<Limits>
+    ensures { result ≡ limits_of version }
+{
+    match version {
+        1 => Some(Limits::V1),
+        2 => Some(Limits::V2),
+        _ => None,
+    }
+}
+
+/// Opens a closed handle: a core of no seats and no entries, for at most `limit` nodes, by these limits.
+fn open(alloc: Global, handle: &mut Handle, limit: usize, limits: Limits) -> u8
+    ensures opened { result ≡ OK → (handle.old.held.core ≡ None) × IsSomeAnd handle.new.held.core (IsOpened limits limit) }
     ensures open { IsSome handle.old.held.core → result ≡ ALREADY_OPEN }
     ensures limit { result ≡ BAD_LIMIT → (limit ≡ 0) ⊎ (NODE_LIMIT < limit) }
+    ensures version { result ≢ BAD_VERSION }
     ensures refused { result ≢ OK → (CLOSED < result) × (handle.new.held.core ≡ handle.old.held.core) }
 {
     if handle.is_open {
@@ -72,7 +83,7 @@ pub extern "C" fn atomfs_open(alloc: Global, handle: &mut Handle, limit: usize) 
     if limit == 0 || limit > NODE_LIMIT {
         return BAD_LIMIT;
     }
-    let Ok(core) = Core::with_limit(alloc, limit) else {
+    let Ok(core) = Core::with_limits(alloc, limit, limits) else {
         return NO_MEMORY;
     };
     match Box::new(alloc, core) {
@@ -81,6 +92,38 @@ pub extern "C" fn atomfs_open(alloc: Global, handle: &mut Handle, limit: usize) 
             OK
         }
         Err(_) => NO_MEMORY,
+    }
+}
+
+/// Opens a closed handle: a core of no seats and no entries, for at most `limit` nodes, the root included, by the first limits of
+/// names and files.
+#[unsafe(no_mangle)]
+pub extern "C" fn atomfs_open(alloc: Global, handle: &mut Handle, limit: usize) -> u8
+    ensures opened { result ≡ OK → (handle.old.held.core ≡ None) × IsSomeAnd handle.new.held.core (IsOpened Limits.V1 limit) }
+    ensures open { IsSome handle.old.held.core → result ≡ ALREADY_OPEN }
+    ensures limit { result ≡ BAD_LIMIT → (limit ≡ 0) ⊎ (NODE_LIMIT < limit) }
+    ensures refused { result ≢ OK → (CLOSED < result) × (handle.new.held.core ≡ handle.old.held.core) }
+{
+    open(alloc, handle, limit, Limits::V1)
+}
+
+/// The same by the limits that have a version, 1 or 2.
+#[unsafe(no_mangle)]
+pub extern "C" fn atomfs_open_with(
+    alloc: Global,
+    handle: &mut Handle,
+    limit: usize,
+    version: u8,
+) -> u8
+    ensures opened { result ≡ OK → (handle.old.held.core ≡ None) × IsSomeAnd handle.new.held.core (λ core. IsSomeAnd (limits_of version) (λ limits. IsOpened limits limit core)) }
+    ensures open { IsSome handle.old.held.core → IsSome (limits_of version) → result ≡ ALREADY_OPEN }
+    ensures limit { result ≡ BAD_LIMIT → (limit ≡ 0) ⊎ (NODE_LIMIT < limit) }
+    ensures version { (result ≡ BAD_VERSION) ↔ (limits_of version ≡ None) }
+    ensures refused { result ≢ OK → (CLOSED < result) × (handle.new.held.core ≡ handle.old.held.core) }
+{
+    match limits_of(version) {
+        Some(limits) => open(alloc, handle, limit, limits),
+        None => BAD_VERSION,
     }
 }
 

@@ -47,6 +47,9 @@ pub const NO_REPLY: u8 = 11;
 /// A call is under way.
 pub const UNDER_WAY: u8 = 12;
 
+/// No limits of names and files have this version.
+pub const BAD_VERSION: u8 = 13;
+
 /// The first line is another than it has to be. The numbers from here on are faults of what is read.
 pub const BAD_HEADER: u8 = 16;
 

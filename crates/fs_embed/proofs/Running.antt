@@ -1,7 +1,7 @@
 -- Steps of one seat up to its return, or up to a node that another call holds.
 use Rattle.std.proofs.Common.{◌≡◌, ℕ, ◌+◌, ◌<◌, ◌≤◌, Bool, true, false, Option, Some, None, Ok, IsSome, is_some, refl, sym, ap, ◌∙◌, subst, arith}
 use Rattle.fs_names.specs.Shapes.{Shape}
-use Rattle.fs_calls.specs.Forms.{form, reserves}
+use Rattle.fs_calls.specs.Forms.{reserved_by}
 use Rattle.fs_calls.specs.declared.call.Call.{Call}
 use Rattle.fs_calls.specs.declared.reply.Reply.{Reply}
 use Rattle.fs_nodes.specs.Graphs.{set_at}
@@ -70,7 +70,7 @@ goes seat (answers.Returned r) old new there step busy ends = tt
 
 -- the call of a begin is on its seat
 pub seated : (seat number : ℕ) (call : Call) (old new : State) → Begins old seat call (Ok number) new → IsSome (new.on_seat seat)
-seated seat number call old new begins = on_it (reserves (form call)) begins.2
+seated seat number call old new begins = on_it (reserved_by call) begins.2
   where
     here : (seat number : ℕ) (on_seat : ℕ → Option ℕ) → IsSome (set_at seat (Some number) on_seat seat)
     here seat number on_seat = ap is_some (upd_here seat (Some number) on_seat)

@@ -9,17 +9,19 @@ use Rattle.fs_machine.specs.States.{State, Begins, Step}
 use Rattle.fs_core.specs.CoreValues.{CoreValue, state_of}
 use Rattle.fs_machine.specs.declared.answers.Stepped.{Stepped}
 use Rattle.fs_machine.specs.declared.answers.Stepped.TheVariants.{Idle, Took, Busy, LetGo, Helped, Committed, CarriedOut, Returned}
+use Rattle.fs_embed.specs.Requests.{Asked}
+use Rattle.fs_embed.specs.Looks.{most_of}
 use Rattle.fs_embed.specs.declared.calls.NotBegun.{NotBegun}
 use Rattle.fs_embed.specs.declared.calls.NotBegun.TheVariants as not_begun
 use Rattle.fs_embed.specs.declared.calls.NotReturned.{NotReturned}
 use Rattle.fs_embed.specs.declared.calls.NotReturned.TheVariants as not_returned
 
 -- the call that is asked for begins on a seat under a number, and this is the state after
-abbrev pub Opens : CoreValue → ℕ → Result Call FaultKind → ℕ → State → Type 0
-Opens old seat given number first = (call : Call) × (given ≡ Ok call) × Begins (state_of old) seat call (Ok number) first
+abbrev pub Opens : CoreValue → ℕ → Asked → ℕ → State → Type 0
+Opens old seat given number first = (call : Call) × (given (most_of old) ≡ Ok call) × Begins (state_of old) seat call (Ok number) first
 
 -- the same, and nothing else happens
-abbrev pub BeginsCall : CoreValue → ℕ → Result Call FaultKind → ℕ → CoreValue → Type 0
+abbrev pub BeginsCall : CoreValue → ℕ → Asked → ℕ → CoreValue → Type 0
 BeginsCall old seat given number new = Opens old seat given number (state_of new)
 
 -- what is asked for is no call; out of memory says nothing of it
@@ -28,10 +30,10 @@ IsNoCall given kind.OutOfMemory = Unit {0}
 IsNoCall given k = given ≡ Err k
 
 -- why the call that is asked for did not begin, and that nothing changed
-abbrev pub IsNotBegun : CoreValue → ℕ → Result Call FaultKind → NotBegun → CoreValue → Type 0
+abbrev pub IsNotBegun : CoreValue → ℕ → Asked → NotBegun → CoreValue → Type 0
 IsNotBegun old seat given not_begun.NoSeat new = (length old.seats ≤ seat) × (new ≡ old)
-IsNotBegun old seat given (not_begun.Unread k) new = IsNoCall given k × (new ≡ old)
-IsNotBegun old seat given (not_begun.Refused refusal) new = (call : Call) × (given ≡ Ok call) × Begins (state_of old) seat call (Err refusal) (state_of new)
+IsNotBegun old seat given (not_begun.Unread k) new = IsNoCall (given (most_of old)) k × (new ≡ old)
+IsNotBegun old seat given (not_begun.Refused refusal) new = (call : Call) × (given (most_of old) ≡ Ok call) × Begins (state_of old) seat call (Err refusal) (state_of new)
 
 -- steps of a seat, none or more, of which none returns
 pub data Steps (seat : ℕ) : State → State → Type 0 where
@@ -39,7 +41,7 @@ pub data Steps (seat : ℕ) : State → State → Type 0 where
   Then : {old middle new : State} (answer : Stepped) → IsNoReturn answer → Steps seat old middle → Step middle seat answer new → Steps seat old new
 
 -- the call that is asked for begins under a number, and steps of its seat follow, up to the one that returns with this reply
-abbrev pub RunsCall : CoreValue → ℕ → Result Call FaultKind → ℕ → Reply → CoreValue → Type 0
+abbrev pub RunsCall : CoreValue → ℕ → Asked → ℕ → Reply → CoreValue → Type 0
 RunsCall old seat given number reply new = (first : State) × Opens old seat given number first × StepsTo seat reply (state_of new) first
 
 -- the next step of a seat finds a node held by this call, and changes nothing
@@ -47,11 +49,11 @@ abbrev pub IsWaiting : State → ℕ → ℕ → Type 0
 IsWaiting state seat holder = (node : ℕ) × Step state seat (Busy node holder) state
 
 -- the call that is asked for begins under a number, and steps of its seat follow, up to one that finds a node held by this call
-abbrev pub WaitsCall : CoreValue → ℕ → Result Call FaultKind → ℕ → ℕ → CoreValue → Type 0
+abbrev pub WaitsCall : CoreValue → ℕ → Asked → ℕ → ℕ → CoreValue → Type 0
 WaitsCall old seat given number holder new = (first : State) × Opens old seat given number first × Steps seat first (state_of new) × IsWaiting (state_of new) seat holder
 
 -- why the call that is asked for did not return: it did not begin, and nothing changed; or it is under way and waits
-abbrev pub IsNotReturned : CoreValue → ℕ → Result Call FaultKind → NotReturned → CoreValue → Type 0
+abbrev pub IsNotReturned : CoreValue → ℕ → Asked → NotReturned → CoreValue → Type 0
 IsNotReturned old seat given (not_returned.NotBegun why) new = IsNotBegun old seat given why new
 IsNotReturned old seat given (not_returned.Waits number holder) new = WaitsCall old seat given number holder new
 

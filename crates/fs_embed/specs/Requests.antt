@@ -11,24 +11,28 @@ use Rattle.fs_text.specs.Calls.{call_of}
 use Rattle.fs_embed.specs.declared.request.Request.{Request}
 use Rattle.fs_embed.specs.declared.request.Request.TheVariants.{Line, Mkdir, Mknod, Unlink, Rmdir, Rename, Exchange, Stat, Readdir, Read, Write, Truncate, Nothing}
 
+-- what is asked for, by the most bytes that a name may have: a call, or what is wrong with the request
+abbrev pub Asked : Type 0
+Asked = ℕ → Result Call FaultKind
+
 -- the call that a line spells, or what is wrong with the line
-abbrev pub call_in : List ℕ → Result Call FaultKind
-call_in line = words_of line >>= call_of
+abbrev pub call_in : List ℕ → Asked
+call_in line most = words_of line >>= call_of most
 
 -- the call on the path that bytes spell
-abbrev pub on_path : (Key → Call) → List ℕ → Result Call FaultKind
-on_path make bytes = or_bad_path (reading bytes) >>= λ path. Ok (make path)
+abbrev pub on_path : (Key → Call) → List ℕ → Asked
+on_path make bytes most = or_bad_path (reading most bytes) >>= λ path. Ok (make path)
 
 -- the two paths that bytes spell, the first of them read first
-abbrev pub both_in : List ℕ → List ℕ → Result (Key × Key) FaultKind
-both_in bytes other = or_bad_path (reading bytes) >>= λ from. or_bad_path (reading other) >>= λ to. Ok (from, to)
+abbrev pub both_in : List ℕ → List ℕ → ℕ → Result (Key × Key) FaultKind
+both_in bytes other most = or_bad_path (reading most bytes) >>= λ from. or_bad_path (reading most other) >>= λ to. Ok (from, to)
 
 -- the call on the two paths that bytes spell
-abbrev pub on_both : (Key → Key → Call) → List ℕ → List ℕ → Result Call FaultKind
-on_both make bytes other = both_in bytes other >>= λ both. Ok (make both.0 both.1)
+abbrev pub on_both : (Key → Key → Call) → List ℕ → List ℕ → Asked
+on_both make bytes other most = both_in bytes other most >>= λ both. Ok (make both.0 both.1)
 
 -- the call that is asked for, or what is wrong with the request
-abbrev pub asked : Request → Result Call FaultKind
+abbrev pub asked : Request → Asked
 asked (Line line) = call_in line.now
 asked (Mkdir path) = on_path call.Mkdir path.now
 asked (Mknod path) = on_path call.Mknod path.now
@@ -41,4 +45,4 @@ asked (Readdir path) = on_path call.Readdir path.now
 asked (Read path off count) = on_path (λ p. call.Read p off count) path.now
 asked (Write path off bytes) = on_path (λ p. call.Write p off bytes.now) path.now
 asked (Truncate path size) = on_path (λ p. call.Truncate p size) path.now
-asked Nothing = Err kind.BadLine
+asked Nothing = λ most. Err kind.BadLine

@@ -70,7 +70,7 @@ pub fn begin_call(
     if !has_seat(core, seat) {
         return Err(NotBegun::NoSeat);
     }
-    let call = match request.call(alloc) {
+    let call = match request.call(alloc, core.start().limits()) {
         Ok(call) => call,
         Err(kind) => return Err(NotBegun::Unread(kind)),
     };

@@ -1,19 +1,20 @@
 //! What a caller asks for: a call by its line, or by its parts.
 
 ghost use Rattle.std.specs.Prelude.{Ok};
+ghost use Rattle.fs_names.specs.Limits.{name_limit};
 ghost use Rattle.fs_names.specs.Reading.{reading};
 ghost use Rattle.fs_words.specs.Reading.{or_bad_path};
 ghost use Rattle.fs_words.specs.code.Answers.{Gives};
 ghost use Rattle.fs_embed.specs.Requests.{asked, call_in, both_in};
 
 use fs_calls::Call;
-use fs_names::{Bytes, Path, PathFault};
+use fs_names::{Bytes, Limits, Path, PathFault};
 use fs_text::FaultKind;
 use fs_text::calls::call_at;
 use fs_text::lines::cut_words;
 use std::alloc::Global;
 
-/// A call that is asked for. A path is given by its bytes, as `Path::parse` reads them.
+/// A call that is asked for. A path is given by its bytes, as `Path::parse_with` reads them.
 #[derive(Clone, Copy)]
 pub enum Request<'a> {
     /// The call that a line spells.
@@ -45,21 +46,21 @@ pub enum Request<'a> {
 }
 
 /// The call that a line spells.
-fn call_in(alloc: Global, line: &[u8]) -> Result<Call, FaultKind>
-    ensures { Gives (λ call. call) result (call_in line.now) }
+fn call_in(alloc: Global, limits: Limits, line: &[u8]) -> Result<Call, FaultKind>
+    ensures { Gives (λ call. call) result (call_in line.now (name_limit limits)) }
 {
     let mut words = Vec::new(alloc);
     if let Err(kind) = cut_words(line, &mut words) {
         return Err(kind);
     }
-    call_at(alloc, words.as_slice())
+    call_at(alloc, limits, words.as_slice())
 }
 
 /// The path that bytes spell.
-fn path_in(alloc: Global, bytes: &[u8]) -> Result<Path, FaultKind>
-    ensures { Gives (λ path. path) result (or_bad_path (reading bytes.now)) }
+fn path_in(alloc: Global, limits: Limits, bytes: &[u8]) -> Result<Path, FaultKind>
+    ensures { Gives (λ path. path) result (or_bad_path (reading (name_limit limits) bytes.now)) }
 {
-    match Path::parse(alloc, bytes) {
+    match Path::parse_with(alloc, bytes, limits) {
         Ok(path) => Ok(path),
         Err(PathFault::OutOfMemory) => Err(FaultKind::OutOfMemory),
         Err(fault) => Err(FaultKind::BadPath(fault)),
@@ -67,14 +68,19 @@ fn path_in(alloc: Global, bytes: &[u8]) -> Result<Path, FaultKind>
 }
 
 /// The two paths that bytes spell, the first of them read first.
-fn both_in(alloc: Global, bytes: &[u8], other: &[u8]) -> Result<(Path, Path), FaultKind>
-    ensures { Gives (λ both. (both.0, both.1)) result (both_in bytes.now other.now) }
+fn both_in(
+    alloc: Global,
+    limits: Limits,
+    bytes: &[u8],
+    other: &[u8],
+) -> Result<(Path, Path), FaultKind>
+    ensures { Gives (λ both. (both.0, both.1)) result (both_in bytes.now other.now (name_limit limits)) }
 {
-    let path = match path_in(alloc, bytes) {
+    let path = match path_in(alloc, limits, bytes) {
         Ok(path) => path,
         Err(kind) => return Err(kind),
     };
-    match path_in(alloc, other) {
+    match path_in(alloc, limits, other) {
         Ok(other) => Ok((path, other)),
         Err(kind) => Err(kind),
     }
@@ -92,32 +98,39 @@ fn copied(alloc: Global, bytes: &[u8]) -> Result<Bytes, FaultKind>
 }
 
 impl<'a> Request<'a> {
-    /// The call that is asked for.
-    pub fn call(self, alloc: Global) -> Result<Call, FaultKind>
-        ensures { Gives (λ call. call) result (asked self.entry) }
+    /// The call that is asked for, read by these limits.
+    pub fn call(self, alloc: Global, limits: Limits) -> Result<Call, FaultKind>
+        ensures { Gives (λ call. call) result (asked self.entry (name_limit limits)) }
     {
         match self {
-            Request::Line(line) => call_in(alloc, line),
-            Request::Mkdir(path) => Ok(Call::Mkdir(path_in(alloc, path)?)),
-            Request::Mknod(path) => Ok(Call::Mknod(path_in(alloc, path)?)),
-            Request::Unlink(path) => Ok(Call::Unlink(path_in(alloc, path)?)),
-            Request::Rmdir(path) => Ok(Call::Rmdir(path_in(alloc, path)?)),
+            Request::Line(line) => call_in(alloc, limits, line),
+            Request::Mkdir(path) => Ok(Call::Mkdir(path_in(alloc, limits, path)?)),
+            Request::Mknod(path) => Ok(Call::Mknod(path_in(alloc, limits, path)?)),
+            Request::Unlink(path) => Ok(Call::Unlink(path_in(alloc, limits, path)?)),
+            Request::Rmdir(path) => Ok(Call::Rmdir(path_in(alloc, limits, path)?)),
             Request::Rename(path, other) => {
-                let (path, other) = both_in(alloc, path, other)?;
+                let (path, other) = both_in(alloc, limits, path, other)?;
                 Ok(Call::Rename(path, other))
             }
             Request::Exchange(path, other) => {
-                let (path, other) = both_in(alloc, path, other)?;
+                let (path, other) = both_in(alloc, limits, path, other)?;
                 Ok(Call::Exchange(path, other))
             }
-            Request::Stat(path) => Ok(Call::Stat(path_in(alloc, path)?)),
-            Request::Readdir(path) => Ok(Call::Readdir(path_in(alloc, path)?)),
-            Request::Read(path, off, count) => Ok(Call::Read(path_in(alloc, path)?, off, count)),
+            Request::Stat(path) => Ok(Call::Stat(path_in(alloc, limits, path)?)),
+            Request::Readdir(path) => Ok(Call::Readdir(path_in(alloc, limits, path)?)),
+            Request::Read(path, off, count) => Ok(Call::Read(
+                path_in(alloc, limits, path)?,
+                off,
+                count,
+            )),
             Request::Write(path, off, bytes) => {
-                let path = path_in(alloc, path)?;
+                let path = path_in(alloc, limits, path)?;
                 Ok(Call::Write(path, off, copied(alloc, bytes)?))
             }
-            Request::Truncate(path, size) => Ok(Call::Truncate(path_in(alloc, path)?, size)),
+            Request::Truncate(path, size) => Ok(Call::Truncate(
+                path_in(alloc, limits, path)?,
+                size,
+            )),
             Request::Nothing => Err(FaultKind::BadLine),
         }
     }

@@ -11,11 +11,11 @@
 `atomfs.fs` is the same as a file system of PyFilesystem2, `atomfs.fsspec` as one of fsspec.
 """
 from ._errors import ClosedError, Error, UnderWayError, WaitsError
-from ._library import NAME_LIMIT, NODE_LIMIT, PATH_LIMIT, Did, Status
+from ._library import NODE_LIMIT, PATH_LIMIT, Did, Limits, Status
 from ._library import library as _shared_object
 from ._tree import Begin, Seat, Stat, Step, Tree, check, run
 
-__version__ = "0.2.0"
+__version__ = "0.3.0"
 
 
 def library_version() -> str:
@@ -28,7 +28,7 @@ __all__ = [
     "ClosedError",
     "Did",
     "Error",
-    "NAME_LIMIT",
+    "Limits",
     "NODE_LIMIT",
     "PATH_LIMIT",
     "Seat",

@@ -11,7 +11,7 @@ import errno
 import os
 from typing import TYPE_CHECKING, Union
 
-from ._library import FAILED, NAME_LIMIT, PATH_LIMIT, Library, Status
+from ._library import FAILED, PATH_LIMIT, Library, Limits, Status
 
 if TYPE_CHECKING:
     from ._tree import Seat
@@ -55,12 +55,12 @@ def encoded(path: AnyPath) -> bytes:
         return path.encode("utf-8", "surrogateescape")  # type: ignore[union-attr]
 
 
-def path_error(*paths: AnyPath) -> OSError:
-    """Why the library refused one of these paths."""
+def path_error(limits: Limits, *paths: AnyPath) -> OSError:
+    """Why a tree of these limits refused one of these paths."""
     for path in paths:
         raw = encoded(path)
         names = [name for name in raw.split(b"/") if name]
-        if any(len(name) > NAME_LIMIT for name in names) or len(names) > PATH_LIMIT:
+        if any(len(name) > limits.name_bytes for name in names) or len(names) > PATH_LIMIT:
             return OSError(errno.ENAMETOOLONG, os.strerror(errno.ENAMETOOLONG), path)
         if raw[:1] != b"/":
             return OSError(errno.EINVAL, "Path does not begin with a slash", path)
@@ -73,13 +73,18 @@ def path_error(*paths: AnyPath) -> OSError:
     return OSError(errno.EINVAL, os.strerror(errno.EINVAL), paths[0])
 
 
-def error_of(library: Library, status: int, paths: tuple[AnyPath, ...] = (), about: int = 0) -> Exception:
-    """The exception of a status that is not OK."""
+def error_of(library: Library, status: int, about: int = 0) -> Exception:
+    """The exception of a status that is not OK, and speaks of no path."""
+    return error_at(library, status, Limits.V2, (), about)
+
+
+def error_at(library: Library, status: int, limits: Limits, paths: tuple[AnyPath, ...], about: int = 0) -> Exception:
+    """The exception of a status that is not OK, of a call on these paths in a tree of these limits."""
     if status >= FAILED:
         number = status - FAILED
         return OSError(number, os.strerror(number), *paths[:1], *((None, paths[1]) if paths[1:] else ()))
     if status == Status.BAD_PATH and paths:
-        return path_error(*paths)
+        return path_error(limits, *paths)
     if status == Status.FULL:
         return OSError(errno.ENOSPC, "No node left", *paths[:1])
     if status in (Status.NO_MEMORY, Status.UNTOLD):

@@ -13,9 +13,6 @@ from typing import TYPE_CHECKING, Any, Union
 if TYPE_CHECKING:
     from ._tree import Tree
 
-# A buffer holds a whole file of the library's first limits, so such a file is read by one call, and written by one.
-BUFFER = 65_536
-
 
 class TreeFile(io.RawIOBase):
     """The file at a path without a buffer: `mode` is one of `open`, and `create_file` has made the file before."""
@@ -148,12 +145,15 @@ def create_file(tree: Tree, path: str, mode: str) -> None:
 
 
 def open_file(tree: Tree, path: str, mode: str, buffering: int = -1) -> AnyFile:
-    """The file at a path, opened as `open` does in a binary mode: with a buffer of so many bytes, and with none where it is 0."""
+    """The file at a path, opened as `open` does in a binary mode: with a buffer of so many bytes, and with none where it is 0.
+
+    The buffer holds a whole file of the tree's limits, if no number is given: so a file is read by one call, and written by one.
+    """
     create_file(tree, path, mode)
     raw = TreeFile(tree, path, mode)
     if buffering == 0:
         return raw
-    size = buffering if buffering > 1 else BUFFER
+    size = buffering if buffering > 1 else tree.limits.file_bytes
     if "+" in mode:
         return Random(raw, size)
     return Reader(raw, size) if raw.readable() else Writer(raw, size)

@@ -9,10 +9,26 @@ import pathlib
 from typing import Any, Callable, Dict, List
 
 NODE_LIMIT = 1_048_576
-NAME_LIMIT = 32
 PATH_LIMIT = 64
 # From this status on a call has failed, and the rest is the number of its error.
 FAILED = 128
+
+
+class Limits(enum.Enum):
+    """How long names and files of a tree may be: the first set, or the larger second one."""
+
+    V1 = 1
+    V2 = 2
+
+    @property
+    def name_bytes(self) -> int:
+        """The most bytes of a name."""
+        return 32 if self is Limits.V1 else 64
+
+    @property
+    def file_bytes(self) -> int:
+        """The most bytes of a file."""
+        return 65_536 if self is Limits.V1 else 1_048_576
 
 
 class Status(enum.IntEnum):
@@ -31,6 +47,7 @@ class Status(enum.IntEnum):
     FULL = 10
     NO_REPLY = 11
     UNDER_WAY = 12
+    BAD_VERSION = 13
     NULL = 14
     BAD_LENGTH = 15
     BAD_HEADER = 16
@@ -105,7 +122,7 @@ _GIVEN, _TOLD = [ctypes.c_char_p, _SIZE], [_AT, _SIZE, _AT]
 _ON = [_AT, _NUMBER, *_GIVEN]
 
 _ARGUMENTS: Dict[str, List[Any]] = {
-    "open": [_AT, _SIZE],
+    "open_with": [_AT, _SIZE, ctypes.c_uint8],
     "close": [_AT],
     "seat": [_AT, _AT],
     **dict.fromkeys(("mkdir", "mknod", "unlink", "rmdir"), [*_ON, _AT]),

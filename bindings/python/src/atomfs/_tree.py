@@ -8,14 +8,14 @@ import threading
 import time
 from typing import Any, List, NamedTuple, Optional, Tuple, TypeVar, Union, overload
 
-from ._errors import AnyPath, WaitsError, encoded, error_of
-from ._library import NODE_LIMIT, Call, CStat, Did, Handle, Library, Request, Status, library
+from ._errors import AnyPath, WaitsError, encoded, error_at, error_of
+from ._library import NODE_LIMIT, Call, CStat, Did, Handle, Library, Limits, Request, Status, library
 
 _Self = TypeVar("_Self", bound="Tree")
 StrPath = Union[str, "os.PathLike[str]"]
 Reply = Union[None, "Stat", List[str], bytes, int]
 
-# Room for the names of a full directory, and for the bytes of a file and one more, of the library's first limits.
+# Room for the names of a full directory, and for the bytes of most files: where a file has more, the room becomes longer.
 _ROOM = 65_537
 
 
@@ -73,24 +73,26 @@ def _decoded(names: List[bytes]) -> List[str]:
 
 
 class Tree:
-    """A tree of at most `limit` nodes, its root included, with the journal of its calls.
+    """A tree of at most `limit` nodes, its root included, with the journal of its calls. `limits` bounds its names and files.
 
     Threads may share it: each method holds `lock`, which is re-entrant, so that `with tree.lock:` keeps the other threads off
     for several calls. Paths are absolute; those of `str` are UTF-8. `with` closes it.
     """
 
-    def __init__(self, limit: int = NODE_LIMIT, *, room: int = _ROOM) -> None:
+    def __init__(self, limit: int = NODE_LIMIT, *, limits: Limits = Limits.V2, room: int = _ROOM) -> None:
         self.lock = threading.RLock()
         self._library, self._handle = library(), Handle()
         self._stat, self._number, self._wrote = CStat(), ctypes.c_uint64(), ctypes.c_uint64()
         self._at, self._at_stat = ctypes.addressof(self._handle), ctypes.addressof(self._stat)
         self._at_number, self._at_wrote = ctypes.addressof(self._number), ctypes.addressof(self._wrote)
         self._room = _Room(room)
+        #: The bounds of names and files.
+        self.limits = Limits(limits)
         # How many checkpoints there were: call numbers begin at 1 again behind each.
         self._checkpoints = 0
         if not 0 < limit <= NODE_LIMIT:
             raise ValueError(f"the limit of nodes is 1 to {NODE_LIMIT:,}")
-        if status := self._library.open(self._at, limit):
+        if status := self._library.open_with(self._at, limit, self.limits.value):
             raise error_of(self._library, status)
         # The seat of the tree's own calls.
         self._own = self.seat().number
@@ -246,7 +248,7 @@ class Tree:
     def _error(self, status: int, call: Call, *paths: AnyPath) -> Exception:
         """The exception of a call that did not come to its reply. One that waits keeps its seat, and the tree takes another."""
         if status != Status.WAITS:
-            return error_of(self._library, status, paths)
+            return error_at(self._library, status, self.limits, paths)
         seat = Seat(self, self._own)
         seat._began(call, self._number.value, paths)
         # Without memory for another, the seat is the tree's own again when the call has returned.
@@ -265,7 +267,7 @@ class Tree:
                 room.make(room.count.value)
                 continue
             if status:
-                raise error_of(self._library, status, paths)
+                raise error_at(self._library, status, self.limits, paths)
             if not room.count.value:
                 return names
             names += _names(room.told())
@@ -350,7 +352,7 @@ class Seat:
         with tree.lock:
             at = ctypes.addressof(request), ctypes.addressof(number)
             if status := tree._library.begin_call(tree._at, self.number, *at):
-                raise error_of(tree._library, status, paths)
+                raise error_at(tree._library, status, tree.limits, paths)
             self._began(call, number.value, paths)
         return number.value
 
@@ -404,7 +406,7 @@ class Seat:
         tree = self.tree
         status = function(tree._at, self._call_number, *rest)
         if status and status != Status.TOO_SMALL:
-            raise error_of(tree._library, status, self._paths)
+            raise error_at(tree._library, status, tree.limits, self._paths)
 
     def _told_bytes(self) -> bytes:
         tree, room = self.tree, self.tree._room

@@ -23,7 +23,7 @@ from fs.mode import Mode
 from fs.opener import Opener
 from fs.path import basename
 
-from . import NAME_LIMIT, NODE_LIMIT, PATH_LIMIT, Stat, Tree
+from . import NODE_LIMIT, PATH_LIMIT, Limits, Stat, Tree
 from ._file import open_file
 
 if TYPE_CHECKING:
@@ -59,7 +59,10 @@ def _of(path: str, kinds: _Kinds, action: str) -> Iterator[None]:
 
 
 class AtomFS(FS):
-    """A tree as a file system: a new one of at most `limit` nodes, which is closed with it, or one that is given, which stays open."""
+    """A tree as a file system: one that is given, which stays open, or a new one, which is closed with it.
+
+    A new tree has at most `limit` nodes, and names and files by `limits`.
+    """
 
     _meta = {
         "case_insensitive": False,
@@ -72,11 +75,11 @@ class AtomFS(FS):
         "virtual": False,
     }
 
-    def __init__(self, tree: Optional[Tree] = None, limit: int = NODE_LIMIT) -> None:
+    def __init__(self, tree: Optional[Tree] = None, limit: int = NODE_LIMIT, limits: Limits = Limits.V2) -> None:
         super().__init__()
         self._owns = tree is None
         #: The tree itself.
-        self.atom_tree = Tree(limit) if tree is None else tree
+        self.atom_tree = Tree(limit, limits=limits) if tree is None else tree
 
     def __repr__(self) -> str:
         return f"AtomFS({self.atom_tree!r})"
@@ -90,18 +93,19 @@ class AtomFS(FS):
         super().close()
 
     def getmeta(self, namespace: Text = "standard") -> Mapping[Text, object]:
-        """As of any file system, and in the namespace `atomfs` the limits of names and paths."""
+        """As of any file system, and in the namespace `atomfs` the limits of names, paths and files."""
         if namespace == "atomfs":
-            return {"name_bytes": NAME_LIMIT, "path_names": PATH_LIMIT}
+            limits = self.atom_tree.limits
+            return {"name_bytes": limits.name_bytes, "path_names": PATH_LIMIT, "file_bytes": limits.file_bytes}
         return super().getmeta(namespace)
 
     def validatepath(self, path: Text) -> Text:
         path = super().validatepath(path)
-        names = path.split("/")[1:]
+        names, most = path.split("/")[1:], self.atom_tree.limits.name_bytes
         if len(names) > PATH_LIMIT:
             raise errors.InvalidPath(path, msg=f"path '{{path}}' has more than {PATH_LIMIT} names")
-        if any(len(name.encode("utf-8", "surrogateescape")) > NAME_LIMIT for name in names):
-            raise errors.InvalidPath(path, msg=f"path '{{path}}' has a name of more than {NAME_LIMIT} bytes")
+        if any(len(name.encode("utf-8", "surrogateescape")) > most for name in names):
+            raise errors.InvalidPath(path, msg=f"path '{{path}}' has a name of more than {most} bytes")
         return path
 
     @staticmethod

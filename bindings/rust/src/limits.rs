@@ -1,0 +1,29 @@
+//! The bounds of names and files.
+
+/// How long names and files of a tree may be.
+#[derive(Clone, Copy, Debug, Default, PartialEq, Eq, Hash)]
+pub enum Limits {
+    /// Names of at most 32 bytes, files of at most 65,536.
+    V1 = 1,
+    /// Names of at most 64 bytes, files of at most 1,048,576.
+    #[default]
+    V2 = 2,
+}
+
+impl Limits {
+    /// The most bytes of a name.
+    pub const fn name_bytes(self) -> usize {
+        match self {
+            Limits::V1 => 32,
+            Limits::V2 => 64,
+        }
+    }
+
+    /// The most bytes of a file.
+    pub const fn file_bytes(self) -> usize {
+        match self {
+            Limits::V1 => 65_536,
+            Limits::V2 => 1_048_576,
+        }
+    }
+}
