@@ -77,8 +77,8 @@ fn rename<N: Named, R: Wait + Clock>(
     pairs: u32,
 ) -> Option<()> {
     let (one, other) = (path(alloc, b"/a")?, path(alloc, b"/b")?);
-    let made = Call::Mkdir(one.copy(alloc).ok()?);
-    let there = Call::Rename(one.copy(alloc).ok()?, other.copy(alloc).ok()?);
+    let made = Call::Mkdir(one.copy().ok()?);
+    let there = Call::Rename(one.copy().ok()?, other.copy().ok()?);
     let back = Call::Rename(other, one);
     session.call(rt, alloc, &made, &Open).ok()?;
     for _ in 0..pairs {

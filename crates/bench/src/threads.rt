@@ -1,9 +1,8 @@
 //! The calls of a script's threads, each by a session of its own on one shared tree.
 
 use anyhow::{Result, bail};
-use fs_calls::Call;
-use fs_script::read_script;
-use fs_share::{Closed, Open, run_lists};
+use fs_script::{Script, read_script};
+use fs_share::{Closed, Open, run_lists_with};
 use std::alloc::Global;
 use std::sync::Wait;
 use std::thread::Threads;
@@ -16,13 +15,13 @@ struct Played {
     time: Duration,
 }
 
-/// Plays lists on a tree of their own.
+/// Plays the lists of a script on a tree of their own, by its limits.
 fn play_lists<R: Threads + Wait + Clock + Sync>(
     rt: &R,
     alloc: Global,
-    lists: &[Vec<Call>],
+    script: &Script,
 ) -> Result<Closed> {
-    match run_lists(rt, alloc, lists, &Open) {
+    match run_lists_with(rt, alloc, script.lists.as_slice(), &Open, script.limits) {
         Ok(closed) => Ok(closed),
         Err(_) => bail!("the lists were not played to their end"),
     }
@@ -32,10 +31,10 @@ fn play_lists<R: Threads + Wait + Clock + Sync>(
 fn time_lists<R: Threads + Wait + Clock + Sync>(
     rt: &R,
     alloc: Global,
-    lists: &[Vec<Call>],
+    script: &Script,
 ) -> Result<Played> {
     let start = Instant::now(rt)?;
-    let closed = play_lists(rt, alloc, lists)?;
+    let closed = play_lists(rt, alloc, script)?;
     let time = start.elapsed(rt)?;
     Ok(Played { closed, time })
 }
@@ -43,7 +42,7 @@ fn time_lists<R: Threads + Wait + Clock + Sync>(
 /// Plays the lists of a script.
 fn play<R: Threads + Wait + Clock + Sync>(rt: &R, alloc: Global, text: &[u8]) -> Result<Played> {
     match read_script(alloc, text) {
-        Ok(script) => time_lists(rt, alloc, script.lists.as_slice()),
+        Ok(script) => time_lists(rt, alloc, &script),
         Err(_) => bail!("the input is no script"),
     }
 }

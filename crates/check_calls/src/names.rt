@@ -56,7 +56,7 @@ pub fn parent(alloc: Global, text: &str) -> Result<String> {
 /// How many names a copy has, and in common with its path.
 pub fn copy(alloc: Global, text: &str) -> Result<String> {
     let path = path_of(alloc, text)?;
-    let copy = path.copy(alloc)?;
+    let copy = path.copy()?;
     let (names, common, is_root) = (copy.len(), copy.common(&path), path.is_empty());
     Ok(format!(in alloc; "{names} names, {common} in common, root: {is_root}")?)
 }

@@ -1,7 +1,9 @@
 //! Parts of the runners that a caller can use alone, the fault that no run ends with, and the places of a timeline.
 
 use anyhow::{Result, bail, ensure};
-use fs_sched::{Device, Divisor, Draws, EntryKind, RunFault, Schedule, number_of, run_script};
+use fs_sched::{
+    Device, Divisor, Draws, EntryKind, RunFault, Schedule, Silent, number_of, run_script,
+};
 use fs_script::Word;
 use fs_text::read_entries;
 use fs_timeline::Timeline;
@@ -52,7 +54,13 @@ fn counts_entries(alloc: Global) -> Result<bool> {
 fn counts_calls(alloc: Global) -> bool {
     let input: &[u8] = b"atomfs 1\nthread t\nmkdir /a\nmkdir /b\nmkdir /c\nschedule\nt*9\n";
     let mut writer = Device::new(Vec::new(alloc));
-    match run_script(alloc, &mut Device::new(input), &mut writer, Schedule::Given) {
+    match run_script(
+        alloc,
+        &mut Device::new(input),
+        &mut writer,
+        Schedule::Given,
+        &mut Silent,
+    ) {
         Ok(end) => (end.begun, end.committed, end.returned, end.calls) == (2, 2, 1, 3),
         Err(_) => false,
     }

@@ -3,7 +3,7 @@
 use anyhow::{Result, bail, ensure};
 use fs_calls::Call;
 use fs_journal::check_from;
-use fs_names::{ENTRY_LIMIT, FILE_LIMIT, Kind, Name, PATH_LIMIT, Path};
+use fs_names::{ENTRY_LIMIT, Kind, Limits, Name, PATH_LIMIT, Path};
 use fs_seq::{NotTree, Row, SeqTree};
 use fs_text::read_entries;
 use fs_timeline::{FaultKind, Verdict};
@@ -73,8 +73,8 @@ fn same_row(row: &Row, other: &Row) -> bool {
 }
 
 /// The tree of rows, which a copy of it tells again.
-fn told_again(alloc: Global, rows: &[Row]) -> Result<()> {
-    let Ok(tree) = SeqTree::from_rows(alloc, rows) else {
+fn told_again(alloc: Global, rows: &[Row], limits: Limits) -> Result<()> {
+    let Ok(tree) = SeqTree::from_rows(alloc, rows, limits) else {
         bail!("no tree");
     };
     let told = tree.copy()?.rows(alloc)?;
@@ -86,10 +86,10 @@ fn told_again(alloc: Global, rows: &[Row]) -> Result<()> {
 }
 
 /// What comes of rows.
-fn compare_rows(alloc: Global, rows: &[Row], bad: Option<usize>) -> Result<()> {
+fn compare_rows(alloc: Global, rows: &[Row], limits: Limits, bad: Option<usize>) -> Result<()> {
     match bad {
-        None => told_again(alloc, rows),
-        Some(place) => match SeqTree::from_rows(alloc, rows) {
+        None => told_again(alloc, rows, limits),
+        Some(place) => match SeqTree::from_rows(alloc, rows, limits) {
             Err(why) if why == NotTree::Bad(place) => Ok(()),
             _ => bail!("a row that is told at its place"),
         },
@@ -155,13 +155,22 @@ fn long(alloc: Global, size: usize) -> Result<Vec<Row>> {
     Ok(rows)
 }
 
-/// Rows at the limits, and beyond each.
+/// Rows at the limits, and beyond each, by both sets.
 fn compare_limits(alloc: Global) -> Result<()> {
-    compare_rows(alloc, &wide(alloc, ENTRY_LIMIT)?, None)?;
-    compare_rows(alloc, &wide(alloc, ENTRY_LIMIT + 1)?, Some(ENTRY_LIMIT + 2))?;
-    compare_rows(alloc, &long(alloc, FILE_LIMIT)?, None)?;
-    compare_rows(alloc, &long(alloc, FILE_LIMIT + 1)?, Some(2))?;
-    compare_rows(alloc, &deep(alloc, PATH_LIMIT + 6)?, None)
+    let full = ENTRY_LIMIT + 1;
+    for limits in [Limits::V1, Limits::V2] {
+        compare_rows(alloc, &wide(alloc, ENTRY_LIMIT)?, limits, None)?;
+        compare_rows(alloc, &wide(alloc, full)?, limits, Some(full + 1))?;
+        compare_rows(alloc, &long(alloc, limits.file())?, limits, None)?;
+        compare_rows(
+            alloc,
+            &long(alloc, limits.file().wrapping_add(1))?,
+            limits,
+            Some(2),
+        )?;
+        compare_rows(alloc, &deep(alloc, PATH_LIMIT + 6)?, limits, None)?;
+    }
+    Ok(())
 }
 
 /// The verdict on a journal that begins at a tree.
@@ -196,7 +205,7 @@ fn compare_verdicts(alloc: Global) -> Result<()> {
 /// All of these.
 pub fn compare(alloc: Global) -> Result<()> {
     for (lines, bad) in TABLE {
-        compare_rows(alloc, &rows_of(alloc, lines)?, bad)?;
+        compare_rows(alloc, &rows_of(alloc, lines)?, Limits::V1, bad)?;
     }
     compare_limits(alloc)?;
     compare_verdicts(alloc)

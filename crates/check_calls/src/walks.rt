@@ -6,7 +6,7 @@ ghost use Rattle.fs_nodes.specs.Stores.{graph_of};
 
 use anyhow::{Result, bail, ensure};
 use fs_calls::Call;
-use fs_names::Path;
+use fs_names::{Limits, Path};
 use fs_nodes::{NoNode, NodeNo, Store};
 use fs_ops::Op;
 use fs_walk::{Fork, Head, Side, Walk};
@@ -89,12 +89,12 @@ fn gives_back(op: Op, store: &mut Store) -> bool {
 fn compare_cancel(alloc: Global) -> Result<()> {
     let mkdir = Call::Mkdir(Path::parse(alloc, b"/a")?);
     let mut store = Store::new(alloc, 2)?;
-    match Op::begin(alloc, &mkdir, &mut store) {
+    match Op::begin(alloc, &mkdir, &mut store, Limits::V2) {
         Ok(op) => ensure!(gives_back(op, &mut store), "a number given back"),
         Err(_) => bail!("no number"),
     }
     let mut full = Store::new(alloc, 1)?;
-    match Op::begin(alloc, &mkdir, &mut full) {
+    match Op::begin(alloc, &mkdir, &mut full, Limits::V2) {
         Err(NoNode::Full) => Ok(()),
         _ => bail!("a number where all are in use"),
     }

@@ -3,7 +3,7 @@
 use crate::transcript::shown;
 use anyhow::{Result, bail, ensure};
 use fs_calls::{Bytes, Call, NameList, Reply};
-use fs_names::Name;
+use fs_names::{Limits, Name};
 use fs_text::calls::call_at;
 use fs_text::lines::cut_words;
 use fs_text::words::parts;
@@ -23,7 +23,7 @@ fn sides(text: &str) -> Result<(&str, &str)> {
 fn call_of(alloc: Global, text: &str) -> Result<Call> {
     let mut words = Vec::new(alloc);
     cut_words(text.as_bytes(), &mut words)?;
-    Ok(call_at(alloc, &words)?)
+    Ok(call_at(alloc, Limits::V1, &words)?)
 }
 
 /// Whether two calls are the same.

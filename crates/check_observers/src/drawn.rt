@@ -177,7 +177,7 @@ fn ask<N: Named>(
 ) -> Option<()> {
     let count = observer.count();
     for number in 0..3 {
-        let look = look(path.copy(alloc).ok()?, number);
+        let look = look(path.copy().ok()?, number);
         notes.push(note_of(alloc, observer, count, look)?).ok()?;
     }
     Some(())

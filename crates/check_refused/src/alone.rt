@@ -5,7 +5,7 @@ ghost use Rattle.fs_seq.specs.Looks.{is_look};
 
 use anyhow::bail;
 use fs_calls::{Call, Reply};
-use fs_names::Kind;
+use fs_names::{Kind, Limits};
 use fs_seq::{NotTree, Row, SeqTree};
 use std::alloc::{AllocError, Global};
 use std::io;
@@ -81,10 +81,10 @@ impl Again {
 
     /// A tree is made of rows.
     fn from_rows(&mut self, rows: &[Row]) -> Result<SeqTree, NotTree> {
-        match SeqTree::from_rows(self.alloc, rows) {
+        match SeqTree::from_rows(self.alloc, rows, Limits::V2) {
             Err(NotTree::OutOfMemory) => {
                 self.note();
-                SeqTree::from_rows(self.alloc, rows)
+                SeqTree::from_rows(self.alloc, rows, Limits::V2)
             }
             made => made,
         }

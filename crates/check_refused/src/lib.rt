@@ -1,10 +1,11 @@
 //! Does each thing that takes memory, and once more where memory was refused: on shared trees sessions, told calls,
-//! observers, jobs, checkpoints and lists of calls, and by one thread alone the sequential tree. Neither the program nor the library for C has
-//! sessions, observers and pools, and both have a sequential tree only inside a check, which ends where memory is refused. But
-//! for the last line, what is written is the same whichever growth is refused.
+//! observers, jobs, checkpoints and lists of calls, and by one thread alone the sequential tree, a core and `Memory`. Neither
+//! the program nor the library for C has sessions, observers and pools, and both have a sequential tree only inside a check,
+//! which ends where memory is refused. But for the last line, what is written is the same whichever growth is refused.
 #![tactic(auto)]
 
 mod alone;
+mod counted;
 mod lists;
 mod shared;
 
@@ -104,7 +105,8 @@ fn say_seen(rt: &impl Print, seen: &Seen) -> io::Result<()> {
     println!(rt; "/a behind a checkpoint: {}", seen.again)
 }
 
-/// Says what a shared tree has at its root, and how many calls return of lists that are played on another one.
+/// Says what a shared tree has at its root, how many sessions it had, and how many calls return of lists that are played on
+/// another one.
 fn say_rest<R: Print + Threads + Wait + Clock + Sync>(
     rt: &R,
     alloc: Global,
@@ -113,6 +115,7 @@ fn say_rest<R: Print + Threads + Wait + Clock + Sync>(
 ) -> Option<()> {
     let entries = closed.store.entries(NodeNo::new(0));
     println!(rt; "the root has {entries} entries").ok()?;
+    println!(rt; "sessions behind the checkpoint: {}", closed.sessions).ok()?;
     let returned = lists::returns(rt, alloc, script.lists.as_slice().get(..2)?)?;
     println!(rt; "the lists returned {returned}").ok()
 }
@@ -137,5 +140,9 @@ pub fn run<R: Print + Threads + Wait + Clock + Sync>(rt: &R, alloc: Global) -> a
         println!(rt; "stopped")?;
     }
     let refused = alone::run(rt, alloc, calls(&script, 2), calls(&script, 3))?;
+    let asked = counted::ask(alloc)?;
+    let begun = counted::play(alloc, calls(&script, 2))?;
+    println!(rt; "a core and `Memory` count what is refused")?;
+    let refused = asked.wrapping_add(begun).wrapping_add(refused as u64);
     Ok(println!(rt; "refused: {refused}, jobs {}", jobs.unwrap_or(0))?)
 }

@@ -1,20 +1,19 @@
-//! Runs real threads on shared trees, by sessions, lists and pools, also under gates that hold a call at a place of its walk,
-//! and says of each run whether it came out as it must. The program plays the lists of a script on threads and no more: it has
-//! no sessions, no gates and no pools, and tells no order of what its threads did.
+//! Runs real threads on shared trees, by sessions and lists, also under gates that hold a call at a place of its walk, and
+//! says of each run whether it came out as it must. The program plays the lists of a script on threads and no more: it has no
+//! sessions and no gates, and tells no order of what its threads did. `check_pools` does the same of pools, with the calls,
+//! sessions and gates of this crate.
 #![tactic(auto)]
 
 mod again;
 mod answers;
-mod calls;
+pub mod calls;
 mod crowds;
 mod drawing;
 mod held;
-mod jobs;
 mod long;
 mod parked;
-mod playing;
-mod pools;
-mod shared;
+pub mod playing;
+pub mod shared;
 mod waiting;
 mod walking;
 
@@ -45,7 +44,8 @@ fn say_faults(rt: &impl Print) -> io::Result<()> {
     Ok(())
 }
 
-fn say(rt: &impl Print, what: &str, holds: Option<bool>) -> io::Result<()> {
+/// Says of a run whether it came out as it must.
+pub fn say(rt: &impl Print, what: &str, holds: Option<bool>) -> io::Result<()> {
     let word = match holds {
         Some(true) => "yes",
         Some(false) => "no",
@@ -99,21 +99,11 @@ fn say_all<R: Print + Threads + Wait + Clock + Sync>(rt: &R, alloc: Global) -> i
     say_parked(rt, alloc, Beside::Removal)?;
     let lists = shared::lists_meet(rt, alloc);
     say(rt, "two lists run side by side", lists)?;
-    let pools = shared::jobs_meet(rt, alloc);
-    say(rt, "two jobs run side by side", pools)?;
     let returns = shared::all_return(rt, alloc);
     say(rt, "each call of four lists returns", returns)?;
     say_faults(rt)?;
     let again = again::are_lawful(rt, alloc);
     say(rt, "a tree begins again, and each piece is lawful", again)?;
-    let jobs = jobs::are_done(rt, alloc);
-    say(rt, "a thousand jobs are done, once", jobs)?;
-    let again = pools::run_again(rt, alloc);
-    say(
-        rt,
-        "jobs wait where no worker is made, and a pool runs twice",
-        again,
-    )?;
     let crowds = crowds::all_end(rt, alloc);
     say(
         rt,

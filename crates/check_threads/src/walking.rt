@@ -2,7 +2,7 @@
 
 use crate::calls::{is_lawful, path};
 use fs_calls::{Call, Reply};
-use fs_names::{CallNo, ENTRY_LIMIT, FILE_LIMIT, Kind, Name};
+use fs_names::{CallNo, ENTRY_LIMIT, Kind, Limits, Name};
 use fs_nodes::{NodeNo, Store};
 use fs_seq::SeqTree;
 use fs_share::Closed;
@@ -67,7 +67,7 @@ fn call(alloc: Global, at: &Place, reads: bool) -> Option<Call> {
     let text: &[u8] = if at.text.is_empty() { b"/" } else { &at.text };
     let path = path(alloc, text)?;
     Some(if reads {
-        Call::Read(path, 0, FILE_LIMIT as u64)
+        Call::Read(path, 0, Limits::V2.file() as u64)
     } else {
         Call::Stat(path)
     })

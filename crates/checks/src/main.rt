@@ -17,10 +17,11 @@ use std::thread::Threads;
 use std::time::Clock;
 
 /// The libraries, by the words that name them, in the order in which all are run.
-const NAMES: [&str; 6] = [
+const NAMES: [&str; 7] = [
     "calls",
     "stores",
     "threads",
+    "pools",
     "observers",
     "refused",
     "bench",
@@ -35,6 +36,7 @@ fn run<R: Files + AllocGlobal + Print + Threads + Wait + Clock + Sync>(
         "calls" => check_calls::run(rt),
         "stores" => check_stores::run(rt, rt.alloc()),
         "threads" => check_threads::run(rt, rt.alloc()),
+        "pools" => check_pools::run(rt, rt.alloc()),
         "observers" => check_observers::run(rt, rt.alloc()),
         "refused" => check_refused::run(rt, rt.alloc()),
         "bench" => bench::run(rt, rt.alloc()),

@@ -4,7 +4,7 @@
 use crate::digest::Digest;
 use crate::drawing::{Drawing, add_number};
 use anyhow::{Result, bail};
-use fs_sched::{Device, Schedule, check_journal, run_script};
+use fs_sched::{Device, Schedule, Silent, check_journal, run_script};
 use std::alloc::Global;
 
 /// The directories that the threads of a script share, each behind the one above it.
@@ -146,7 +146,15 @@ fn push_one(text: &mut Vec<u8>, drawing: &mut Drawing, number: usize) -> Result<
 /// Adds the text of the run by a schedule, and the verdict on its journal.
 fn add_run(alloc: Global, script: &[u8], schedule: Schedule, digest: &mut Digest) -> Result<()> {
     let mut text = Device::new(Vec::new(alloc));
-    if run_script(alloc, &mut Device::new(script), &mut text, schedule).is_err() {
+    if run_script(
+        alloc,
+        &mut Device::new(script),
+        &mut text,
+        schedule,
+        &mut Silent,
+    )
+    .is_err()
+    {
         bail!("a script that was drawn did not run");
     }
     let mut verdict = Device::new(Vec::new(alloc));

@@ -113,7 +113,7 @@ fn tell_each<N: Named, R: Wait + Clock>(
 fn write(alloc: Global, drawing: &mut Drawing, path: &Path) -> Result<Call> {
     let count = drawing.below(300);
     let offset = drawing.below(1000) as u64;
-    Ok(Call::Write(path.copy(alloc)?, offset, drawing.content(alloc, count)?))
+    Ok(Call::Write(path.copy()?, offset, drawing.content(alloc, count)?))
 }
 
 /// The path of one of the files.

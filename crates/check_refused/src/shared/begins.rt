@@ -3,7 +3,7 @@
 ghost use Rattle.std.specs.Prelude.{◌≡◌, ◌^◌};
 
 use super::again::{path, stat};
-use super::observer;
+use super::{observer, session};
 use fs_calls::Reply;
 use fs_names::Kind;
 use fs_share::{AtomFs, Closed, Named, NotKept, Opened, Tally};
@@ -11,9 +11,10 @@ use std::alloc::Global;
 use std::sync::Wait;
 use std::sync::ledger::Blank;
 
-/// Whether a new observer shows the empty directory `/a`.
+/// Whether a new observer shows the empty directory `/a`, beside a session that ends.
 fn shows<N: Named, R: Wait>(rt: &R, alloc: Global, fs: &AtomFs<N>) -> Option<bool> {
     let path = path(alloc, b"/a")?;
+    let _tally = session(rt, fs)?.end();
     let mut observer = observer(rt, fs)?;
     let seen = stat(alloc, &mut observer, &path)?;
     Some(matches!(seen, Reply::Stat(Kind::Dir, 0)))

@@ -2,8 +2,8 @@
 
 ghost use Rattle.std.specs.Prelude.{◌≡◌, ◌^◌};
 
-use crate::calls::{fits, has_counts, is_lawful, is_new, path};
-use crate::playing::play;
+use check_threads::calls::{fits, has_counts, is_lawful, is_new, path};
+use check_threads::playing::play;
 use fs_calls::{Call, Errno, Reply};
 use fs_pool::{Collected, Done, NotTaken, Pool};
 use fs_share::{AtomFs, Closed, Gate, Named, Open, Opened, Tally};
@@ -116,6 +116,22 @@ fn work_on<N: Named + Send + Sync, R: Threads + Wait + Clock + Sync, G: Gate + S
     Some((Did { full, done, left }, tallies))
 }
 
+/// Ends a tree, and hands on what came of it.
+pub fn end<N: Named, R: Wait, T: Drop>(
+    rt: &R,
+    alloc: Global,
+    fs: AtomFs<N>,
+    came: Option<(T, Vec<Tally<N>>)>,
+) -> Option<(T, Closed)> {
+    match came {
+        Some((came, tallies)) => Some((came, fs.close(rt, tallies))),
+        None => {
+            let _closed = fs.close(rt, Vec::new(alloc));
+            None
+        }
+    }
+}
+
 /// The same on a tree of its own.
 fn work<N: Named + Send + Sync, R: Threads + Wait + Clock + Sync, G: Gate + Sync>(
     rt: &R,
@@ -131,11 +147,8 @@ fn work<N: Named + Send + Sync, R: Threads + Wait + Clock + Sync, G: Gate + Sync
     requires all { blank.parts ≡ 2 ^ 63 }
 {
     let fs = AtomFs::<N>::open(rt, alloc, opened, blank).ok()?;
-    let Some((did, tallies)) = work_on(rt, alloc, &fs, works, gate) else {
-        let _closed = fs.close(rt, Vec::new(alloc));
-        return None;
-    };
-    let closed = fs.close(rt, tallies);
+    let came = work_on(rt, alloc, &fs, works, gate);
+    let (did, closed) = end(rt, alloc, fs, came)?;
     Some(Worked { did, closed })
 }
 

@@ -2,8 +2,8 @@
 
 ghost use Rattle.std.specs.Prelude.{◌≡◌, ◌^◌};
 
-use crate::calls::{calls_of, has_counts, is_lawful, lists_of};
-use crate::jobs::{are_right, submit_all};
+use crate::jobs::{are_right, end, submit_all};
+use check_threads::calls::{calls_of, has_counts, is_lawful, lists_of};
 use fs_calls::Call;
 use fs_pool::{Collected, Done, Job, NoWorker, Pool};
 use fs_share::{AtomFs, Closed, Named, Open, Opened, Tally};
@@ -116,11 +116,8 @@ fn on_named<N: Named + Send + Sync, R: Threads + Wait + Clock + Sync>(
     requires all { blank.parts ≡ 2 ^ 63 }
 {
     let fs = AtomFs::<N>::open(rt, alloc, opened, blank).ok()?;
-    let Some((came, tallies)) = both(rt, alloc, &fs, lots) else {
-        let _closed = fs.close(rt, Vec::new(alloc));
-        return None;
-    };
-    Some((came, fs.close(rt, tallies)))
+    let came = both(rt, alloc, &fs, lots);
+    end(rt, alloc, fs, came)
 }
 
 /// Whether jobs stay where no worker is made, and each is done once by a pool that runs twice.

@@ -1,0 +1,110 @@
+//! What is counted as refused: by a `Memory`, and by a core, whose calls begin once more where memory was refused.
+
+ghost use Rattle.std.specs.Prelude.{◌<◌, length};
+
+use anyhow::{Result, bail, ensure};
+use fs_calls::Call;
+use fs_core::{Core, Refusal, Stepped};
+use fs_memory::Memory;
+use fs_names::SeatNo;
+use std::alloc::{AllocError, Global};
+use std::sync::Arc;
+
+/// More steps than a call has that is alone.
+const MOST_STEPS: u32 = 1_000;
+
+/// What was granted; a refusal is noted.
+fn note<T>(refused: &mut u64, answer: Result<T, AllocError>) -> Option<T> {
+    if answer.is_err() {
+        *refused = refused.wrapping_add(1);
+    }
+    answer.ok()
+}
+
+/// A byte in a list with room for more. A refusal is noted.
+fn one_byte(alloc: Global, memory: &mut Memory, refused: &mut u64) -> Vec<u8> {
+    let mut bytes = Vec::new(alloc);
+    match memory.reserve(&mut bytes, 100) {
+        Ok(()) => bytes.push_reserved(7),
+        Err(_) => *refused = refused.wrapping_add(1),
+    }
+    bytes
+}
+
+/// Asks for memory in each way: the count is that of the refusals.
+pub fn ask(alloc: Global) -> Result<u64> {
+    let mut memory = Memory::new();
+    let mut refused = 0;
+    let bytes = one_byte(alloc, &mut memory, &mut refused);
+    ensure!(memory.refusals() == refused, "room in a list");
+    let empty = note(&mut refused, memory.with_room::<u64>(alloc, 100));
+    ensure!(memory.refusals() == refused, "a list with room");
+    ensure!(empty.is_some() || refused > 0, "a list, or a refusal");
+    if let Some(copy) = note(&mut refused, memory.copy_of(&bytes)) {
+        ensure!(copy == bytes, "the same bytes");
+    }
+    ensure!(memory.refusals() == refused, "a copy of bytes");
+    if let Ok(shared) = Arc::new(alloc, bytes) {
+        let owner = note(&mut refused, memory.share(&shared));
+        ensure!(owner.is_some(), "one more owner");
+    }
+    ensure!(memory.refusals() == refused, "what is shared");
+    Ok(refused)
+}
+
+/// A seat more, asked for once more where memory is refused.
+fn seat(core: &mut Core) -> Result<SeatNo> {
+    let before = core.refusals();
+    if let Ok(seat) = core.seat() {
+        ensure!(core.refusals() == before, "no refusal counted");
+        return Ok(seat);
+    }
+    ensure!(
+        core.refusals() == before.wrapping_add(1),
+        "one refusal counted"
+    );
+    Ok(core.seat()?)
+}
+
+/// A call begins, once more where memory is refused.
+fn begin(alloc: Global, core: &mut Core, seat: SeatNo, call: &Call) -> Result<()>
+    requires { seat < length core.old.seats }
+{
+    let before = core.refusals();
+    if core.begin(alloc, seat, call) != Err(Refusal::OutOfMemory) {
+        ensure!(core.refusals() == before, "no refusal counted");
+        return Ok(());
+    }
+    ensure!(
+        core.refusals() == before.wrapping_add(1),
+        "one refusal counted"
+    );
+    let begun = core.begin(alloc, seat, call);
+    ensure!(begun.is_ok(), "a begin that memory was refused to before");
+    Ok(())
+}
+
+/// A call goes on to its return.
+fn end(core: &mut Core, seat: SeatNo) -> Result<()> {
+    for _step in 0..MOST_STEPS {
+        ensure!(seat.get() < core.seats() as u64, "a seat");
+        if let Stepped::Returned(_) = core.step(seat) {
+            return Ok(());
+        }
+    }
+    bail!("a call that does not return")
+}
+
+/// Plays calls on a core. It answers how often memory was refused, as the core counts.
+pub fn play(alloc: Global, calls: &[Call]) -> Result<u64> {
+    let Ok(mut core) = Core::new(alloc) else {
+        return Ok(1);
+    };
+    let seat = seat(&mut core)?;
+    for call in calls {
+        ensure!(seat.get() < core.seats() as u64, "a seat");
+        begin(alloc, &mut core, seat, call)?;
+        end(&mut core, seat)?;
+    }
+    Ok(core.refusals())
+}
