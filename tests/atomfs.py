@@ -24,6 +24,7 @@ class Status(enum.IntEnum):
     FULL = 10
     NO_REPLY = 11
     UNDER_WAY = 12
+    BAD_VERSION = 13
     NULL = 14
     BAD_LENGTH = 15
     BAD_HEADER = 16
@@ -85,6 +86,7 @@ class Library:
         text, told = [ctypes.c_char_p, size], [ctypes.c_char_p, size, sizes]
         for name, arguments in {
             "open": [handle, size],
+            "open_with": [handle, size, ctypes.c_uint8],
             "close": [handle],
             "seat": [handle, numbers],
             "begin": [handle, number, *text, numbers],
@@ -131,11 +133,11 @@ class Library:
 
 
 class Tree:
-    """A tree of at most so many nodes, its root included. It is to be closed, as by `with`."""
+    """A tree of at most so many nodes, its root included, by the limits of a version. It is to be closed, as by `with`."""
 
-    def __init__(self, library, limit):
+    def __init__(self, library, limit, version=1):
         self.library, self.handle = library, Handle()
-        self.done(library.atomfs_open(self.handle, limit))
+        self.done(library.atomfs_open_with(self.handle, limit, version))
 
     def __enter__(self):
         return self

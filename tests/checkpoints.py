@@ -20,9 +20,9 @@ def text_of(*lines):
     return "".join(f"{line}\n" for line in lines).encode()
 
 
-def script(*lines):
+def script(*lines, version=1):
     """A script whose blocks and schedule are these lines."""
-    return text_of("atomfs 1", *lines)
+    return text_of(f"atomfs {version}", *lines)
 
 
 def under_way(call):
@@ -120,7 +120,7 @@ def deep():
 
 def full():
     """A directory with as many entries as it may have, and a file with as many bytes."""
-    return [[f"mknod /f{number}" for number in range(model.ENTRIES)] + [f"truncate /f9 {model.BYTES}"], ["mknod /g", "stat /f9", "write /f9 65535 ff"]]
+    return [[f"mknod /f{number}" for number in range(model.ENTRIES)] + [f"truncate /f9 {model.BYTES[1]}"], ["mknod /g", "stat /f9", "write /f9 65535 ff"]]
 
 
 class Checkpoints(harness.Case):
@@ -131,6 +131,16 @@ class Checkpoints(harness.Case):
 
     def test_rows(self):
         self.each(((name, script(*lines), wanted) for name, (lines, wanted) in ROWS.items()), self.look)
+
+    def test_second_version(self):
+        """Each piece begins with its start tree, also where that is the root alone."""
+        opening = "atomfs-journal 3", "start", "dir /"
+        end = "begun 0 committed 0 returned 0"
+        rows = (
+            ("back at the root alone", (*MADE_AND_REMOVED, "schedule", "t*12 !checkpoint"), (*opening, "entries", "tree", "dir /", end)),
+            ("more than the root", (*ONE_CALL, "schedule", "t*5 !checkpoint"), (*opening, "dir /a", "entries", "tree", "dir /", "dir /a", end)),
+        )
+        self.each(((name, script(*lines, version=2), Outcome(0, text_of(*wanted))) for name, lines, wanted in rows), self.look)
 
     def test_drawn_pieces(self):
         """What is drawn has a stream of its own."""

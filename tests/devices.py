@@ -19,7 +19,7 @@ READING = (
     (("check",), TEXT, b"lawful\n"),
 )
 SEAT_BUSY = b"SeatBusy: the seat's last call has not returned\n"
-WRITING = (*READING, (("--version",), b"", b"atomfs 0.2.0\n"), (("explain", "SeatBusy"), b"", SEAT_BUSY))
+WRITING = (*READING, (("--version",), b"", b"atomfs 0.3.0\n"), (("explain", "SeatBusy"), b"", SEAT_BUSY))
 PRINTING = (*WRITING, (("--help",), b"", (DATA / "help" / "atomfs").read_bytes()))
 READ_FAILED, WRITE_FAILED = b"atomfs: read failed\n", b"atomfs: write failed\n"
 

@@ -529,6 +529,11 @@ class Believed(Sentences):
         definitions, files, lines, comments = of_headline(("lawful",), self.MODELS[:1]).counts()
         self.says(BELIEVE, f"the first clause alone uses {definitions} of {files} files, {lines} lines, {comments} of them comments")
 
+    def test_memory(self):
+        """The lines of what counts refused memory."""
+        lines = (line.strip().removeprefix("ghost ") for line in source("fs_memory/src/memory.rt").splitlines())
+        self.says(BELIEVE, f"`fs_memory/src/memory.rt` has {sum(map(is_counted, lines))} lines")
+
     def test_glue(self):
         """Nothing outside the folders `specs/code` uses what is inside, and the page names their crates."""
         files = set(CRATES.glob("*fs*/specs/**/*.antt"))
@@ -567,6 +572,35 @@ class Changed(Sentences):
         proofs = self.files("Rename")["proofs"]
         of_laws, of_ops = proofs.count("fs_laws"), proofs.count("fs_ops")
         self.says(CHANGING, f"{of_laws} of the {len(proofs)} proof files are in `fs_laws`, {of_ops} in `fs_ops`")
+
+
+class Limits(Page):
+    """The files that name a limit, as docs/CHANGING.md has them: outside comments, proofs, and where it is defined and handed on."""
+
+    @staticmethod
+    def naming(limit):
+        """The files that name a limit, as pairs of a crate and a file."""
+        for path in (path for crate in CRATES.glob("*fs*") for part in ("src", "specs") for path in (crate / part).rglob("*.*t")):
+            code = re.sub(r"(//|--).*", "", path.read_text())
+            if path.name not in ("limits.rt", "lib.rt") and re.search(rf"\b{limit}\b", code):
+                yield path.relative_to(CRATES).parts[0], path.stem
+
+    @staticmethod
+    def listed(cell):
+        """The same of a cell, where each file stands behind its crate."""
+        crate = ""
+        for word in spans(cell):
+            parts = word.rstrip("/").split("/")
+            crate, rest = (parts[0], parts[1:]) if (CRATES / parts[0]).is_dir() else (crate, parts)
+            if rest and rest[-1] not in ("src", "specs", "code"):
+                yield crate, rest[-1].partition(".")[0]
+
+    def test_limits(self):
+        rows = table(CHANGING, "Limit", "Constant", "Where it is named", "Where its number is written out")
+        self.each(((spans(name)[0], spans(name)[0], cell) for _, name, cell, _ in rows if re.match("`[A-Z]", name)), self.look)
+
+    def look(self, limit, cell):
+        self.agrees(limit, sorted(set(self.listed(cell))), sorted(set(self.naming(limit))))
 
 
 class Listed(Page):
@@ -641,10 +675,15 @@ class Numbers(Sentences):
 
     def test_limits_of_trees(self):
         limits = constants("fs_names/src/limits.rt")
-        rows = [(spans(name)[0], number(limit)) for _, limit, name in table(SPECIFICATION, "What", "Limit", "Constant (`fs_names::limits`)")]
-        self.agrees("the limits", dict(rows), limits)
-        name, file, entries, names = (limits[f"{what}_LIMIT"] for what in ("NAME", "FILE", "ENTRY", "PATH"))
-        self.says(README, f"A name has at most {name} bytes, a file {file:,} bytes, a directory {entries} entries, a path {names} names")
+        rows = {spans(name)[0]: (first, second) for _, first, second, name in table(SPECIFICATION, "What", "`V1`", "`V2`", "Named by")}
+        self.agrees("the limits", {name: number(first) for name, (first, _) in rows.items() if name in limits}, limits)
+        (name, longer), (file, larger) = (map(number, rows[f"Limits::{what}"]) for what in ("name", "file"))
+        source = (CRATES / "fs_names" / "src" / "limits.rt").read_text()
+        found = [int(value) for value in re.findall(r"Limits::V[12] => ([\d_]+)", source)]
+        self.agrees("the two sets of limits", [name, longer, file, larger], found)
+        entries, names = limits["ENTRY_LIMIT"], limits["PATH_LIMIT"]
+        self.says(README, f"A name has at most {name} bytes and a file {file:,}, behind a first line `atomfs 2` {longer} and {larger:,}")
+        self.says(README, f"a directory has {entries} entries, a path {names} names")
         header = (ROOT / "embed" / "atomfs.h").read_text()
         self.agrees("embed/atomfs.h", number(re.search("#define ATOMFS_NODE_LIMIT (.*)", header)[1]), limits["NODE_LIMIT"])
 

@@ -2,11 +2,17 @@
 
 Calls and replies come in their canonical form, as the program writes them.
 """
+import collections
 import re
 
 LENGTH, THREADS, CALLS, EVENTS = 16_777_216, 256, 65_536, 1_000_000
-ENTRIES, FILE_BYTES = 256, 65_536
-NAME_BYTES, PATH_NAMES, GREATEST = 32, 64, 2**64 - 1
+ENTRIES, PATH_NAMES, GREATEST = 256, 64, 2**64 - 1
+
+Limits = collections.namedtuple("Limits", "name_bytes file_bytes")
+V1, V2 = Limits(32, 65_536), Limits(64, 1_048_576)
+SCRIPTS = {b"atomfs 1": V1, b"atomfs 2": V2}
+JOURNALS = {b"atomfs-journal 1": V1, b"atomfs-journal 2": V1, b"atomfs-journal 3": V2}
+
 CHECKPOINT = b"!checkpoint"
 ERRORS = ("ENOENT", "ENOTDIR", "EEXIST", "ENOTEMPTY", "EISDIR", "EINVAL", "EBUSY", "EPERM", "ENOSPC", "EFBIG")
 
@@ -31,19 +37,24 @@ def escaped(name):
     return "".join(chr(byte) if 0x20 < byte < 0x7F and byte != 0x25 else f"%{byte:02X}" for byte in name)
 
 
-def number(word):
+def fixed(word, _limits):
+    """A word that stands for itself."""
+    return word.decode()
+
+
+def number(word, _limits):
     if not re.fullmatch(rb"0|[1-9][0-9]{0,19}", word) or int(word) > GREATEST:
         raise Fault("BadNumber")
     return word.decode()
 
 
-def hexadecimal(word):
+def hexadecimal(word, _limits):
     if not re.fullmatch(rb"-|([0-9A-Fa-f]{2})+", word):
         raise Fault("BadHex")
     return word.decode().lower()
 
 
-def path(word):
+def path(word, limits):
     given = decoded(word)
     if not given.startswith(b"/"):
         raise Fault("BadPath NotAbsolute")
@@ -53,7 +64,7 @@ def path(word):
     for place, name in enumerate(names):
         if place == PATH_NAMES:
             raise Fault("BadPath TooManyNames")
-        if len(name) > NAME_BYTES:
+        if len(name) > limits.name_bytes:
             raise Fault("BadPath NameTooLong")
         if name in (b".", b".."):
             raise Fault("BadPath Dot")
@@ -62,15 +73,15 @@ def path(word):
     return "/" + "/".join(map(escaped, names))
 
 
-def name(word):
+def name(word, limits):
     """A name of a reply."""
     given = decoded(word)
-    if not 0 < len(given) <= NAME_BYTES or given in (b".", b"..") or re.search(rb"[/\0]", given):
+    if not 0 < len(given) <= limits.name_bytes or given in (b".", b"..") or re.search(rb"[/\0]", given):
         raise Fault("BadReply")
     return escaped(given)
 
 
-def error(word):
+def error(word, _limits):
     if word.decode("latin-1") not in ERRORS:
         raise Fault("BadReply")
     return word.decode()
@@ -94,16 +105,16 @@ REPLY_FORMS = forms("ok", "stat dir NUMBER", "stat file NUMBER", "bytes HEX", "w
 
 def readers_of(words, among, fault):
     """The readers of all words of the form that the words have."""
-    for fixed in (1, 2):
-        readers = among.get(tuple(words[:fixed]))
-        if readers is not None and len(words) == fixed + len(readers):
-            return [bytes.decode] * fixed + readers
+    for count in (1, 2):
+        readers = among.get(tuple(words[:count]))
+        if readers is not None and len(words) == count + len(readers):
+            return [fixed] * count + readers
     raise Fault(fault)
 
 
-def spelled(words, readers):
+def spelled(words, readers, limits):
     """The words in canonical form: the first from the left that cannot be read is the fault."""
-    return " ".join(read(word) for read, word in zip(readers, words, strict=True))
+    return " ".join(read(word, limits) for read, word in zip(readers, words, strict=True))
 
 
 def room(left, more):
@@ -113,25 +124,25 @@ def room(left, more):
     return left - more
 
 
-def call(words):
-    return spelled(words, readers_of(words, CALL_FORMS, "BadLine"))
+def call(words, limits):
+    return spelled(words, readers_of(words, CALL_FORMS, "BadLine"), limits)
 
 
-def reply(words):
+def reply(words, limits):
     if words[0] == b"names":
-        return " ".join(["names", *map(name, words[1:])])
-    return spelled(words, readers_of(words, REPLY_FORMS, "BadReply"))
+        return " ".join(["names", *(name(word, limits) for word in words[1:])])
+    return spelled(words, readers_of(words, REPLY_FORMS, "BadReply"), limits)
 
 
-def entry(words):
+def entry(words, limits):
     """An entry of a journal."""
     match words:
         case [b"begin", _, _, _, *_]:
-            return spelled(words, [bytes.decode, number, number, *readers_of(words[3:], CALL_FORMS, "BadLine")])
+            return spelled(words, [fixed, number, number, *readers_of(words[3:], CALL_FORMS, "BadLine")], limits)
         case [b"commit", _]:
-            return spelled(words, [bytes.decode, number])
+            return spelled(words, [fixed, number], limits)
         case [b"return", which, _, *_]:
-            return f"return {number(which)} {reply(words[2:])}"
+            return f"return {number(which, limits)} {reply(words[2:], limits)}"
     raise Fault("BadLine")
 
 
@@ -143,14 +154,14 @@ def cut(line):
     return words
 
 
-def read(text, header, take, end=None, behind=1):
-    """Hands the words of each line that is not passed over to `take`, from behind so many lines up to a line that is the end. Answers how many
-    lines there are.
+def read(text, headers, take, end=None, behind=1):
+    """Hands the words of each line that is not passed over to `take`, with the limits of the first line, from behind so many lines up to a line
+    that is the end. Answers how many lines there are.
     """
     if len(text) > LENGTH:
         raise Fault("TooLarge", 1)
     first, *lines = text.removesuffix(b"\n").split(b"\n")
-    if first != header:
+    if first not in headers:
         raise Fault("BadHeader", 1)
     for place, line in enumerate(lines[behind - 1 :], 1 + behind):
         if line == end:
@@ -158,13 +169,13 @@ def read(text, header, take, end=None, behind=1):
         if not line or line.startswith(b"#"):
             continue
         try:
-            take(cut(line))
+            take(cut(line), headers[first])
         except Fault as fault:
             raise Fault(fault.kind, place) from None
     return 1 + len(lines)
 
 
-def node(line):
+def node(line, limits):
     """The node of a line of a tree, which is the very line that is written of it: its path, and its bytes unless it is a directory."""
     match line.split(b" "):
         case [b"dir", word]:
@@ -174,19 +185,19 @@ def node(line):
         case _:
             raise Fault("BadStart")
     root, *pieces = [b""] if word == b"/" else word.split(b"/")
-    if root or any(name(piece).encode() != piece for piece in pieces):
+    if not word or root or any(name(piece, limits).encode() != piece for piece in pieces):
         raise Fault("BadStart")
     return tuple(map(decoded, pieces)), content
 
 
-def add_node(nodes, line):
+def add_node(nodes, line, limits):
     """Adds the node of a line to those of a tree, whose next one it is."""
-    path, content = node(line)
+    path, content = node(line, limits)
     if not path or not nodes:
         right = not path and not nodes and content is None
     else:
         parent, siblings = path[:-1], [other for other in nodes if other[:-1] == path[:-1] and other]
-        right = path > next(reversed(nodes)) and nodes.get(parent, b"") is None and len(siblings) < ENTRIES and len(content or b"") <= FILE_BYTES
+        right = path > next(reversed(nodes)) and nodes.get(parent, b"") is None and len(siblings) < ENTRIES and len(content or b"") <= limits.file_bytes
     if not right:
         raise Fault("BadStart")
     nodes[path] = content
@@ -195,9 +206,9 @@ def add_node(nodes, line):
 def start(text):
     """The nodes of the tree at which a journal starts, each None or a file's bytes by its path in order, and how many lines tell them."""
     header, *lines = text.removesuffix(b"\n").split(b"\n")
-    if header != b"atomfs-journal 2":
+    if header not in JOURNALS or header == b"atomfs-journal 1":
         return {(): None}, 1
-    nodes, begun = {}, False
+    nodes, begun, limits = {}, False, JOURNALS[header]
     for place, line in enumerate(lines, 2):
         if not line or line.startswith(b"#"):
             continue
@@ -205,7 +216,7 @@ def start(text):
             return nodes, place
         try:
             if begun:
-                add_node(nodes, line)
+                add_node(nodes, line, limits)
             elif line != b"start":
                 raise Fault("BadStart")
         except Fault:
@@ -219,7 +230,7 @@ def journal(text):
     if len(text) > LENGTH:
         raise Fault("TooLarge", 1)
     entries, (_, behind) = [], start(text)
-    read(text, b"atomfs-journal 1" if behind == 1 else b"atomfs-journal 2", lambda words: entries.append(entry(words)), b"tree", behind)
+    read(text, JOURNALS, lambda words, limits: entries.append(entry(words, limits)), b"tree", behind)
     return entries
 
 
@@ -229,13 +240,13 @@ class Script:
     """
 
     def __init__(self, text):
-        self.calls, self.events, self.finishes = {}, None, False
+        self.header, self.calls, self.events, self.finishes = text.split(b"\n")[0].decode("latin-1"), {}, None, False
         self.calls_left, self.events_left = CALLS, EVENTS
-        lines = read(text, b"atomfs 1", self.take)
+        lines = read(text, SCRIPTS, self.take)
         if self.events is None:
             raise Fault("NoSchedule", lines + 1)
 
-    def take(self, words):
+    def take(self, words, limits):
         if self.events is not None:
             for word in words:
                 self.take_word(word)
@@ -244,7 +255,7 @@ class Script:
         elif words == [b"schedule"]:
             self.events = []
         elif self.calls:
-            self.take_call(call(words))
+            self.take_call(call(words, limits))
         else:
             raise Fault("BadLine")
 
@@ -282,4 +293,4 @@ class Script:
         """A script that says the same: each call in canonical form, and each event as a word, unless they are very many."""
         blocks = [line for thread, calls in self.calls.items() for line in (f"thread {thread}", *calls)]
         words = [word for thread, times in self.events for word in ([thread] * times if times <= 1_000 else [f"{thread}*{times}"])]
-        return "".join(f"{line}\n" for line in ("atomfs 1", *blocks, "schedule", *words, *["finish"] * self.finishes)).encode()
+        return "".join(f"{line}\n" for line in (self.header, *blocks, "schedule", *words, *["finish"] * self.finishes)).encode()

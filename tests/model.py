@@ -8,7 +8,9 @@ import sys
 from urllib.parse import unquote_to_bytes
 
 ENTRIES = 256
-BYTES = 65_536
+# The most bytes of a file, by the version of a script; and that version, by the first line of a journal.
+BYTES = {1: 65_536, 2: 1_048_576}
+VERSIONS = {"atomfs-journal 1": 1, "atomfs-journal 2": 1, "atomfs-journal 3": 2}
 
 
 class Failed(Exception):
@@ -27,13 +29,13 @@ def escaped(name):
 class Tree:
     """Nodes by their paths: a directory's are its entries' names, a file's its bytes."""
 
-    def __init__(self):
-        self.nodes = {(): set()}
+    def __init__(self, version=1):
+        self.nodes, self.bytes = {(): set()}, BYTES[version]
 
     @classmethod
-    def of(cls, nodes):
+    def of(cls, nodes, version=1):
         """The tree of these nodes, by their paths in order, where None stands for a directory."""
-        tree = cls()
+        tree = cls(version)
         for path, content in nodes.items():
             if path:
                 tree.nodes[path] = set() if content is None else content
@@ -163,7 +165,7 @@ class Tree:
 
     def write(self, path, offset, more):
         old = self.file(path)
-        if more and offset + len(more) > BYTES:
+        if more and offset + len(more) > self.bytes:
             raise Failed("EFBIG")
         if more:
             self.nodes[path] = old[:offset].ljust(offset, b"\0") + more + old[offset + len(more) :]
@@ -171,7 +173,7 @@ class Tree:
 
     def truncate(self, path, size):
         old = self.file(path)
-        if size > BYTES:
+        if size > self.bytes:
             raise Failed("EFBIG")
         self.nodes[path] = old[:size].ljust(size, b"\0")
         return "ok"
@@ -204,14 +206,26 @@ class Tree:
         return lines
 
 
+def started(lines):
+    """The tree at which a journal starts, and how many lines tell it."""
+    version, nodes = VERSIONS[lines[0]], {(): None}
+    if lines[0] == "atomfs-journal 1":
+        return Tree(version), 1
+    behind = lines.index("entries")
+    for line in lines[2:behind]:
+        kind, path, *content = line.split(" ")
+        nodes[path_of(path)] = bytes.fromhex(content[0].replace("-", "")) if kind == "file" else None
+    return Tree.of(nodes, version), behind + 1
+
+
 def replayed(text):
     """What is wrong with a run text by the model, if anything is."""
     lines = text.splitlines()
-    if lines[:1] != ["atomfs-journal 1"] or "tree" not in lines:
+    if not lines or lines[0] not in VERSIONS or "tree" not in lines:
         return "this is no run text"
     at = lines.index("tree")
-    tree, calls, seats, due, returned, busy = Tree(), {}, {}, {}, set(), set()
-    for place, line in enumerate(lines[1:at], 1):
+    (tree, behind), calls, seats, due, returned, busy = started(lines), {}, {}, {}, set(), set()
+    for place, line in enumerate(lines[behind:at], 1):
         match line.split(" "):
             case "begin", number, seat, *call if number not in calls and seat not in busy:
                 calls[number], seats[number] = call, seat

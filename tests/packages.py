@@ -237,12 +237,12 @@ class Numbers(Case):
         self.same(path.relative_to(ROOT), re.search(pattern, path.read_text(), re.M)[1], VERSION)
 
     def test_statuses(self):
-        """Statuses, what a step did, and calls, as the header numbers them."""
+        """Statuses, what a step did, calls, and sets of limits, as the header numbers them."""
         header = {name: int(value) for name, value in re.findall(r"^    ATOMFS_(\w+) = (\d+)", HEADER, re.M)}
         library, ffi = self.source("python", "src", "atomfs", "_library.py"), self.source("rust", "src", "ffi.rs")
         of_python = {"FAILED": int(re.search(r"^FAILED = (\d+)", library, re.M)[1])}
-        for enum, prefix in (("Status", ""), ("Did", "DID_"), ("Call", "CALL_")):
-            body = re.search(rf"class {enum}\(enum.IntEnum\):(.*?)\n\n\n", library, re.S)[1]
+        for enum, prefix in (("Limits", ""), ("Status", ""), ("Did", "DID_"), ("Call", "CALL_")):
+            body = re.search(rf"class {enum}\(enum.\w+\):(.*?)\n\n\n", library, re.S)[1]
             of_python |= {prefix + name: int(value) for name, value in re.findall(r"^    (\w+) = (\d+)", body, re.M)}
         self.same("_library.py", of_python, header)
         of_rust = {name: int(value) for name, value in re.findall(r"^pub const (\w+): u8 = (\d+);", ffi, re.M)}
@@ -269,7 +269,17 @@ class Numbers(Case):
     def test_limits(self):
         limits = dict(re.findall(r"const (\w+): \w+ = ([\d_]+);", (CRATES / "fs_names" / "src" / "limits.rt").read_text()))
         library = self.source("python", "src", "atomfs", "_library.py")
-        for name in ("NODE_LIMIT", "NAME_LIMIT", "PATH_LIMIT"):
+        source = (CRATES / "fs_names" / "src" / "limits.rt").read_text()
+        wanted = [int(value) for value in re.findall(r"Limits::V[12] => ([\d_]+)", source)]
+        of_rust = re.findall(r"Limits::V[12] => ([\d_]+)", self.source("rust", "src", "limits.rs"))
+        self.same("the two sets of limits.rs", [int(value) for value in of_rust], wanted)
+        sys.path.insert(0, str(BINDINGS / "python" / "src" / "atomfs"))
+        from _library import Limits
+
+        sys.path.pop(0)
+        of_python = [getattr(limits, what) for what in ("name_bytes", "file_bytes") for limits in Limits]
+        self.same("the two sets of _library.py", of_python, wanted)
+        for name in ("NODE_LIMIT", "PATH_LIMIT"):
             found = re.search(rf"^{name} = ([\d_]+)", library, re.M)[1]
             self.same(f"{name} of _library.py", int(found), int(limits[name]))
         found = re.search(r"NODE_LIMIT: usize = ([\d_]+)", self.source("rust", "src", "lib.rs"))[1]

@@ -100,18 +100,21 @@ class Program(Preloaded):
         self.tell(f"growths of a path {path}", outcomes, [NO_MEMORY], whole)
         return growths, outcomes.count(NO_MEMORY)
 
-    def room_goes_first(self, path):
+    def room_for_names(self, path, more):
         growths, told = self.asked_for("/./a/b")
-        self.same(f"growths of {path}, and how many are told: one more than of three names", self.asked_for(path), (growths + 1, told + 1))
+        self.same(f"growths of {path}, and how many are told: so many more than of three names", self.asked_for(path), (growths + more, told + more))
 
-    def test_room_goes_first(self):
-        """Room for more names than one block has is asked for, and told where it is refused, before what is wrong with any of them."""
+    def test_room_for_names(self):
+        """Room for more than seven names is asked for in steps, each twice as large, and told where it is refused: what is wrong with a name before goes first."""
         rows = (
-            ("first of eight", "/./a/b/c/d/e/f/g"),
-            ("last of eight", "/a/b/c/d/e/f/g/."),
-            ("first of many", "/." + "/a" * 64),
+            ("first of eight", "/./a/b/c/d/e/f/g", 0),
+            ("last of eight", "/a/b/c/d/e/f/g/.", 0),
+            ("first of many", "/." + "/a" * 64, 0),
+            ("last of nine", "/a/b/c/d/e/f/g/h/.", 1),
+            ("last of twelve", "/a" * 11 + "/.", 2),
+            ("last of many", "/a" * 63 + "/.", 4),
         )
-        self.each(rows, self.room_goes_first)
+        self.each(rows, self.room_for_names)
 
     def threads(self, name, count, calls):
         given = stored(name)
@@ -531,6 +534,35 @@ class Library(Case):
             ("full", 1, b"mkdir /a", Status.FULL),
         )
         self.each(rows, self.no_begin)
+
+    def begun_again(self, line, number):
+        """How often a growth was refused to a begin on a tree with one number left. A refused one keeps neither that number nor any node: a call of another seat
+        runs past it, and the same begin has the number."""
+        self.heap.refuse(0, 0)
+        with Played(self, self.library) as tree:
+            tree.open(limit=2)
+            for _ in range(2):
+                tree.seat()
+            self.heap.refuse(number, number)
+            status, refusals = status_of(tree.begin, 0, line)[0], self.heap.refusals()
+            self.heap.refuse(0, 0)
+            if refusals:
+                self.same(f"{line}, growth {number} refused", status, Status.NO_MEMORY)
+                self.same("a call of another seat, the first of all", tree.make(1, b"stat /"), (1, b"stat dir 0"))
+                status = status_of(tree.begin, 0, line)[0]
+            others = status_of(tree.begin, 1, b"mkdir /other")[0]
+            self.same(f"{line}, and one that needs a number more", (status, others), (Status.OK, Status.FULL))
+        return refusals
+
+    def keeps_nothing(self, line):
+        for number in itertools.count(1):
+            if not self.begun_again(line, number):
+                break
+        self.assertGreater(number, 1, f"{line} asks for no growth")
+
+    def test_last_number(self):
+        """A begin of which a growth is refused keeps no number of a node and no node."""
+        self.each(((line.decode(), line) for line in (b"mkdir /a", b"mknod /a")), self.keeps_nothing)
 
     def texts(self, ask, texts, wanted):
         """A function of texts, and what is wanted of each: it is asked once for each growth, which is refused, and again."""

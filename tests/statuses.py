@@ -98,8 +98,8 @@ class Words(Case):
             ("draw", of(HELPED), Outcome(0, (DATA / "pictures" / "helped_mkdir.svg").read_bytes())),
             ("draw --seed 7", of(HELPED, "text"), Outcome(0, (DATA / "pictures" / "helped_mkdir_journal.svg").read_bytes())),
             ("schedule --robin", of(ONE_CALL), Outcome(0, b"atomfs 1\nthread t\nmkdir /a\nschedule\nt*5\n")),
-            ("--version", b"", Outcome(0, b"atomfs 0.2.0\n")),
-            ("-V", b"", Outcome(0, b"atomfs 0.2.0\n")),
+            ("--version", b"", Outcome(0, b"atomfs 0.3.0\n")),
+            ("-V", b"", Outcome(0, b"atomfs 0.3.0\n")),
         ))
 
     def test_calls_left(self):
@@ -132,7 +132,7 @@ class Words(Case):
             ("a schedule of a journal", "schedule --robin", of(HELPED, "text"), malformed("line 1: BadHeader")),
             ("a slash too many in a trace", "trace", SLASH, malformed("line 3: BadPath TrailingSlash")),
             ("a slash too many in a picture", "draw", SLASH, malformed("line 3: BadPath TrailingSlash")),
-            ("a journal of another version is drawn", "draw", b"atomfs-journal 3\n", malformed("line 1: BadHeader")),
+            ("a journal of another version is drawn", "draw", b"atomfs-journal 4\n", malformed("line 1: BadHeader")),
             ("a call that no journal has", "draw --around 5", of(HELPED, "text"), Outcome(2, b"", b"atomfs: there is no call 5\n")),
             ("a slash too many on threads", "threads", SLASH, malformed("line 3: BadPath TrailingSlash")),
             ("no schedule in drawn runs", "seeds --seed 0 --runs 1", b"atomfs 1\nthread t\nstat /\n", malformed("line 4: NoSchedule")),

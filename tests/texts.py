@@ -132,16 +132,17 @@ def outcome_of(fault):
     return Outcome(3, b"", f"atomfs: {fault}\n".encode())
 
 
-def written(entries):
-    """A journal of these entries."""
-    return text_of("atomfs-journal 1", *entries)
+def written(text):
+    """The journal again: what stands before its entries, and these in canonical form."""
+    _, behind = grammar.start(text)
+    return b"".join(line + b"\n" for line in text.split(b"\n")[:behind]) + text_of(*grammar.journal(text))
 
 
 class History:
     """The entries of a journal so far, by the table of verdicts of docs/SPECIFICATION.md: an entry answers the kind of its fault, or None."""
 
-    def __init__(self, start):
-        self.tree, self.calls, self.due, self.returned, self.last = model.Tree.of(start), {}, {}, set(), {}
+    def __init__(self, start, version):
+        self.tree, self.calls, self.due, self.returned, self.last = model.Tree.of(start, version), {}, {}, set(), {}
 
     def begin(self, number, seat, *call):
         if number in self.calls:
@@ -170,7 +171,7 @@ class History:
 def verdict(text):
     """The line of the verdict on a journal, by the model."""
     entries, (start, _) = grammar.journal(text), grammar.start(text)
-    history = History(start)
+    history = History(start, model.VERSIONS[text.split(b"\n")[0].decode()])
     take = {"begin": history.begin, "commit": history.commit, "return": history.returns}
     for place, entry in enumerate(entries, 1):
         kind, *words = entry.split(" ")
@@ -190,6 +191,9 @@ class Rows:
 
     def test_starts(self):
         self.each(rows("starts"), self.look)
+
+    def test_versions(self):
+        self.each(rows("versions"), self.look)
 
     def test_lines(self):
         self.each(rows("lines"), self.look)
@@ -230,7 +234,7 @@ class OfTheGrammar(Rows, Case):
     def look_at_journal(self, text, answer):
         count = re.fullmatch(r"as its first (\d+) lines", answer[0])
         wanted = b"".join(text.splitlines(keepends=True)[: int(count[1]) if count else None])
-        self.same(text, written(grammar.journal(text)), wanted)
+        self.same(text, written(text), wanted)
 
     def look_at_verdict(self, text, answer):
         self.same(text, verdict(text), answer[0])
@@ -268,15 +272,15 @@ class OfTheProgram(Rows, Case):
 
     def look_at_journal(self, text, _):
         """Its verdict is that of the journal that is written from its entries."""
-        self.same(text, run(text, "check"), run(written(grammar.journal(text)), "check"))
+        self.same(text, run(text, "check"), run(written(text), "check"))
 
     def look_at_verdict(self, text, answer):
         self.same(text, run(text, "check"), Outcome(int(answer != ["lawful"]), text_of(answer[0])))
 
 
-def starting(*nodes):
+def starting(version, *nodes):
     """A journal without entries that starts at the tree of these nodes behind the root."""
-    return text_of("atomfs-journal 2", "start", "dir /", *nodes, "entries")
+    return text_of(f"atomfs-journal {version}", "start", "dir /", *nodes, "entries")
 
 
 class Starts(Case):
@@ -288,25 +292,38 @@ class Starts(Case):
         "entries below a file's": ["dir /a", *(f"file /a/{place:03} -" for place in range(256)), "file /b -"],
         "more names than a path has": [f"dir {path}" for path in BRANCH],
         "a file below them": [*(f"dir {path}" for path in BRANCH), f"file {BRANCH[-1]}/f 00"],
-        "a name of 32 bytes": ["dir /" + "n" * 32],
-        "32 escaped bytes": ["dir /" + "%FF" * 32],
     }
+    # The most bytes of a name and of a file, by the version of the journal.
+    LENGTHS = {2: (32, 65_536), 3: (64, 1_048_576)}
     PAST = {
         "257 entries": [f"dir /{place:03}" for place in range(257)],
         "257 entries of a directory": ["dir /a", *(f"file /a/{place:03} -" for place in range(257))],
-        "a name of 33 bytes": ["dir /" + "n" * 33],
-        "33 escaped bytes": ["dir /" + "%FF" * 33],
     }
 
+    @staticmethod
+    def lengths(name, content):
+        """Nodes with a name, or with bytes, of this length."""
+        return {
+            f"a name of {name} bytes": ["dir /" + "n" * name],
+            f"{name} escaped bytes": ["dir /" + "%FF" * name],
+            f"a file of {content} bytes": ["file /f " + "00" * content],
+        }
+
+    def of_each_version(self, nodes, more):
+        """Journals of both versions that start at these nodes, and at some whose lengths are the greatest and so many more."""
+        for version, greatest in self.LENGTHS.items():
+            for name, lines in {**nodes, **self.lengths(*(length + more for length in greatest))}.items():
+                yield f"{name}, version {version}", starting(version, *lines), 3 + len(lines)
+
     def test_within(self):
-        self.each(((name, starting(*nodes)) for name, nodes in self.ROWS.items()), self.look)
+        self.each(((name, text) for name, text, _ in self.of_each_version(self.ROWS, 0)), self.look)
 
     def look(self, text):
         self.same(text, verdict(text), "lawful")
         self.same(text, run(text, "check"), Outcome(0, b"lawful\n"))
 
     def test_past(self):
-        self.each(((name, starting(*nodes), 3 + len(nodes)) for name, nodes in self.PAST.items()), self.look_past)
+        self.each(self.of_each_version(self.PAST, 1), self.look_past)
 
     def look_past(self, text, line):
         fault = attempted("journal", text)
@@ -317,11 +334,13 @@ class Starts(Case):
 # What texts are drawn from. A letter P, N, H, E or T that is a word, or the thread of a word, stands for one of these.
 WORDS_OF = {
     "P": ("/", "/a", "/b", "/a/b", "/a/a", "/b/a", "//a", "/%61/b", "/%C3%A9", "/a%20b", "/a%2Fb", "/c~"),
-    "N": ("0", "1", "1", "2", "2", "3", "4", "10", "65535", "65536", "65537", "18446744073709551615"),
+    "N": ("0", "1", "1", "2", "2", "3", "4", "10", "65535", "65536", "65537", "1048576", "1048577", "18446744073709551615"),
     "H": ("-", "00", "6869", "fFeE01"),
     "E": ("ENOENT", "ENOTDIR", "EEXIST", "ENOTEMPTY", "EISDIR", "EINVAL", "EBUSY", "EPERM", "ENOSPC", "EFBIG"),
     "T": ("t", "u_2", "thread"),
 }
+SCRIPTS = "atomfs 1", "atomfs 1", "atomfs 2"
+JOURNALS = "atomfs-journal 1", "atomfs-journal 1", "atomfs-journal 3\nstart\ndir /\nentries"
 CALLS = (
     *("mkdir P", "mknod P", "mkdir P", "unlink P", "rmdir P", "rename P P", "exchange P P"),
     *("stat P", "readdir P", "read P N N", "write P N H", "truncate P N"),
@@ -330,6 +349,7 @@ REPLIES = "ok", "stat dir N", "stat file N", "names", "names a", "names a b%20c 
 EVENTS = "T", "T*1", "T*2", "T*5", "T*9", "T*40"
 BEGINNINGS = (
     *("", "atomfs 1\n", "atomfs 1\nthread t\n", "atomfs 1\nthread t\nmkdir /a\nschedule\n"),
+    *("atomfs 2\nthread t\n", "atomfs-journal 3\nstart\ndir /\nentries\n"),
     *("atomfs-journal 1\n", "atomfs-journal 1\nbegin 1 0 mkdir /a\n"),
 )
 # Words of all lines, right and wrong ones.
@@ -359,18 +379,18 @@ def blocks(draw):
 
 
 def drawn_script(draw):
-    return text_of("atomfs 1", *blocks(draw), "schedule", *some(draw, EVENTS, 8), *["finish"] * draw.choice((0, 1, 1)))
+    return text_of(draw.choice(SCRIPTS), *blocks(draw), "schedule", *some(draw, EVENTS, 8), *["finish"] * draw.choice((0, 1, 1)))
 
 
 def drawn_journal(draw):
     entries = "commit N", *(f"begin N N {call}" for call in CALLS), *(f"return N {reply}" for reply in REPLIES)
     weights = 99, *[9] * len(CALLS), *[11] * len(REPLIES)
-    return text_of("atomfs-journal 1", *(filled(draw, entry) for entry in draw.choices(entries, weights, k=draw.randrange(10))))
+    return text_of(draw.choice(JOURNALS), *(filled(draw, entry) for entry in draw.choices(entries, weights, k=draw.randrange(10))))
 
 
 def drawn_run(draw):
     """The text of a run of a drawn script."""
-    return library().run(text_of("atomfs 1", *blocks(draw), "schedule", "finish"))
+    return library().run(text_of(draw.choice(SCRIPTS), *blocks(draw), "schedule", "finish"))
 
 
 def drawn_lines(draw):
@@ -457,7 +477,7 @@ class OfTheLibrary(Case):
         self.came = set()
 
     def test_rows(self):
-        rows_of = {file: rows(file) for file in ("scripts", "journals", "lines", "paths")}
+        rows_of = {file: rows(file) for file in ("scripts", "journals", "lines", "paths", "versions")}
         self.each(((f"{file}: {name}", text) for file, rows in rows_of.items() for name, text, _, _ in rows), self.look)
 
     def test_drawn_texts(self):
@@ -480,7 +500,7 @@ class OfTheLibrary(Case):
         if "script" not in faults:
             self.look_at_script(text, said["script"])
         if "journal" not in faults:
-            self.look_at_journal(text, said["journal"])
+            self.look_at_journal(text)
         return faults
 
     def look_at_fault(self, text, kind, fault):
@@ -499,12 +519,12 @@ class OfTheLibrary(Case):
         self.same(text, told("journal", came), b"lawful\n")
         self.same(text, verdict(came), "lawful")
 
-    def look_at_journal(self, text, entries):
+    def look_at_journal(self, text):
         """Its verdict is that of the model, and that of the journal that is written from its entries."""
         wanted = verdict(text)
         self.came.add(("verdict", wanted.split(" ")[-1]))
         self.same(text, told("journal", text), text_of(wanted))
-        self.same(text, told("journal", written(entries)), text_of(wanted))
+        self.same(text, told("journal", written(text)), text_of(wanted))
 
 
 if __name__ == "__main__":

@@ -276,7 +276,7 @@ class OnTheLibrary(Case):
     def look(self, script, *schedule):
         tree_library = library()
         told = Trace(run(script, *words("--every"), *schedule).output)
-        with atomfs.Tree(tree_library, 1_048_576) as tree:
+        with atomfs.Tree(tree_library, 1_048_576, version=int(script.startswith(b"atomfs 2")) + 1) as tree:
             self.same(script.decode(errors="backslashreplace"), self.follow(tree, told, calls_of(script)), None)
 
     def test_worked_scripts(self):

@@ -455,6 +455,37 @@ static void closed(void) {
     IS(atomfs_close(&fs), ATOMFS_OK);
 }
 
+/* A tree by the limits of a version: what a name and a file have at most, and how its journal begins. */
+static void by_limits(uint8_t version, size_t name, uint64_t file, const char *opening) {
+    char path[100];
+    path[0] = '/';
+    memset(path + 1, 'n', sizeof path - 1);
+    IS(atomfs_open_with(&fs, 100, version), ATOMFS_OK);
+    IS(atomfs_open_with(&fs, 100, version), ATOMFS_ALREADY_OPEN);
+    IS(atomfs_seat(&fs, &seat), ATOMFS_OK);
+    IS(atomfs_opening(&fs, out, sizeof out, &count), ATOMFS_OK);
+    says(opening, __LINE__, out, count, opening, strlen(opening));
+    IS(atomfs_mknod(&fs, seat, path, 2 + name, &number), ATOMFS_BAD_PATH);
+    IS(atomfs_mknod(&fs, seat, path, 1 + name, &number), ATOMFS_OK);
+    IS(atomfs_write(&fs, seat, path, 1 + name, file - 1, "xy", 2, &wrote, &number), ATOMFS_FAILED + EFBIG_);
+    IS(atomfs_write(&fs, seat, path, 1 + name, file - 1, "x", 1, &wrote, &number), ATOMFS_OK);
+    IS(atomfs_truncate(&fs, seat, path, 1 + name, file + 1, &number), ATOMFS_FAILED + EFBIG_);
+    IS(atomfs_read(&fs, seat, path, 1 + name, file - 2, out, sizeof out, &count, &number), ATOMFS_OK);
+    SAYS(out, count, "\0x");
+    IS(atomfs_close(&fs), ATOMFS_OK);
+}
+
+static void both_limits(void) {
+    by_limits(ATOMFS_V1, 32, 65536, ATOMFS_JOURNAL_HEADER);
+    by_limits(ATOMFS_V2, 64, 1048576, "atomfs-journal 3\nstart\ndir /\nentries\n");
+    IS(atomfs_open_with(&fs, 100, 0), ATOMFS_BAD_VERSION);
+    IS(atomfs_open_with(&fs, 100, 3), ATOMFS_BAD_VERSION);
+    IS(atomfs_open_with(&fs, 0, ATOMFS_V2), ATOMFS_BAD_LIMIT);
+    IS(atomfs_open_with(&fs, ATOMFS_NODE_LIMIT + 1, ATOMFS_V2), ATOMFS_BAD_LIMIT);
+    IS(atomfs_open_with(NULL, 100, ATOMFS_V2), ATOMFS_NULL);
+    IS(atomfs_close(&fs), ATOMFS_CLOSED);
+}
+
 static void words(void) {
     IS(strcmp(atomfs_version(), ATOMFS_VERSION), 0);
     IS(strcmp(atomfs_errno_name(ATOMFS_FAILED + ENOENT_), "ENOENT"), 0);
@@ -479,6 +510,7 @@ int main(void) {
     texts();
     nulls();
     closed();
+    both_limits();
     words();
     puts("typed calls: as they are to be");
     return 0;

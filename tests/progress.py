@@ -1,0 +1,93 @@
+"""How far a long command is, told on a terminal: tests/data/progress has what stands there, with every number as N, and each text once where it is
+repeated. What is written to standard output is the same with a terminal and without one.
+"""
+import os
+import pty
+import re
+import subprocess
+import unittest
+
+from harness import DATA, MOST_SECONDS, Case, program, run
+
+PROGRESS = DATA / "progress"
+# A rename of what is not there, 60 names deep, which holds the root until it has found that out.
+DEEP = b"/a" * 60
+RENAME = b"rename %s/x /y\n" % DEEP
+
+
+def renames(threads, calls):
+    """A script whose first thread makes the directories, and in which each other thread has so many such renames."""
+    first = b"".join(b"mkdir %s\n" % DEEP[: 2 * depth] for depth in range(1, 61))
+    others = b"".join(b"thread t%d\n" % number + calls * RENAME for number in range(1, threads))
+    return b"atomfs 1\nthread t0\n" + first + others + b"schedule\nfinish\n"
+
+
+# Each takes longer than the quarter of a second after which something is shown first.
+SHORT = b"atomfs 1\nthread a\nmkdir /a\nschedule\nfinish\n"
+ROWS = (
+    ("run", renames(200, 100), ("run",)),
+    ("run_drawn", renames(200, 100), ("run", "--seed", "7")),
+    ("seeds", renames(4, 100), ("seeds", "--seed", "1", "--runs", "1000")),
+    ("threads", renames(5, 16_000), ("threads",)),
+)
+
+
+def on_terminal(given, *words):
+    """The status, standard output, and what stood on the terminal that standard error was."""
+    ours, theirs = pty.openpty()
+    with subprocess.Popen([program(), *words], stdin=subprocess.PIPE, stdout=subprocess.PIPE, stderr=theirs) as process:
+        os.close(theirs)
+        output, _ = process.communicate(given, timeout=MOST_SECONDS)
+        told = b""
+        while True:
+            try:
+                more = os.read(ours, 65_536)
+            except OSError:
+                break
+            if not more:
+                break
+            told += more
+    os.close(ours)
+    return process.returncode, output, told
+
+
+def shown(told):
+    """The texts of a line that is written anew, each once where it is repeated, with every number as N and without the spaces that fill it."""
+    texts = [re.sub(rb"\d+", b"N", text).rstrip() for text in told.split(b"\r")]
+    return b"".join(text + b"\n" for place, text in enumerate(texts) if place == 0 or text != texts[place - 1])
+
+
+def numbers(told):
+    """How much was done, as each text of the line says."""
+    return [int(done) for done in re.findall(rb"(\d+) of \d+ ", told)]
+
+
+class Progress(Case):
+    def test_terminal(self):
+        for name, given, words in ROWS:
+            with self.subTest(name):
+                status, output, told = on_terminal(given, *words)
+                silent = run(given, *words)
+                self.assertEqual((status, output), (silent.status, silent.output))
+                self.assertEqual(silent.message, b"")
+                self.assertEqual(shown(told).decode(), (PROGRESS / name).read_text())
+                done = numbers(told)
+                self.assertGreater(len(done), 1)
+                self.assertTrue(name == "threads" or done == sorted(done), done)
+                self.assertLessEqual(max(len(text) for text in told.split(b"\r")), 72)
+
+    def test_short(self):
+        """What ends at once tells nothing, nor does a command that is none of these."""
+        for words in (("run",), ("seeds", "--seed", "1", "--runs", "3"), ("threads",), ("trace",), ("draw",), ("schedule", "--robin")):
+            with self.subTest(words[0]):
+                self.assertEqual(on_terminal(SHORT, *words)[2], b"")
+
+    def test_fault(self):
+        """The message of a fault stands alone."""
+        status, output, told = on_terminal(b"atomfs 1\nthread t\nmkdir /a/\nschedule\n", "run")
+        self.assertEqual((status, output), (3, b""))
+        self.assertTrue(told.startswith(b"atomfs: line 3"), told)
+
+
+if __name__ == "__main__":
+    unittest.main()
