@@ -11,20 +11,23 @@ use Rattle.std.proofs.lemmas.Cmp.{tied_itself}
 use Rattle.fs_names.specs.declared.limits.TheConstants.{NODE_LIMIT}
 use Rattle.fs_plain.specs.declared.node.Content.{Content}
 use Rattle.fs_plain.specs.declared.node.Node.{Node}
-use Rattle.fs_nodes.specs.declared.place.Place.{Place}
+use Rattle.fs_places.specs.declared.place.Place.{Place}
 use Rattle.fs_graph.specs.Graphs.{then_at}
 use Rattle.fs_plain.specs.Stores.{link_of, is_in, is_above, names_above, graph_in, IsStore}
-use Rattle.fs_nodes.specs.Plains.{link_with, plain_with, plain, plains}
-use Rattle.fs_nodes.specs.code.Linked.{graph_of_places, next_child, IsPrev, IsBeside, IsIndexed, IsPlaces, IsPassed, IsLesser, names_past, rank, edited, with_ahead, pointed, may_leap}
+use Rattle.fs_places.specs.Plains.{link_with, plain_with, plain, plains}
+use Rattle.fs_places.specs.code.Edits.{edited}
+use Rattle.fs_nodes.specs.code.Linked.{graph_of_places, next_child, IsPrev, IsBeside, IsIndexed, IsPlaces, IsPassed, IsLesser, names_past, rank, with_ahead, pointed, may_leap}
 use Rattle.fs_nodes.specs.code.Frees.{is_free, IsLinked}
-use Rattle.fs_nodes.specs.code.Spots.{number_below}
+use Rattle.fs_places.specs.code.Spots.{number_below}
 use Rattle.fs_graph.proofs.NameLemmas.{Compared, Below, Same, Above, compare}
 use Rattle.fs_plain.proofs.AscentLemmas.{above_more, above_above, not_itself}
 use Rattle.fs_graph.proofs.EqualLemmas.{eqb_true, both_true}
 use Rattle.fs_nodes.proofs.OrderLemmas.{found_is_above}
 use Rattle.fs_plain.proofs.EditLemmas.{child_within}
-use Rattle.fs_nodes.proofs.StepLemmas.{link_of_place, child_place, entry_parts, dir_has, next_child_name, read_place, passed_smaller}
-use Rattle.fs_nodes.proofs.LinkLemmas.{get_edited, length_edited, plains_edited, child_name}
+use Rattle.fs_places.proofs.EditLemmas.{read_place}
+use Rattle.fs_nodes.proofs.StepLemmas.{link_of_place, child_place, entry_parts, dir_has, next_child_name, passed_smaller}
+use Rattle.fs_places.proofs.EditLemmas.{get_edited, length_edited, plains_edited}
+use Rattle.fs_nodes.proofs.LinkLemmas.{child_name}
 use Rattle.fs_nodes.proofs.FreeLemmas.{list_kept}
 use Rattle.fs_nodes.proofs.ReserveLemmas.{edited_read}
 

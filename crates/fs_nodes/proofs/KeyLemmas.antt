@@ -10,20 +10,22 @@ use Rattle.fs_plain.specs.declared.node.Content.{Content}
 use Rattle.fs_plain.specs.declared.node.Content.TheVariants as contents
 use Rattle.fs_plain.specs.declared.node.Link.{Link}
 use Rattle.fs_plain.specs.declared.node.Node.{Node}
-use Rattle.fs_nodes.specs.declared.place.Place.{Place}
-use Rattle.fs_nodes.specs.declared.key.Key.{Key}
+use Rattle.fs_places.specs.declared.place.Place.{Place}
+use Rattle.fs_places.specs.declared.key.Key.{Key}
 use Rattle.fs_nodes.specs.declared.index.Slot.{Slot}
 use Rattle.fs_graph.specs.Graphs.{then_at, IsUnlinked}
 use Rattle.fs_plain.specs.Stores.{content_of, link_of, link_at}
 use Rattle.fs_plain.specs.code.Edits.{relinked}
 use Rattle.fs_plain.proofs.EditLemmas.{place_within, child_within}
 use Rattle.fs_plain.proofs.PlaceLemmas.{child_link, read_within}
-use Rattle.fs_nodes.specs.Plains.{link_with, plain_with, plain, plains}
-use Rattle.fs_nodes.specs.code.Linked.{graph_of_places, IsPlaces, IsEntry, edited, put_between, taken_out, vacated, filled, with_content, content_with}
-use Rattle.fs_nodes.specs.code.Keys.{key_of, key_of_link, keys_of}
+use Rattle.fs_places.specs.Plains.{link_with, plain_with, plain, plains}
+use Rattle.fs_places.specs.code.Edits.{edited, vacated, filled, with_content, content_with}
+use Rattle.fs_nodes.specs.code.Linked.{graph_of_places, IsPlaces, IsEntry, put_between, taken_out}
+use Rattle.fs_places.specs.code.Keys.{key_of, key_of_link, keys_of}
 use Rattle.fs_nodes.specs.code.Indexes.{key_at, IsIndex, IsSome, HasEntry}
 use Rattle.fs_nodes.proofs.StepLemmas.{link_of_place, get_some}
-use Rattle.fs_nodes.proofs.LinkLemmas.{plains_put, plains_set, used_content}
+use Rattle.fs_places.proofs.EditLemmas.{plains_set}
+use Rattle.fs_nodes.proofs.LinkLemmas.{plains_put, used_content}
 use Rattle.fs_nodes.proofs.FreeLemmas.{used_place}
 use Rattle.fs_nodes.proofs.IndexLemmas.{grown}
 use Rattle.fs_nodes.proofs.UnlinkLemmas.{plains_taken}

@@ -1,5 +1,4 @@
 pub mod OrderLemmas
-pub mod HeadLemmas
 pub mod StepLemmas
 pub mod GapLemmas
 pub mod LinkLemmas

@@ -4,7 +4,7 @@ use Rattle.std.specs.Prelude.{IsTrue}
 use Rattle.fs_names.specs.Names.{Name, same_name, removed_name}
 use Rattle.fs_names.specs.Shapes.{Shape, Dir, names_of, is_there, is_dir}
 use Rattle.fs_names.proofs.Lemmas.{same_name_refl}
-use Rattle.fs_nodes.specs.declared.place.Place.{Place}
+use Rattle.fs_places.specs.declared.place.Place.{Place}
 use Rattle.fs_graph.specs.Graphs.{linked_in, unlinked_in, moved_in, IsReached}
 use Rattle.fs_plain.specs.Seen.{Seen}
 use Rattle.fs_nodes.specs.code.Linked.{graph_of_places, IsPlaces}

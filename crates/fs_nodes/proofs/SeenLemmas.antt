@@ -1,9 +1,9 @@
 -- What is seen of places with sibling links.
 use Rattle.std.proofs.Common.{◌≡◌, ℕ, ◌≤◌, List, length, Option, sym, ◌∙◌, subst}
 use Rattle.fs_names.specs.declared.limits.TheConstants.{NODE_LIMIT}
-use Rattle.fs_nodes.specs.declared.place.Place.{Place}
+use Rattle.fs_places.specs.declared.place.Place.{Place}
 use Rattle.fs_graph.specs.Graphs.{Graph}
-use Rattle.fs_nodes.specs.Plains.{plain, plains}
+use Rattle.fs_places.specs.Plains.{plain, plains}
 use Rattle.fs_nodes.specs.code.Linked.{graph_of_places}
 use Rattle.fs_nodes.specs.code.Frees.{IsLinked}
 use Rattle.std.proofs.lemmas.List.{length-map}

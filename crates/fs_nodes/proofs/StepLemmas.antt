@@ -14,16 +14,17 @@ use Rattle.fs_names.specs.declared.limits.TheConstants.{NODE_LIMIT}
 use Rattle.fs_plain.specs.declared.node.Content.{Content}
 use Rattle.fs_plain.specs.declared.node.Link.{Link}
 use Rattle.fs_plain.specs.declared.node.Node.{Node}
-use Rattle.fs_nodes.specs.declared.place.Place.{Place}
+use Rattle.fs_places.specs.declared.place.Place.{Place}
 use Rattle.fs_graph.specs.Graphs.{Graph, then_at}
 use Rattle.fs_plain.specs.Stores.{link_of, link_at, child_in, names_in, shape_in, is_above, names_above, next_entry, with_child, IsNextName}
-use Rattle.fs_nodes.specs.Plains.{link_with, plain_with, plain, plains}
+use Rattle.fs_places.specs.Plains.{link_with, plain_with, plain, plains}
 use Rattle.fs_nodes.specs.code.Linked.{graph_of_places, next_child, IsBefore, IsGap, IsBeside, IsPlaces, IsPassed, names_past, rank}
 use Rattle.fs_graph.proofs.NameLemmas.{Compared, Below, Same, Above, compare}
 use Rattle.fs_plain.proofs.PlaceLemmas.{child_link, names_child}
 use Rattle.fs_plain.proofs.EditLemmas.{names_shape, child_within, past_shape}
 use Rattle.fs_plain.specs.Seen.{Ascends}
 use Rattle.fs_plain.proofs.AscentLemmas.{names_ascend, next_names, no_names_above}
+use Rattle.fs_places.proofs.EditLemmas.{read_place}
 use Rattle.fs_nodes.proofs.OrderLemmas.{all_names, found_upto, found_has, names_length}
 
 -- the names of a directory ascend
@@ -106,10 +107,6 @@ passed ps dir x low places b far = go ((graph_of_places ps).child dir x) refl
         let h : has_name x (names_of ((graph_of_places ps).shape dir)) ≡ true = dir_has ps dir x places ∙ ap is_some e in
         let r : (y : Name) × (find (is_above low) (names_of ((graph_of_places ps).shape dir)) ≡ Some y) × ((y ≡ x) ⊎ (is_above (Some y) x ≡ true)) = found_upto None low x (names_of ((graph_of_places ps).shape dir)) (dir_ascends ps dir places) h b in
         absurd (far r.0 r.1 r.2)
-
--- the first place is read at its index
-pub read_place : (ps : List Place) (n : ℕ) (p : Place) → n < length ps → p ≡ get_or ps n p → slice_get ps n ≡ Some p
-read_place ps n p h v = slice_get_read ps _ n p refl h v
 
 -- a number below the limit, times the size of a place, is a word
 pub next_below : (ps : List Place) (dir : ℕ) (low : Option Name) (n : ℕ) → IsPlaces ps → next_child (graph_of_places ps) dir low ≡ Some n → n < NODE_LIMIT

@@ -7,19 +7,15 @@
 //! index, for tests alone.
 //!
 //! Enter at `Store`. Its clauses speak of graphs (`fs_graph`) and of what is seen of a store (`fs_plain`); `specs/` hands
-//! these on in `Graphs`, `Stores` and `Seen`, and has in `Plains` the plain store that a store is, by its places, which no
-//! crate above names. `specs/code/` serves the code, and changes no meaning: `Linked` says what the places of a store
-//! keep, `Frees` what its free places do, `Indexes` what the slots beside them keep, and `Keys` what these are asked for.
+//! these on in `Graphs`, `Stores` and `Seen`. Which plain store a store is, its places say (`fs_places`), which no crate
+//! above names. `specs/code/` serves the code, and changes no meaning: `Linked` says what the places of a store keep,
+//! `Frees` what its free places do, and `Indexes` what the slots beside them keep.
 #![tactic(auto)]
 
 mod index;
-mod key;
-mod label;
 pub mod number;
-mod place;
 pub mod plain;
 mod siblings;
-mod spot;
 pub mod store;
 mod stride;
 

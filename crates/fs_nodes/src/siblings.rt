@@ -4,21 +4,21 @@ ghost use Rattle.std.specs.Prelude.{◌≡◌, ◌≤◌, ◌<◌, ◌+◌, ◌-
 ghost use Rattle.std.specs.Option.{option_copied};
 ghost use Rattle.fs_names.specs.Shapes.{names_of};
 ghost use Rattle.fs_plain.specs.Stores.{link_of, is_in, next_entry, IsNextName, IsEntryAfter, IsNameAfter};
-ghost use Rattle.fs_nodes.specs.Plains.{plain, plains};
+ghost use Rattle.fs_places.specs.Plains.{plain, plains};
 ghost use Rattle.fs_graph.specs.Graphs.{IsUnlinked};
-ghost use Rattle.fs_nodes.specs.code.Heads.{IsHead};
-ghost use Rattle.fs_nodes.specs.code.Keys.{key_of, keys_of};
+ghost use Rattle.fs_places.specs.code.Heads.{IsHead};
+ghost use Rattle.fs_places.specs.code.Keys.{key_of, keys_of};
 ghost use Rattle.fs_nodes.specs.code.Indexes.{IsIndex};
-ghost use Rattle.fs_nodes.specs.code.Spots.{is_number, one_of};
-ghost use Rattle.fs_nodes.specs.code.Linked.{graph_of_places, next_child, IsPlaces, IsGap, IsNextSibling, IsEntry, IsLesser, IsGreater, may_leap, IsPassed, rank, edited, with_entries, entered, led, followed, pointed, put_between, taken_out};
+ghost use Rattle.fs_places.specs.code.Spots.{is_number, one_of};
+ghost use Rattle.fs_places.specs.code.Edits.{edited};
+ghost use Rattle.fs_nodes.specs.code.Linked.{graph_of_places, next_child, IsPlaces, IsGap, IsNextSibling, IsEntry, IsLesser, IsGreater, may_leap, IsPassed, rank, with_entries, entered, led, followed, pointed, put_between, taken_out};
 
 use crate::index::{Found, Slot, seek};
-use crate::key::Key;
-use crate::label::{Label, head, is_short};
-use crate::place::{Place, dir_of};
-use crate::spot::Spot;
 use crate::stride::Stride;
 use fs_names::{NODE_LIMIT, Name};
+use fs_places::label::{head, is_short};
+use fs_places::place::dir_of;
+use fs_places::{Key, Label, Place, Spot};
 use fs_plain::is_higher;
 use std::cmp::Ordering;
 

@@ -3,7 +3,7 @@
 ghost use Rattle.std.specs.Prelude.{◌≡◌};
 ghost use Rattle.fs_nodes.specs.code.Strides.{begun, stepped, mark_of};
 
-use crate::spot::Spot;
+use fs_places::Spot;
 
 /// After how many single steps a walk sets a way ahead.
 const STRIDE: u32 = 16;

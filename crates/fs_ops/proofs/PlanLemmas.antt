@@ -4,7 +4,7 @@ use Rattle.fs_names.specs.Keys.{Key, parent_of, last_of, after_prefix, has_more,
 use Rattle.fs_names.specs.Names.{Name}
 use Rattle.fs_names.specs.Parts.{left, common}
 use Rattle.fs_names.specs.Shapes.{Shape, Dir, File, is_full}
-use Rattle.fs_calls.specs.Forms.{Form, AtNode, AtEntry, AtPair, NodeCall, by_text, new_shape}
+use Rattle.fs_calls.specs.Forms.{Form, AtNode, AtEntry, AtPair, NodeCall, new_shape}
 use Rattle.fs_calls.specs.declared.target.EntryCall.{EntryCall}
 use Rattle.fs_calls.specs.declared.target.PairCall.{PairCall}
 use Rattle.fs_calls.specs.declared.target.PairCall.TheVariants as pairs

@@ -12,19 +12,19 @@ use Rattle.fs_names.proofs.Lemmas.{key_total}
 use Rattle.fs_calls.specs.Tree.{Node, Tree, look, inserted}
 use Rattle.fs_calls.specs.Sights.{tree_shapes, is_dir, is_full}
 use Rattle.fs_seq.specs.declared.rows.Row.{Row}
-use Rattle.fs_seq.specs.declared.nodes.Node.TheVariants as nodes
+use Rattle.fs_slab.specs.declared.nodes.Node.TheVariants as nodes
 use Rattle.fs_seq.specs.Rows.{key_of, may_have, node_of_kind, row_of, last_key, fits}
 use Rattle.fs_calls.proofs.KeyLemmas.{parent_of-snoc}
-use Rattle.fs_seq.specs.code.Slots.{Slots, Place, Dir, File, place_at, links_at, child, walk, links_of, shape_of, tree_of, IsForest, Sets}
-use Rattle.fs_seq.specs.code.Nodes.{place, number_of, name_of, IsNameAt, BelongsAt}
+use Rattle.fs_slab.specs.code.Slots.{Slots, Place, Dir, File, place_at, links_at, child, walk, links_of, shape_of, tree_of, IsForest, Sets}
+use Rattle.fs_slab.specs.code.Nodes.{place, number_of, name_of, IsNameAt, BelongsAt}
 use Rattle.fs_seq.specs.code.Added.{IsPlaceOf}
 use Rattle.fs_seq.specs.code.Effects.{tree_node, Attaches}
 use Rattle.fs_seq.proofs.GraphMade.{forest_made, tree_made}
 use Rattle.fs_seq.proofs.Made.{node_place}
-use Rattle.fs_seq.proofs.GraphLemmas.{sorted-tree_of}
-use Rattle.fs_seq.proofs.NodeLemmas.{links_got}
-use Rattle.fs_seq.proofs.Resolving.{walk_on, look_some, seen_at, seen_none}
-use Rattle.fs_seq.proofs.SearchLemmas.{both_first, both_second, is_less}
+use Rattle.fs_slab.proofs.GraphLemmas.{sorted-tree_of}
+use Rattle.fs_slab.proofs.NodeLemmas.{links_got}
+use Rattle.fs_slab.proofs.Resolving.{walk_on, look_some, seen_at, seen_none}
+use Rattle.fs_slab.proofs.SearchLemmas.{both_first, both_second, is_less}
 
 -- ---- a key above all others
 

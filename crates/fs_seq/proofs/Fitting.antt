@@ -23,7 +23,7 @@ use Rattle.fs_seq.specs.declared.rows.Row.{Row}
 use Rattle.fs_seq.specs.Rows.{key_of, row_of, node_of_kind, may_have, is_dirs, is_plain, is_first, last_key, fits, fits_at, misfit_from, misfit, IsWithinLimits}
 use Rattle.fs_seq.specs.Laws.{FittingRowsAreTrees}
 use Rattle.fs_seq.proofs.Appended.{AllBelow, above, all_below, look-above, inserted-last, not_below_root, in_order, first_holds, second_holds, both_hold}
-use Rattle.fs_seq.proofs.SearchLemmas.{both_first, both_second, is_less}
+use Rattle.fs_slab.proofs.SearchLemmas.{both_first, both_second, is_less}
 
 -- ---- names of a directory in a tree and its end
 

@@ -7,13 +7,13 @@ use Rattle.fs_names.specs.Names.{Name, name_cmp, same_name}
 use Rattle.fs_names.specs.Keys.{Key, same_key, after_prefix}
 use Rattle.fs_names.proofs.Lemmas.{name_total, after_prefix-append, after_prefix-exact}
 use Rattle.fs_calls.specs.Tree.{Node, look, inserted}
-use Rattle.fs_seq.specs.code.Slots.{Place, Dir, Slots, place_at, links_of, node_of, links_at, child, walk_from, walk, node_at, spelled, tree_of, IsForest, Sets}
+use Rattle.fs_slab.specs.code.Slots.{Place, Dir, Slots, place_at, links_of, node_of, links_at, child, walk_from, walk, node_at, spelled, tree_of, IsForest, Sets}
 use Rattle.fs_calls.proofs.LookLemmas.{same_key_exact, same_key_refl, look-inserted, sorted-inserted}
-use Rattle.fs_seq.proofs.GraphLemmas.{Once, Inside, look-tree_of, sorted-tree_of, is_tree_of}
-use Rattle.fs_seq.proofs.Edits.{Links, within, walk-linked, nat_same, nat_differ}
-use Rattle.fs_seq.proofs.Resolving.{spelled_at, spelled_none, walk_off, walk_below}
+use Rattle.fs_slab.proofs.GraphLemmas.{Once, Inside, look-tree_of, sorted-tree_of, is_tree_of}
+use Rattle.fs_slab.proofs.Edits.{Links, within, walk-linked, nat_same, nat_differ}
+use Rattle.fs_slab.proofs.Resolving.{spelled_at, spelled_none, walk_off, walk_below}
 use Rattle.fs_calls.proofs.ListLemmas.{true_T}
-use Rattle.fs_seq.proofs.NodeLemmas.{child_got}
+use Rattle.fs_slab.proofs.NodeLemmas.{child_got}
 
 -- what holds is true
 is_true : (b : Bool) → T b → b ≡ true

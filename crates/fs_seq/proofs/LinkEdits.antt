@@ -8,11 +8,11 @@ use Rattle.std.proofs.lemmas.Cmp.{tied_itself}
 use Rattle.std.proofs.lemmas.Float.{T_from_true}
 use Rattle.fs_names.specs.Names.{Name, name_cmp}
 use Rattle.fs_names.proofs.Lemmas.{name_total}
-use Rattle.fs_seq.specs.declared.nodes.Link.{Link}
-use Rattle.fs_seq.specs.code.Nodes.{pair, pairs, number_of, name_of, without, IsNameAt, BelongsAt}
+use Rattle.fs_slab.specs.declared.nodes.Link.{Link}
+use Rattle.fs_slab.specs.code.Nodes.{pair, pairs, number_of, name_of, without, IsNameAt, BelongsAt}
 use Rattle.fs_seq.proofs.Rewiring.{without-put}
-use Rattle.fs_seq.proofs.SearchLemmas.{both_first, both_second, is_less}
-use Rattle.fs_seq.proofs.SlabLemmas.{pairs-insert, pairs-remove}
+use Rattle.fs_slab.proofs.SearchLemmas.{both_first, both_second, is_less}
+use Rattle.fs_slab.proofs.SlabLemmas.{pairs-insert, pairs-remove}
 
 -- a link with a name has a number
 nowhere : (o : Option (Name × ℕ)) (x : Name) → name_of o ≡ Some x → number_of o ≡ None → ⊥

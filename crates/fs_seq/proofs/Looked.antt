@@ -1,8 +1,8 @@
 -- What the calls on one path answer, by what stands there.
 use Rattle.std.proofs.Common.{◌≡◌, ℕ, zero, suc, ◌<◌, ◌++◌, get_or, arith, List, [], ◌∷◌, length, take, map, Some, None, refl, sym, ap, ◌∙◌}
 use Rattle.fs_names.specs.Keys.{Key}
-use Rattle.fs_seq.specs.declared.nodes.Link.{Link}
-use Rattle.fs_seq.specs.code.Nodes.{pairs}
+use Rattle.fs_slab.specs.declared.nodes.Link.{Link}
+use Rattle.fs_slab.specs.code.Nodes.{pairs}
 use Rattle.fs_calls.specs.declared.call.Call.{Call}
 use Rattle.fs_calls.specs.declared.errno.Errno.{Errno}
 use Rattle.fs_calls.specs.declared.reply.Reply.TheVariants as replies
@@ -12,9 +12,9 @@ use Rattle.fs_calls.specs.Outcomes.{fault, success, reply, reply_of, replied, re
 use Rattle.fs_calls.specs.Forms.{NodeCall, AtNode, form, by_text}
 use Rattle.fs_names.specs.Failures.{or_else}
 use Rattle.fs_calls.specs.Rows.{node_fault, node_reply}
-use Rattle.fs_seq.specs.code.Slots.{Place, Dir, File, Slots, place_at, links_of, shape_of, walk, tree_of, IsForest}
+use Rattle.fs_slab.specs.code.Slots.{Place, Dir, File, Slots, place_at, links_of, shape_of, walk, tree_of, IsForest}
 use Rattle.fs_seq.specs.code.Effects.{IsFound, node_error}
-use Rattle.fs_seq.proofs.Resolving.{resolution_walked, seen_at}
+use Rattle.fs_slab.proofs.Resolving.{resolution_walked, seen_at}
 
 -- the first error of a call on a node whose path leads nowhere
 pub lost_error : (t : Tree) (c : NodeCall) (p : Key) (e : Errno) → resolution t p ≡ Some e → node_error t c p ≡ Some e

@@ -1,6 +1,8 @@
 -- What the calls that remove a node answer and leave.
-use Rattle.std.proofs.Common.{◌≡◌, ℕ, Ok, ◌<◌, List, [], ◌∷◌, length, map, nat_eq, true, false, ◌≢◌, arith, Some, None, Option, refl, sym, ap, subst, ◌∙◌}
+use Rattle.std.proofs.Common.{◌≡◌, ℕ, Ok, ◌<◌, [], ◌∷◌, length, false, Some, None, Option, refl, sym, ap, subst, ◌∙◌}
+use Rattle.std.specs.Prelude.{remove}
 use Rattle.std.specs.FinMap.{find}
+use Rattle.slab.specs.Slab.{Slab, Updates}
 use Rattle.fs_names.specs.Names.{Name, name_cmp}
 use Rattle.fs_names.specs.Keys.{Key, is_root, parent_of, last_of}
 use Rattle.fs_names.specs.Failures.{check, or_else, first_failure}
@@ -9,22 +11,22 @@ use Rattle.fs_calls.specs.declared.target.EntryCall.TheVariants as entries
 use Rattle.fs_calls.specs.declared.target.EntryCall.TheVariants.{Mkdir, Mknod}
 use Rattle.fs_calls.specs.Forms.{new_shape, root_error}
 use Rattle.fs_calls.specs.Rows.{entry_errors, entry_fault}
-use Rattle.std.proofs.lemmas.Bool.Decides.{nat_tests}
-use Rattle.fs_seq.specs.declared.nodes.Link.{Link}
-use Rattle.fs_seq.specs.declared.nodes.Spot.{Spot}
+use Rattle.fs_slab.specs.declared.nodes.Spot.{Spot}
 use Rattle.fs_calls.specs.declared.call.Call.{Call}
 use Rattle.fs_calls.specs.declared.call.Call.TheVariants.{Unlink, Rmdir}
 use Rattle.fs_calls.specs.declared.errno.Errno.{Errno}
 use Rattle.fs_calls.specs.declared.errno.Errno.TheVariants.{Eperm, Ebusy}
 use Rattle.fs_calls.specs.declared.reply.Reply.TheVariants.{Done, Failed}
 use Rattle.fs_calls.specs.Tree.{Tree, removed}
-use Rattle.fs_calls.specs.Sights.{Shape, tree_shapes, has_any}
+use Rattle.fs_slab.specs.declared.nodes.Node.{Node}
+use Rattle.fs_calls.specs.Sights.{Shape, tree_shapes}
 use Rattle.fs_calls.proofs.RowNames.{unlinking, removing}
 use Rattle.fs_calls.specs.Outcomes.{fault, success, change, parents_resolution}
-use Rattle.fs_seq.specs.code.Slots.{Place, Dir, File, Slots, links_at, links_of, shape_of, child, tree_of, IsForest, Sets}
-use Rattle.fs_seq.specs.code.Nodes.{pairs, LooksUp, shape_there, without}
+use Rattle.fs_slab.specs.code.Slots.{Place, Dir, File, Slots, links_at, links_of, shape_of, child, tree_of, IsForest, Sets}
+use Rattle.fs_slab.specs.code.Nodes.{graph, LooksUp, shape_there, without}
 use Rattle.fs_seq.specs.code.Effects.{IsVictim, Detaches, Answers, HasFault, call_on}
-use Rattle.fs_seq.proofs.NodeLemmas.{parent_and_last, child_got}
+use Rattle.fs_slab.proofs.NodeLemmas.{parent_and_last, child_got}
+use Rattle.fs_slab.proofs.SlabLemmas.{sets_slot}
 use Rattle.fs_seq.proofs.Spots.{not_root, root, spot_parents, spot_seen}
 use Rattle.fs_seq.proofs.GraphCut.{forest_cut, tree_cut}
 use Rattle.fs_seq.proofs.Replies.{works, fails, answers, at_each}
@@ -63,22 +65,16 @@ entry_leaf c (Some (Dir [])) h e = refl
 entry_leaf entries.Unlink (Some (Dir (l ∷ links))) h e = absurd (cc)
 entry_leaf entries.Rmdir (Some (Dir (l ∷ links))) h e = absurd (cc)
 
--- links of which there are none
-pub no_links : (links : List Link) (n : ℕ) → n ≡ length links → nat_eq n 0 ≡ true → links ≡ []
-no_links [] n e h = refl
-no_links (l ∷ links) n e h = absurd (let none : n ≡ 0 = grind (arith, nat_tests) in omega arith)
-
--- links of which there are some
-pub some_links : (links : List Link) (n : ℕ) → n ≡ length links → nat_eq n 0 ≡ false → has_any (map (λ l. l.0) (pairs links)) ≡ true
-some_links [] n e h = absurd (let some : n ≢ 0 = grind (arith, nat_tests) in some e)
-some_links (l ∷ links) n e h = refl
-
 -- what such a call meets without an error is a node
 pub entry_met : (c : EntryCall) → new_shape c ≡ None → first_failure (entry_errors c false None) ≡ None → ⊥
 entry_met Mkdir h e = absurd (cc)
 entry_met Mknod h e = absurd (cc)
 entry_met entries.Unlink h e = absurd (cc)
 entry_met entries.Rmdir h e = absurd (cc)
+
+-- an entry and then its node are removed
+pub detaches : (s0 s1 s2 : Slab Node) (dir i n : ℕ) → Sets (graph s0) (graph s1) dir (Some (Dir (remove (links_at (graph s0) dir) i))) → Updates s1 s2 n None → Detaches (graph s0) (graph s2) dir i n
+detaches s0 s1 s2 dir i n unlinking removing = record { between = graph s1; unlinking = unlinking; removing = sets_slot s1 s2 n None removing }
 
 module _ (call : Call) (p : Key) (at_root : Errno) (rest : Option Errno → Option Shape → Option Errno) (by : GoesBy call p at_root rest) where
   -- the error at the root

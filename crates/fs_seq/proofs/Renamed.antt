@@ -9,11 +9,11 @@ use Rattle.fs_calls.specs.Sights.{is_missing}
 use Rattle.fs_calls.specs.Forms.{AtPair, by_text}
 use Rattle.fs_calls.specs.declared.target.PairCall.TheVariants as pairs
 use Rattle.fs_calls.specs.Outcomes.{change}
-use Rattle.fs_seq.specs.code.Slots.{Dir, Slots, place_at, node_of, links_of, links_at, walk, node_at, tree_of, IsForest, Sets}
-use Rattle.fs_seq.specs.code.Nodes.{without, IsNameAt, IsTaken, IsFree, IsAt}
+use Rattle.fs_slab.specs.code.Slots.{Dir, Slots, place_at, node_of, links_of, links_at, walk, node_at, tree_of, IsForest, Sets}
+use Rattle.fs_slab.specs.code.Nodes.{without, IsNameAt, IsTaken, IsFree, IsAt}
 use Rattle.fs_seq.specs.code.Effects.{Answers, HasFault, NeedsMemory}
 use Rattle.fs_seq.specs.code.Renaming.{Moves, Plans, Displaces, Transfers}
-use Rattle.fs_seq.specs.declared.nodes.Entry.{Entry}
+use Rattle.fs_slab.specs.declared.nodes.Entry.{Entry}
 use Rattle.fs_seq.specs.declared.rename.Plan.{Plan}
 use Rattle.fs_seq.specs.declared.rename.Plan.TheVariants.{Stay, Onto, Within, Across}
 use Rattle.fs_calls.specs.declared.call.Call.TheVariants.{Rename}
@@ -21,7 +21,7 @@ use Rattle.fs_calls.specs.declared.reply.Reply.TheVariants.{Done, Failed}
 use Rattle.fs_calls.specs.declared.errno.Errno.{Errno}
 use Rattle.fs_calls.specs.Sights.{is_same}
 use Rattle.fs_calls.proofs.KeyLemmas.{never_same, is_same_refl}
-use Rattle.fs_seq.proofs.Resolving.{seen_none}
+use Rattle.fs_slab.proofs.Resolving.{seen_none}
 use Rattle.fs_calls.proofs.FaultLemmas.{Renames, by_text_none, rename_renames}
 use Rattle.fs_seq.proofs.ForestTrees.{forest_tree}
 use Rattle.fs_seq.proofs.Rewiring.{Crosses, Turns, Rewires, which, crossed, turned_in, renamed_free, renamed_onto, find-without, rising-without, other_last}

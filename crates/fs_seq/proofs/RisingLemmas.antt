@@ -10,7 +10,7 @@ use Rattle.fs_names.specs.Names.{Name, name_cmp}
 use Rattle.fs_names.specs.Keys.{Key, key_cmp}
 use Rattle.fs_names.proofs.Lemmas.{name_total}
 use Rattle.fs_calls.specs.Tree.{Node, from_list}
-use Rattle.fs_seq.specs.code.Slots.{Slots, links_at, spelled, keys_from, with_node, nodes_at, tree_of, IsForest}
+use Rattle.fs_slab.specs.code.Slots.{Slots, links_at, spelled, keys_from, with_node, nodes_at, tree_of, IsForest}
 use Rattle.fs_calls.proofs.LookLemmas.{look-from_list, look-find, sorted-from_list, same_tree}
 
 -- a key is below all of some, and each of some below all that follow it

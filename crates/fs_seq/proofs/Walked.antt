@@ -12,17 +12,17 @@ use Rattle.fs_names.specs.Keys.{Key}
 use Rattle.fs_names.proofs.Lemmas.{same_name_exact, same_name_refl}
 use Rattle.fs_calls.specs.Tree.{Node}
 use Rattle.fs_calls.proofs.ListLemmas.{true_T}
-use Rattle.fs_seq.specs.declared.nodes.Node.TheVariants as nodes
+use Rattle.fs_slab.specs.declared.nodes.Node.TheVariants as nodes
 use Rattle.fs_seq.specs.declared.rows.Row.{Row}
 use Rattle.fs_seq.specs.Rows.{row_of}
-use Rattle.fs_seq.specs.code.Nodes.{graph, place}
-use Rattle.fs_seq.specs.code.Slots.{Slots, links_of, node_of, links_at, walk, node_at, keys_from, with_node, nodes_at, tree_of, IsForest}
+use Rattle.fs_slab.specs.code.Nodes.{graph, place}
+use Rattle.fs_slab.specs.code.Slots.{Slots, links_of, node_of, links_at, walk, node_at, keys_from, with_node, nodes_at, tree_of, IsForest}
 use Rattle.fs_seq.specs.code.Walks.{entries_below, keys_at, pending}
-use Rattle.fs_seq.proofs.GraphLemmas.{shorter}
-use Rattle.fs_seq.proofs.NodeLemmas.{place_got, links_got}
-use Rattle.fs_seq.proofs.Resolving.{spelled_at, walk_on, child-find}
+use Rattle.fs_slab.proofs.GraphLemmas.{shorter}
+use Rattle.fs_slab.proofs.NodeLemmas.{place_got, links_got}
+use Rattle.fs_slab.proofs.Resolving.{spelled_at, walk_on, child-find}
 use Rattle.fs_seq.proofs.RisingLemmas.{walked_rows}
-use Rattle.fs_seq.proofs.SearchLemmas.{both_first, both_second, is_less}
+use Rattle.fs_slab.proofs.SearchLemmas.{both_first, both_second, is_less}
 
 -- ---- a node that is visited
 

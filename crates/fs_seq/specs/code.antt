@@ -1,6 +1,4 @@
 -- What ties the code to the definitions: of it nothing has to be believed.
-pub mod Slots
-pub mod Nodes
 pub mod Effects
 pub mod Renaming
 pub mod Exchanging

@@ -1,16 +1,16 @@
 //! The calls that make a node.
 
-ghost use Rattle.std.specs.Prelude.{◌≡◌, ◌≤◌, Some, None, [], length, IfOk, OnOk, OnErr, IsTrue};
+ghost use Rattle.std.specs.Prelude.{◌≡◌, ◌≤◌, Some, None, [], length, IfOk, OnOk, OnErr};
 ghost use Rattle.fs_calls.specs.Tree.{inserted};
-ghost use Rattle.fs_seq.specs.code.Nodes.{graph, place};
-ghost use Rattle.fs_seq.specs.code.Slots.{IsForest, place_at, links_at, links_of, tree_of, Dir as IsDir};
+ghost use Rattle.fs_slab.specs.code.Nodes.{graph, place};
+ghost use Rattle.fs_slab.specs.code.Slots.{IsForest, place_at, links_at, links_of, tree_of, Dir as IsDir};
 ghost use Rattle.fs_seq.specs.code.Effects.{Answers, Attaches, FindsGap, Gives, NeedsMemory, making_fault, tree_node};
 
-use crate::held_name::HeldName;
-use crate::nodes::{Link, Node, add_link, look_up};
 use fs_calls::path_errors::root_error;
 use fs_calls::{Call, EntryCall, Errno, Reply};
 use fs_names::{Name, Path};
+use fs_slab::nodes::{add_link, look_up};
+use fs_slab::{HeldName, Link, Node};
 use slab::Slab;
 use std::alloc::{AllocError, Global};
 

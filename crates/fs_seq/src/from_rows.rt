@@ -1,20 +1,20 @@
 //! The nodes of a tree, made of its entries.
 
-ghost use Rattle.std.specs.Prelude.{◌≡◌, ℕ, ◌++◌, ◌∷◌, [], Some, None, Ok, Err, true, false, IfOk, OnOk, MatchOption, IsTrue, map};
-ghost use Rattle.fs_names.specs.Keys.{is_root};
+ghost use Rattle.std.specs.Prelude.{◌≡◌, ℕ, ◌++◌, ◌∷◌, [], Some, None, Ok, Err, true, false, IfOk, OnOk, MatchOption, map};
 ghost use Rattle.fs_calls.specs.Tree.{root_tree};
-ghost use Rattle.fs_seq.specs.Rows.{fits, is_dirs, is_first, key_of, last_key, may_have, misfit, node_of_kind, row_of};
+ghost use Rattle.fs_seq.specs.Rows.{fits, is_first, key_of, last_key, may_have, misfit, node_of_kind, row_of};
 ghost use Rattle.fs_seq.specs.code.Added.{IsPlaceOf};
 ghost use Rattle.fs_seq.specs.code.Effects.{tree_node};
-ghost use Rattle.fs_seq.specs.code.Nodes.{graph, place};
-ghost use Rattle.fs_seq.specs.code.Slots.{IsForest, links_of, tree_of, walk};
+ghost use Rattle.fs_slab.specs.code.Nodes.{graph, place};
+ghost use Rattle.fs_slab.specs.code.Slots.{IsForest, links_of, tree_of, walk};
 
-use crate::copying::copied_bytes;
 use crate::create::attach;
-use crate::nodes::{Node, search, step};
 use crate::rows::Row;
 use fs_calls::ranges::{fits_size, is_full};
 use fs_names::{Kind, Name};
+use fs_slab::Node;
+use fs_slab::copying::copied_bytes;
+use fs_slab::nodes::{search, step};
 use slab::Slab;
 use std::alloc::{AllocError, Global};
 use std::cmp::Ordering;

@@ -8,17 +8,14 @@
 //!
 //! Enter at `SeqTree::new`, or at `SeqTree::with_limits` for either set of limits, and at `SeqTree::apply`. What a call
 //! replies and leaves is defined in `fs_calls`, whose types are handed on here. The modules are by calls: `queries` (stat,
-//! readdir, read), `create`, `remove`, `rename`, `exchange` and `write`, and by what is done to whole trees: `copying`,
-//! `rows` and `from_rows`, over the slab of `nodes`. `specs/code/` says how this slab is a tree, and changes no meaning.
+//! readdir, read), `create`, `remove`, `rename`, `exchange` and `write`, and by what is done to whole trees: `rows` and
+//! `from_rows`, over the slab of nodes of `fs_slab`. `specs/code/` serves the code, and changes no meaning.
 #![tactic(auto)]
 
-mod copying;
 mod create;
 mod exchange;
 pub mod from_rows;
-mod held_name;
 pub mod laws;
-mod nodes;
 mod queries;
 mod remove;
 mod rename;

@@ -1,17 +1,18 @@
 //! The calls that change nothing: what stands at a path.
 
-ghost use Rattle.std.specs.Prelude.{◌≡◌, ℕ, Some, MatchResult, IfOk, OnErr, IsTrue, map, take, drop};
+ghost use Rattle.std.specs.Prelude.{◌≡◌, ℕ, Some, MatchResult, IfOk, OnErr, IsTrue, map};
 ghost use Rattle.fs_calls.specs.Outcomes.{reply};
 ghost use Rattle.fs_calls.specs.Sights.{has_any};
 ghost use Rattle.fs_calls.specs.code.Targets.{node_call};
-ghost use Rattle.fs_seq.specs.code.Nodes.{graph, pairs, place};
-ghost use Rattle.fs_seq.specs.code.Slots.{IsForest, tree_of};
+ghost use Rattle.fs_slab.specs.code.Nodes.{graph, pairs, place};
+ghost use Rattle.fs_slab.specs.code.Slots.{IsForest, tree_of};
 ghost use Rattle.fs_seq.specs.code.Effects.{IsFound, NeedsMemory, node_error};
 
-use crate::nodes::{Link, Node, resolve};
 use fs_calls::ranges::part;
 use fs_calls::{Bytes, Call, Errno, NameList, NodeCall, Reply};
 use fs_names::{Kind, Path};
+use fs_slab::nodes::resolve;
+use fs_slab::{Link, Node};
 use slab::Slab;
 use std::alloc::{AllocError, Global};
 

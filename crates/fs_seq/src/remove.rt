@@ -2,14 +2,15 @@
 
 ghost use Rattle.std.specs.Prelude.{◌≡◌, ◌<◌, Some, None, length};
 ghost use Rattle.fs_calls.specs.Forms.{new_shape};
-ghost use Rattle.fs_seq.specs.code.Nodes.{graph};
-ghost use Rattle.fs_seq.specs.code.Slots.{IsForest, place_at, links_at, Dir as IsDir};
+ghost use Rattle.fs_slab.specs.code.Nodes.{graph};
+ghost use Rattle.fs_slab.specs.code.Slots.{IsForest, place_at, links_at, Dir as IsDir};
 ghost use Rattle.fs_seq.specs.code.Effects.{Answers, Detaches, call_on};
 
-use crate::nodes::{Node, Spot, look_up, remove_link};
 use fs_calls::path_errors::root_error;
 use fs_calls::{Call, EntryCall, Reply};
 use fs_names::Path;
+use fs_slab::nodes::{look_up, remove_link};
+use fs_slab::{Node, Spot};
 use slab::Slab;
 
 /// Takes the entry at a place out of a directory, and its node, whose number is free from then on.

@@ -1,24 +1,23 @@
 //! Renames: the entry of a node moves, and the node that stood at its new place goes.
 
-ghost use Rattle.std.specs.Prelude.{◌≡◌, ◌≢◌, ◌<◌, ◌≤◌, ℕ, Bool, Option, None, Some, IsTrue, IsSome, IfOk, OnOk, OnErr, length, remove, slice_set};
+ghost use Rattle.std.specs.Prelude.{◌≡◌, ◌≢◌, ◌<◌, ◌≤◌, Option, None, Some, IsTrue, IsSome, IfOk, OnOk, OnErr, length, remove, slice_set};
 ghost use Rattle.std.specs.FinMap.{find, put, is_sorted};
 ghost use Rattle.fs_names.specs.Names.{name_cmp};
-ghost use Rattle.fs_seq.specs.code.Nodes.{pair, pairs, graph};
-ghost use Rattle.fs_seq.specs.code.Slots.{IsForest, Sets, place_at, links_at, shape_at, tree_of, Dir as IsDir};
+ghost use Rattle.fs_slab.specs.code.Nodes.{pair, pairs, graph};
+ghost use Rattle.fs_slab.specs.code.Slots.{IsForest, Sets, place_at, links_at, shape_at, tree_of, Dir as IsDir};
 ghost use Rattle.fs_calls.specs.Sights.{Shape};
-ghost use Rattle.fs_calls.specs.Forms.{form, by_text};
 ghost use Rattle.fs_calls.specs.Rows.{place_fault};
 ghost use Rattle.fs_calls.specs.code.Seen.{sight};
 ghost use Rattle.fs_seq.specs.code.Renaming.{Plans, Displaces, Transfers};
 ghost use Rattle.fs_seq.specs.code.Effects.{Answers, NeedsMemory};
 ghost use Rattle.slab.specs.Slab.{ContainsKey};
 
-use crate::held_name::HeldName;
-use crate::nodes::{Entry, Link, Node, Spot, add_link, look_up, remove_link, search, sight_of};
 use fs_calls::ranges::is_full;
 use fs_calls::rows::PairSight;
 use fs_calls::{Call, Errno, PairCall, Reply, Sight, rename_error};
 use fs_names::{Name, Path};
+use fs_slab::nodes::{add_link, look_up, remove_link, search, sight_of};
+use fs_slab::{Entry, HeldName, Link, Node, Spot};
 use slab::Slab;
 use std::alloc::{AllocError, Global};
 

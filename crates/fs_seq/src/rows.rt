@@ -3,13 +3,13 @@
 ghost use Rattle.std.specs.Prelude.{◌≡◌, ◌++◌, ◌∷◌, [], Some, IfOk, OnOk, map, reverse};
 ghost use Rattle.slab.specs.Slab.{ContainsKey};
 ghost use Rattle.fs_seq.specs.Rows.{row_of};
-ghost use Rattle.fs_seq.specs.code.Nodes.{graph, pairs, place};
-ghost use Rattle.fs_seq.specs.code.Slots.{IsForest, node_at, node_of, with_node, links_at, tree_of};
+ghost use Rattle.fs_slab.specs.code.Nodes.{graph, pairs, place};
+ghost use Rattle.fs_slab.specs.code.Slots.{IsForest, node_at, node_of, with_node, links_at, tree_of};
 ghost use Rattle.fs_seq.specs.code.Walks.{entries_below};
 
-use crate::copying::copied_bytes;
-use crate::nodes::{Link, Node};
 use fs_names::{Kind, Name};
+use fs_slab::copying::copied_bytes;
+use fs_slab::{Link, Node};
 use slab::Slab;
 use std::alloc::{AllocError, Global};
 use std::marker::Model;

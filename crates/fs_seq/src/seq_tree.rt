@@ -9,11 +9,11 @@ ghost use Rattle.fs_seq.specs.Looks.{is_look};
 ghost use Rattle.fs_seq.specs.Rows.{misfit, row_of};
 
 use crate::from_rows::{self, NotTree};
-use crate::nodes::Node;
 use crate::rows::{self, Row};
-use crate::{copying, create, exchange, queries, remove, rename, write};
+use crate::{create, exchange, queries, remove, rename, write};
 use fs_calls::{Bytes, Call, Reply};
 use fs_names::{Limits, Path};
+use fs_slab::{Node, copying};
 use slab::Slab;
 use std::alloc::{AllocError, Global};
 use std::marker::Model;
@@ -30,8 +30,8 @@ impl Model for SeqTree {
 
     ghost Value = { Start };
 
-    ghost use Rattle.fs_seq.specs.code.Nodes.{graph};
-    ghost use Rattle.fs_seq.specs.code.Slots.{tree_of, IsForest};
+    ghost use Rattle.fs_slab.specs.code.Nodes.{graph};
+    ghost use Rattle.fs_slab.specs.code.Slots.{tree_of, IsForest};
 
     ghost view = { λ s. record { limits = s.limits; tree = tree_of (graph s.nodes) } };
 

@@ -1,18 +1,19 @@
 //! The calls that change the bytes of a file.
 
-ghost use Rattle.std.specs.Prelude.{◌≡◌, ◌<◌, ◌+◌, ◌++◌, ◌-◌, ◌^◌, take, drop, replicate, IfOk, OnOk, OnErr, IsTrue, length, nat_lt, None, Some, ◌&&◌};
+ghost use Rattle.std.specs.Prelude.{◌≡◌, ◌<◌, ◌+◌, ◌++◌, ◌-◌, ◌^◌, replicate, IfOk, OnOk, OnErr, IsTrue, length, nat_lt, None, Some, ◌&&◌};
 ghost use Rattle.fs_calls.specs.Rows.{node_fault, written, resized};
 ghost use Rattle.fs_calls.specs.Sights.{has_any, bytes_of};
 ghost use Rattle.fs_calls.specs.Forms as calls;
 ghost use Rattle.fs_seq.specs.Memory.{needs_memory};
-ghost use Rattle.fs_seq.specs.code.Nodes.{graph, place};
-ghost use Rattle.fs_seq.specs.code.Slots.{IsForest, shape_of, tree_of};
+ghost use Rattle.fs_slab.specs.code.Nodes.{graph, place};
+ghost use Rattle.fs_slab.specs.code.Slots.{IsForest, shape_of, tree_of};
 ghost use Rattle.fs_seq.specs.code.Effects.{AnswersWithin, Rewrites, written_if_any};
 
-use crate::nodes::{Node, resolve};
 use fs_calls::ranges::put;
 use fs_calls::{Bytes, Call, NodeCall, Reply};
 use fs_names::Path;
+use fs_slab::Node;
+use fs_slab::nodes::resolve;
 use slab::Slab;
 use std::alloc::AllocError;
 

@@ -1,5 +1,5 @@
 -- Names of a kind: where the start tree and the calls that began have only such names, the replies of a lawful timeline tell no others.
-use Rattle.std.proofs.Common.{◌≡◌, ℕ, ◌==◌, Bool, true, false, cond, List, [], ◌∷◌, ◌++◌, map, filter, Option, Some, None, refl, sym, ap, subst, ◌∙◌}
+use Rattle.std.proofs.Common.{◌≡◌, ℕ, ◌==◌, Bool, true, false, cond, List, [], ◌∷◌, ◌++◌, map, filter, Option, Some, None, refl, subst}
 use Rattle.std.specs.List.{AllByRecursion}
 use Rattle.std.specs.FinMap.{put}
 use Rattle.std.specs.FinMap.Entries.{by_order}
@@ -19,7 +19,7 @@ use Rattle.fs_calls.specs.declared.call.Call.TheVariants.{Mkdir, Mknod, Unlink, 
 use Rattle.fs_calls.specs.declared.reply.Reply.{Reply}
 use Rattle.fs_calls.specs.declared.reply.Reply.TheVariants as answer
 use Rattle.fs_calls.specs.declared.errno.Errno.{Errno}
-use Rattle.fs_timeline.specs.Timeline.{is_commit, begun_as, call_of, with_call, commits_of, commits, before_commit, reply_after, due, IsAnswered, Each, IsLawful}
+use Rattle.fs_timeline.specs.Timeline.{is_commit, call_of, with_call, commits_of, commits, before_commit, reply_after, due, IsAnswered, Each, IsLawful}
 use Rattle.fs_timeline.specs.declared.entry.Entry.{Entry}
 use Rattle.fs_timeline.specs.declared.entry.Entry.TheVariants.{Begin, Commit, Return}
 

@@ -1,16 +1,15 @@
 -- What the places of a store with sibling links say, and what they keep.
-use Rattle.std.specs.Prelude.{ℕ, Bool, true, zero, suc, ◌≡◌, ◌+◌, ◌-◌, ◌&&◌, not, List, [], ◌∷◌, Option, Some, None, length, slice_get}
+use Rattle.std.specs.Prelude.{ℕ, Bool, true, suc, ◌≡◌, ◌+◌, ◌-◌, ◌&&◌, not, List, Option, Some, None, length, slice_get}
 use Rattle.std.specs.List.{find}
 use Rattle.std.specs.Ordering.{is_gt}
 use Rattle.fs_names.specs.Names.{Name, name_cmp}
 use Rattle.fs_names.specs.Shapes.{names_of}
 use Rattle.fs_names.specs.declared.limits.TheConstants.{NODE_LIMIT}
-use Rattle.fs_plain.specs.declared.node.Content.{Content}
 use Rattle.fs_plain.specs.declared.node.Link.{Link}
-use Rattle.fs_nodes.specs.declared.place.Place.{Place}
-use Rattle.fs_plain.specs.code.Edits.{refilled, given_back}
+use Rattle.fs_places.specs.declared.place.Place.{Place}
 use Rattle.fs_graph.specs.Graphs.{Graph, then_at}
-use Rattle.fs_nodes.specs.Plains.{plain, plains}
+use Rattle.fs_places.specs.code.Edits.{edited}
+use Rattle.fs_places.specs.Plains.{plain, plains}
 use Rattle.fs_plain.specs.Stores.{link_of, is_in, graph_in, is_above, names_above, IsStore}
 
 -- the graph that places are
@@ -67,12 +66,6 @@ pub record IsPlaces (ps : List Place) : Type 0 where
   pub store : IsStore NODE_LIMIT (plains ps)
   pub each : (n : ℕ) (p : Place) → slice_get ps n ≡ Some p → IsIndexed (graph_of_places ps) n p
 
--- one place is changed
-abbrev pub edited : ℕ → (Place → Place) → List Place → List Place
-edited n f [] = []
-edited zero f (p ∷ ps) = f p ∷ ps
-edited (suc n) f (p ∷ ps) = p ∷ edited n f ps
-
 -- the first entry is another one from now on
 abbrev pub with_first : Option ℕ → Place → Place
 with_first to p = record p { first = to }
@@ -110,28 +103,6 @@ put_between dir n name prev next ps = edited n (entered (Some dir) name prev nex
 -- a node leaves its place between two siblings
 abbrev pub taken_out : ℕ → ℕ → Option ℕ → Option ℕ → List Place → List Place
 taken_out dir n prev next ps = edited n (λ p. entered None p.name None None p) (followed next prev (led dir prev next (edited dir (λ p. with_entries (p.entries - 1) p) ps)))
-
--- a place becomes free, and leads to the next free one
-abbrev pub vacated : Option ℕ → Place → Place
-vacated next p = record p { content = None; next = next }
-
--- a free place gets a node
-abbrev pub filled : Content → Place → Place
-filled content p = record p { content = Some content; parent = None; next = None; prev = None }
-
--- a file has these bytes from now on
-abbrev pub content_with : List ℕ → Option Content → Option Content
-content_with bytes None = None
-content_with bytes (Some content) = Some (refilled content bytes)
-
--- what comes back for them: the old bytes, or the given ones where there is no content
-abbrev pub content_old : List ℕ → Option Content → List ℕ
-content_old bytes None = bytes
-content_old bytes (Some content) = given_back content bytes
-
--- the file of a place has these bytes from now on
-abbrev pub with_content : List ℕ → Place → Place
-with_content bytes p = record p { content = content_with bytes p.content }
 
 -- the way ahead is another one
 abbrev pub with_ahead : Option ℕ → Place → Place

@@ -4,8 +4,8 @@ use Rattle.fs_names.specs.Names.{Name}
 use Rattle.fs_names.specs.Keys.{Key}
 use Rattle.fs_seq.specs.declared.rows.Row.{Row}
 use Rattle.fs_seq.specs.Rows.{key_of, fits}
-use Rattle.fs_seq.specs.code.Slots.{Slots, Dir, place_at, links_at, walk, tree_of}
-use Rattle.fs_seq.specs.code.Nodes.{BelongsAt}
+use Rattle.fs_slab.specs.code.Slots.{Slots, Dir, place_at, links_at, walk, tree_of}
+use Rattle.fs_slab.specs.code.Nodes.{BelongsAt}
 
 -- a row fits, and this is its directory, the place among the entries there and its name
 pub record IsPlaceOf (most : ℕ) (g : Slots) (row : Row) (dir i : ℕ) (x : Name) : Type 0 where

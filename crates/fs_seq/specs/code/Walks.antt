@@ -3,7 +3,7 @@ use Rattle.std.specs.Prelude.{ℕ, ◌-◌, List, [], ◌∷◌, ◌++◌, map, 
 use Rattle.std.specs.List.{flat_map}
 use Rattle.fs_names.specs.Names.{Name}
 use Rattle.fs_names.specs.Keys.{Key}
-use Rattle.fs_seq.specs.code.Slots.{Slots, keys_from}
+use Rattle.fs_slab.specs.code.Slots.{Slots, keys_from}
 
 -- the entries of a directory with these links, by their keys and numbers
 abbrev pub entries_below : Key → List (Name × ℕ) → List (Key × ℕ)

@@ -1,7 +1,8 @@
 use Rattle.std.proofs.Common.{sym, ap, get_or, Option, ℕ, ◌∙◌}
-use Rattle.fs_nodes.specs.declared.place.Place.{Place}
-use Rattle.fs_nodes.specs.code.Linked.{entered, edited}
-use Rattle.fs_nodes.proofs.LinkLemmas.{set_edited}
+use Rattle.fs_places.specs.declared.place.Place.{Place}
+use Rattle.fs_places.specs.code.Edits.{edited}
+use Rattle.fs_nodes.specs.code.Linked.{entered}
+use Rattle.fs_places.proofs.EditLemmas.{set_edited}
 use Rattle.fs_nodes.proofs.siblings.leave.Goals as goal
 
 pub returns : goal.returns

@@ -1,6 +1,6 @@
 use Rattle.std.proofs.Common.{◌∙◌, sym, ap, get_or, Option, ℕ}
 use Rattle.fs_nodes.specs.code.Linked.{with_ahead, pointed}
-use Rattle.fs_nodes.proofs.LinkLemmas.{set_edited}
+use Rattle.fs_places.proofs.EditLemmas.{set_edited}
 use Rattle.fs_nodes.proofs.AheadLemmas.{below_read, pointed_past}
 use Rattle.fs_nodes.proofs.siblings.set_ahead.Goals as goal
 

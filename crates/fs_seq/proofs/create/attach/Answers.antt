@@ -1,7 +1,7 @@
 use Rattle.std.proofs.Common.{ap, sym, subst, ◌∙◌, Some}
 use Rattle.slab.specs.Slab.{Updates}
-use Rattle.fs_seq.specs.code.Nodes.{graph}
-use Rattle.fs_seq.proofs.SlabLemmas.{attaches}
+use Rattle.fs_slab.specs.code.Nodes.{graph}
+use Rattle.fs_seq.proofs.Made.{attaches}
 use Rattle.fs_seq.proofs.create.attach.Goals as goal
 
 pub returns-clause-ok : goal.returns-clause-ok

@@ -2,8 +2,8 @@ use Rattle.std.proofs.Common.{◌<◌, length, Some, subst, sym, ap, ◌∙◌, 
 use Rattle.fs_names.specs.Failures.{first_failure}
 use Rattle.fs_calls.specs.declared.target.EntryCall.TheVariants.{Mkdir}
 use Rattle.fs_calls.specs.Rows.{entry_errors}
-use Rattle.fs_seq.specs.code.Nodes.{graph, shape_there}
-use Rattle.fs_seq.specs.code.Slots.{tree_of}
+use Rattle.fs_slab.specs.code.Nodes.{graph, shape_there}
+use Rattle.fs_slab.specs.code.Slots.{tree_of}
 use Rattle.fs_seq.specs.code.Effects.{IsGap}
 use Rattle.fs_seq.proofs.Spots.{making_root, making_lost, making_spot, gap_there, spot_kept}
 use Rattle.fs_seq.proofs.create.gap.Goals as goal

@@ -1,5 +1,5 @@
 use Rattle.std.proofs.Common.{◌≡◌, ◌+◌, ◌-◌, ◌<◌, length, arith}
-use Rattle.fs_seq.specs.code.Nodes.{graph}
+use Rattle.fs_slab.specs.code.Nodes.{graph}
 use Rattle.fs_seq.proofs.Made.{is_made}
 use Rattle.fs_seq.proofs.create.make.Goals as goal
 

@@ -1,7 +1,7 @@
 use Rattle.std.proofs.Common.{◌∙◌, refl, sym, ap}
 use Rattle.fs_calls.specs.Tree.{inserted, File}
-use Rattle.fs_seq.specs.code.Nodes.{graph}
-use Rattle.fs_seq.specs.code.Slots.{tree_of}
+use Rattle.fs_slab.specs.code.Nodes.{graph}
+use Rattle.fs_slab.specs.code.Slots.{tree_of}
 use Rattle.fs_seq.specs.code.Effects.{making_fault}
 use Rattle.fs_calls.specs.declared.call.Call.TheVariants.{Mknod}
 use Rattle.fs_seq.proofs.Made.{mknod_fault}

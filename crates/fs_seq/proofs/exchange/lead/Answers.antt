@@ -1,9 +1,9 @@
 use Rattle.std.proofs.Common.{◌≡◌, ◌<◌, ap, sym, subst, ◌∙◌, length, is_some, Some, slice_get, slice_set}
 use Rattle.fs_names.specs.Names.{Name}
-use Rattle.fs_seq.specs.code.Nodes.{pairs, place, name_of}
-use Rattle.fs_seq.specs.code.Slots.{Dir}
-use Rattle.fs_seq.proofs.NodeLemmas.{has_key, length-pairs, name_read}
-use Rattle.fs_seq.proofs.SlabLemmas.{sets_value, links_read, dir_not_file}
+use Rattle.fs_slab.specs.code.Nodes.{pairs, place, name_of}
+use Rattle.fs_slab.specs.code.Slots.{Dir}
+use Rattle.fs_slab.proofs.NodeLemmas.{has_key, length-pairs, name_read}
+use Rattle.fs_slab.proofs.SlabLemmas.{sets_value, links_read, dir_not_file}
 use Rattle.fs_seq.proofs.LinkEdits.{pairs-set}
 use Rattle.fs_seq.proofs.exchange.lead.Goals as goal
 

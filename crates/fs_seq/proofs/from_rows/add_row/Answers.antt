@@ -1,4 +1,4 @@
-use Rattle.fs_seq.specs.code.Nodes.{graph}
+use Rattle.fs_slab.specs.code.Nodes.{graph}
 use Rattle.fs_seq.proofs.Appended.{forest_added, tree_added}
 use Rattle.fs_seq.proofs.from_rows.add_row.Goals as goal
 

@@ -1,7 +1,7 @@
 use Rattle.std.proofs.Common.{◌≡◌, ◌+◌, map, take, drop}
 use Rattle.fs_seq.specs.Rows.{row_of, misfit_from, misfit}
-use Rattle.fs_seq.specs.code.Nodes.{graph}
-use Rattle.fs_seq.specs.code.Slots.{tree_of, IsForest}
+use Rattle.fs_slab.specs.code.Nodes.{graph}
+use Rattle.fs_slab.specs.code.Slots.{tree_of, IsForest}
 use Rattle.fs_seq.proofs.from_rows.add_rows.Given as goal
 
 -- the rows so far fit and are the tree, and the others decide

@@ -4,9 +4,9 @@ use Rattle.std.specs.FinMap.{find}
 use Rattle.fs_names.specs.Names.{name_cmp}
 use Rattle.fs_names.specs.Keys.{key_cmp}
 use Rattle.fs_seq.specs.Rows.{key_of, last_key}
-use Rattle.fs_seq.specs.code.Nodes.{graph, pairs}
-use Rattle.fs_seq.specs.code.Slots.{tree_of}
-use Rattle.fs_seq.proofs.NodeLemmas.{has_key, place_got, rising_got, child_got, length-pairs}
+use Rattle.fs_slab.specs.code.Nodes.{graph, pairs}
+use Rattle.fs_slab.specs.code.Slots.{tree_of}
+use Rattle.fs_slab.proofs.NodeLemmas.{has_key, place_got, rising_got, child_got, length-pairs}
 use Rattle.fs_seq.proofs.Appended.{fails_at_root, fails_lost, fails_in_file, fails_full, not_there, is_place, stands_to, less_by_index}
 use Rattle.fs_seq.proofs.from_rows.place_of.Goals as goal
 

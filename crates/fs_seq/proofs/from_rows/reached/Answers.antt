@@ -1,10 +1,10 @@
 use Rattle.std.proofs.Common.{◌≡◌, suc, Some, None, take, drop, slice_get, sym, ap, ◌∙◌, add-one}
 use Rattle.std.proofs.lemmas.List.{take-append-drop}
 use Rattle.std.proofs.lemmas.Option.{slice_get-get_or}
-use Rattle.fs_seq.specs.code.Nodes.{graph}
-use Rattle.fs_seq.specs.code.Slots.{walk}
-use Rattle.fs_seq.proofs.NodeLemmas.{has_key, take_snoc}
-use Rattle.fs_seq.proofs.Resolving.{walk_on, walk_off, walk_below}
+use Rattle.fs_slab.specs.code.Nodes.{graph}
+use Rattle.fs_slab.specs.code.Slots.{walk}
+use Rattle.fs_slab.proofs.NodeLemmas.{has_key, take_snoc}
+use Rattle.fs_slab.proofs.Resolving.{walk_on, walk_off, walk_below}
 use Rattle.fs_seq.proofs.from_rows.reached.Goals as goal
 
 pub step-requires-clause-there : goal.step-requires-clause-there

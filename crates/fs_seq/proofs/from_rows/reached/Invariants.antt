@@ -1,6 +1,6 @@
 use Rattle.std.proofs.Common.{◌≡◌, take, Some}
-use Rattle.fs_seq.specs.code.Nodes.{graph}
-use Rattle.fs_seq.specs.code.Slots.{walk}
+use Rattle.fs_slab.specs.code.Nodes.{graph}
+use Rattle.fs_slab.specs.code.Slots.{walk}
 use Rattle.fs_seq.proofs.from_rows.reached.Given as goal
 
 -- the names so far lead to the node

@@ -1,5 +1,5 @@
 use Rattle.std.proofs.Common.{◌≡◌, take, map}
-use Rattle.fs_seq.specs.code.Nodes.{pairs}
+use Rattle.fs_slab.specs.code.Nodes.{pairs}
 use Rattle.fs_seq.proofs.queries.names_of.Given as goal
 
 -- the names of the links so far

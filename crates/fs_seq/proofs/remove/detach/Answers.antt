@@ -1,4 +1,4 @@
-use Rattle.fs_seq.proofs.SlabLemmas.{detaches}
+use Rattle.fs_seq.proofs.Removed.{detaches}
 use Rattle.fs_seq.proofs.remove.detach.Goals as goal
 
 pub returns : goal.returns

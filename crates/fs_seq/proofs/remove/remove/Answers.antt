@@ -2,8 +2,8 @@ use Rattle.std.proofs.Common.{◌≡◌, ◌<◌, length, subst, sym, ap, ◌∙
 use Rattle.fs_names.specs.Failures.{first_failure}
 use Rattle.fs_calls.specs.Forms.{root_error}
 use Rattle.fs_calls.specs.Rows.{entry_errors, entry_fault}
-use Rattle.fs_seq.specs.code.Nodes.{graph, shape_there, LooksUp}
-use Rattle.fs_seq.specs.code.Slots.{tree_of, place_at, shape_of}
+use Rattle.fs_slab.specs.code.Nodes.{graph, shape_there, LooksUp}
+use Rattle.fs_slab.specs.code.Slots.{tree_of, place_at, shape_of}
 use Rattle.fs_seq.specs.code.Effects.{Answers, call_on}
 use Rattle.fs_seq.proofs.Spots.{spot_kept}
 use Rattle.fs_seq.proofs.Removed.{entry_goes, entry_leaf, entry_met, root_fault, parent_fault, spot_fault, refused, is_removed}

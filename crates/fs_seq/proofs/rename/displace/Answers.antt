@@ -1,6 +1,6 @@
-use Rattle.fs_seq.specs.code.Nodes.{graph}
-use Rattle.fs_seq.proofs.NodeLemmas.{has_key}
-use Rattle.fs_seq.proofs.SlabLemmas.{sets_slot}
+use Rattle.fs_slab.specs.code.Nodes.{graph}
+use Rattle.fs_slab.proofs.NodeLemmas.{has_key}
+use Rattle.fs_slab.proofs.SlabLemmas.{sets_slot}
 use Rattle.fs_seq.proofs.Rewiring.{still_placed}
 use Rattle.fs_seq.proofs.rename.displace.Goals as goal
 

@@ -1,8 +1,8 @@
 use Rattle.std.proofs.Common.{ap, ◌∙◌, subst}
 use Rattle.std.specs.FinMap.{find, is_sorted}
 use Rattle.fs_names.specs.Names.{name_cmp}
-use Rattle.fs_seq.specs.code.Nodes.{pairs, BelongsAt}
-use Rattle.fs_seq.proofs.SlabLemmas.{pairs-remove}
+use Rattle.fs_slab.specs.code.Nodes.{pairs, BelongsAt}
+use Rattle.fs_slab.proofs.SlabLemmas.{pairs-remove}
 use Rattle.fs_seq.proofs.LinkEdits.{not_in_place, replaced}
 use Rattle.fs_seq.proofs.rename.replace.Goals as goal
 

@@ -1,8 +1,8 @@
 use Rattle.std.proofs.Common.{◌<◌, ap, sym, subst, ◌∙◌, length, is_some, slice_set}
-use Rattle.fs_seq.specs.code.Nodes.{pair, place, graph}
-use Rattle.fs_seq.specs.code.Slots.{Dir, links_at}
-use Rattle.fs_seq.proofs.NodeLemmas.{has_key, length-pairs}
-use Rattle.fs_seq.proofs.SlabLemmas.{sets_value, links_read, dir_not_file}
+use Rattle.fs_slab.specs.code.Nodes.{pair, place, graph}
+use Rattle.fs_slab.specs.code.Slots.{Dir, links_at}
+use Rattle.fs_slab.proofs.NodeLemmas.{has_key, length-pairs}
+use Rattle.fs_slab.proofs.SlabLemmas.{sets_value, links_read, dir_not_file}
 use Rattle.fs_seq.proofs.LinkEdits.{pairs-set}
 use Rattle.fs_seq.proofs.rename.set_link.Goals as goal
 

@@ -1,5 +1,5 @@
 use Rattle.std.proofs.Common.{◌≡◌, ◌++◌, drop, reverse}
-use Rattle.fs_seq.specs.code.Nodes.{pairs}
+use Rattle.fs_slab.specs.code.Nodes.{pairs}
 use Rattle.fs_seq.specs.code.Walks.{entries_below}
 use Rattle.fs_seq.proofs.rows.push_entries.Given as goal
 

@@ -1,7 +1,7 @@
 use Rattle.std.proofs.Common.{◌≡◌, ℕ, List, [], ◌∷◌, ◌++◌, refl, sym, ap, ◌∙◌}
 use Rattle.fs_names.specs.Keys.{Key}
-use Rattle.fs_seq.specs.code.Nodes.{graph}
-use Rattle.fs_seq.proofs.NodeLemmas.{has_key}
+use Rattle.fs_slab.specs.code.Nodes.{graph}
+use Rattle.fs_slab.proofs.NodeLemmas.{has_key}
 use Rattle.fs_seq.proofs.Walked.{leads_first, rows_first, walked_to, leads_next, fewer_next, rows_next, rows_last}
 use Rattle.fs_seq.proofs.rows.rows.Goals as goal
 

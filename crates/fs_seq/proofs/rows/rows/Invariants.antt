@@ -1,7 +1,7 @@
 use Rattle.std.proofs.Common.{◌≡◌, ◌++◌, length, map}
 use Rattle.fs_seq.specs.Rows.{row_of}
-use Rattle.fs_seq.specs.code.Nodes.{graph}
-use Rattle.fs_seq.specs.code.Slots.{keys_from, nodes_at}
+use Rattle.fs_slab.specs.code.Nodes.{graph}
+use Rattle.fs_slab.specs.code.Slots.{keys_from, nodes_at}
 use Rattle.fs_seq.specs.code.Walks.{pending}
 use Rattle.fs_seq.proofs.Walked.{Leads}
 use Rattle.fs_seq.proofs.rows.rows.Given as goal

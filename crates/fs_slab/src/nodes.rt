@@ -1,0 +1,240 @@
+//! Nodes in a slab, walks along names, and the entries of directories.
+
+ghost use Rattle.std.specs.Prelude.{◌≡◌, ◌<◌, ◌≤◌, Some, IfSome, IsTrue, OnOk, OnErr, length, take, insert, remove, vec_len};
+ghost use Rattle.std.specs.FinMap.{is_sorted};
+ghost use Rattle.slab.specs.Slab.{ContainsKey, HasRoomFor};
+ghost use Rattle.fs_names.specs.Names.{name_cmp};
+ghost use Rattle.fs_calls.specs.Sights.{bytes_of};
+ghost use Rattle.fs_calls.specs.code.Seen.{sight};
+ghost use Rattle.fs_slab.specs.code.Nodes.{pair, pairs, place, graph, Searches, Steps, Resolves, LooksUp, number_there, shape_there, place_there, entry_there, full_there};
+ghost use Rattle.fs_slab.specs.code.Slots.{IsForest, Sets, place_at, links_at, links_of, shape_at, shape_of, Dir as IsDir};
+
+use crate::held_name::HeldName;
+use fs_calls::ranges::is_full;
+use fs_calls::rows::step_error;
+use fs_calls::{Errno, Sight};
+use fs_names::{Name, Path};
+use slab::Slab;
+use std::alloc::AllocError;
+
+/// An entry of a directory: its name, and the number of its node.
+#[derive(Drop)]
+pub struct Link {
+    pub name: HeldName,
+    pub node: usize,
+}
+
+/// An entry where it stands: the number of its directory, its place there, and the number of its node.
+#[derive(Clone, Copy)]
+pub struct Entry {
+    pub dir: usize,
+    pub place: usize,
+    pub node: usize,
+}
+
+/// A directory with its entries in byte order, or a file with its bytes.
+#[derive(Drop)]
+pub enum Node {
+    Dir(Vec<Link>),
+    File(Vec<u8>),
+}
+
+/// Where the last name of a path stands, or where it belongs: the number of the directory and the place among
+/// its entries, with the number of the node, or with the number of the entries.
+#[derive(Drop)]
+pub enum Spot {
+    Taken(usize, usize, usize),
+    Free(usize, usize, usize),
+}
+
+impl Node {
+    /// What the rows of errors see of it.
+    pub fn sight(&self) -> Sight
+        ensures { result ≡ sight (shape_of (Some (place self.now))) }
+    {
+        match self {
+            Node::File(_) => Sight::File,
+            Node::Dir(links) => {
+                if links.is_empty() {
+                    Sight::EmptyDir
+                } else {
+                    Sight::Dir
+                }
+            }
+        }
+    }
+
+    /// The entries of a directory; a file has none.
+    pub fn links(&self) -> &[Link]
+        ensures { pairs result.now ≡ links_of (Some (place self.now)) }
+    {
+        match self {
+            Node::Dir(links) => links,
+            Node::File(_) => &[],
+        }
+    }
+
+    /// The bytes of a file; a directory has none.
+    pub fn bytes(&self) -> &[u8]
+        ensures { result.now ≡ bytes_of (shape_of (Some (place self.now))) }
+    {
+        match self {
+            Node::File(bytes) => bytes,
+            Node::Dir(_) => &[],
+        }
+    }
+}
+
+/// What the rows of errors see at a number.
+pub fn sight_of(nodes: &Slab<Node>, node: usize) -> Sight
+    requires there { ContainsKey nodes.now node }
+    ensures { result ≡ sight (shape_at (graph nodes.now) node) }
+{
+    nodes[node].sight()
+}
+
+impl Spot {
+    /// What the rows of errors see where the name was looked up.
+    pub fn sight(&self, nodes: &Slab<Node>) -> Sight
+        requires there { IfSome (number_there self.now) (ContainsKey nodes.now) }
+        ensures { result ≡ sight (shape_there (graph nodes.now) self.now) }
+    {
+        match self {
+            Spot::Taken(_, _, node) => sight_of(nodes, *node),
+            Spot::Free(_, _, _) => Sight::Nothing,
+        }
+    }
+
+    /// Whether the directory has no place for the name; one that stands there has its own.
+    pub fn is_full(&self) -> bool
+        ensures { result ≡ full_there self.now }
+    {
+        match self {
+            Spot::Taken(_, _, _) => false,
+            Spot::Free(_, _, entries) => is_full(*entries),
+        }
+    }
+
+    /// The entry, where one stands.
+    pub fn entry(&self) -> Option<Entry>
+        ensures { result ≡ entry_there self.now }
+    {
+        match self {
+            Spot::Taken(dir, place, node) => Some(Entry {
+                dir: *dir,
+                place: *place,
+                node: *node,
+            }),
+            Spot::Free(_, _, _) => None,
+        }
+    }
+
+    /// The number of the directory, and the place among its entries.
+    pub fn place(&self) -> (usize, usize)
+        ensures { result ≡ place_there self.now }
+    {
+        match self {
+            Spot::Taken(dir, i, _) | Spot::Free(dir, i, _) => (*dir, *i),
+        }
+    }
+}
+
+/// Where a name stands among the links, or where it belongs.
+pub fn search(links: &[Link], name: &Name) -> Result<usize, usize>
+    requires { IsTrue (is_sorted name_cmp (pairs links.now)) }
+    ensures { Searches (pairs links.now) name.now result }
+{
+    links.binary_search_by(|link| link.name.cmp(name))
+}
+
+/// The number to which a name leads from a node.
+pub fn step(nodes: &Slab<Node>, at: usize, name: &Name) -> Result<usize, Errno>
+    requires there { ContainsKey nodes.now at }
+    requires rising { IsTrue (is_sorted name_cmp (links_at (graph nodes.now) at)) }
+    ensures { Steps (graph nodes.now) at name.now result }
+{
+    match &nodes[at] {
+        Node::File(_) => Err(step_error(true)),
+        Node::Dir(links) => match search(links, name) {
+            Ok(i) => Ok(links[i].node),
+            Err(_) => Err(step_error(false)),
+        },
+    }
+}
+
+/// The number to which the first `count` names of the path lead, or why they lead nowhere.
+pub fn resolve(nodes: &Slab<Node>, path: &Path, count: usize) -> Result<usize, Errno>
+    requires forest { IsForest (graph nodes.now) }
+    requires names { count ≤ length path.now }
+    ensures { Resolves (graph nodes.now) (take count path.now) result }
+{
+    let mut at = 0;
+    for i in 0..count {
+        match step(nodes, at, path.name(i)) {
+            Ok(next) => at = next,
+            Err(errno) => return Err(errno),
+        }
+    }
+    Ok(at)
+}
+
+/// Looks the last name of a path up in its parent.
+pub fn look_up(nodes: &Slab<Node>, path: &Path) -> Result<Spot, Errno>
+    requires forest { IsForest (graph nodes.now) }
+    requires named { 0 < length path.now }
+    ensures { LooksUp (graph nodes.now) path.now result }
+{
+    let last = path.len() - 1;
+    let dir = match resolve(nodes, path, last) {
+        Ok(dir) => dir,
+        Err(errno) => return Err(errno),
+    };
+    match &nodes[dir] {
+        Node::File(_) => Err(step_error(true)),
+        Node::Dir(links) => match search(links, path.name(last)) {
+            Ok(i) => Ok(Spot::Taken(dir, i, links[i].node)),
+            Err(i) => Ok(Spot::Free(dir, i, links.len())),
+        },
+    }
+}
+
+/// Adds a link at a place among others.
+fn insert_link(links: &mut Vec<Link>, i: usize, link: Link) -> Result<(), AllocError>
+    requires { i ≤ vec_len links.old }
+    ensures ok { OnOk result (links.new.items ≡ insert links.old.items i link) }
+    ensures err { OnErr result (links.new.items ≡ links.old.items) }
+{
+    match links.insert(i, link) {
+        Ok(()) => Ok(()),
+        Err(_) => Err(AllocError),
+    }
+}
+
+/// Adds an entry to a directory at a place.
+pub fn add_link(nodes: &mut Slab<Node>, dir: usize, i: usize, link: Link) -> Result<(), AllocError>
+    requires directory { place_at (graph nodes.old) dir ≡ Some (IsDir (links_at (graph nodes.old) dir)) }
+    requires within { i ≤ length (links_at (graph nodes.old) dir) }
+    ensures ok { OnOk result (Sets (graph nodes.old) (graph nodes.new) dir (Some (IsDir (insert (links_at (graph nodes.old) dir) i (pair link))))) }
+    ensures err { OnErr result (graph nodes.new ≡ graph nodes.old) }
+    ensures key { nodes.new.vacant_key ≡ nodes.old.vacant_key }
+    ensures room { HasRoomFor nodes.old 1 → HasRoomFor nodes.new 1 }
+{
+    match &mut nodes[dir] {
+        Node::Dir(links) => insert_link(links, i, link),
+        Node::File(_) => Ok(()),
+    }
+}
+
+/// Takes the entry at a place out of a directory.
+pub fn remove_link(nodes: &mut Slab<Node>, dir: usize, i: usize)
+    requires directory { place_at (graph nodes.old) dir ≡ Some (IsDir (links_at (graph nodes.old) dir)) }
+    requires within { i < length (links_at (graph nodes.old) dir) }
+    ensures { Sets (graph nodes.old) (graph nodes.new) dir (Some (IsDir (remove (links_at (graph nodes.old) dir) i))) }
+{
+    match &mut nodes[dir] {
+        Node::Dir(links) => {
+            links.remove(i);
+        }
+        Node::File(_) => {}
+    }
+}
