@@ -4,8 +4,8 @@ use Rattle.fs_words.specs.declared.fault.ScriptFault.{ScriptFault}
 use Rattle.fs_script.specs.Script.{script_of}
 use Rattle.fs_sched.specs.Runs.{ReachesStop}
 use Rattle.fs_sched.specs.declared.schedule.Schedule.{Schedule}
-use Rattle.fs_sched.specs.declared.fault.RunFault.{RunFault}
-use Rattle.fs_sched.specs.declared.fault.RunFault.TheVariants as faults
+use Rattle.fs_verdict.specs.declared.fault.RunFault.{RunFault}
+use Rattle.fs_verdict.specs.declared.fault.RunFault.TheVariants as faults
 use Rattle.fs_embed.specs.declared.runs.NoText.{NoText}
 use Rattle.fs_embed.specs.declared.runs.NoText.TheVariants.{Input, OutOfMemory, UnderWay}
 

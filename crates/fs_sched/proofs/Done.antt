@@ -17,8 +17,8 @@ use Rattle.fs_sched.specs.declared.run_texts.EntryKind.{EntryKind}
 use Rattle.fs_sched.specs.declared.run_texts.EntryKind.TheVariants as kind
 use Rattle.fs_sched.specs.code.Done.{HasDone}
 use Rattle.fs_sched.specs.code.Stages.{stage_of, IsRefusal, IsWhy}
-use Rattle.fs_sched.specs.declared.fault.RunFault.{RunFault}
-use Rattle.fs_sched.specs.declared.fault.RunFault.TheVariants as faults
+use Rattle.fs_verdict.specs.declared.fault.RunFault.{RunFault}
+use Rattle.fs_verdict.specs.declared.fault.RunFault.TheVariants as faults
 use Rattle.fs_sched.specs.declared.pieces.Pieces.{Pieces}
 
 -- one word more

@@ -9,7 +9,7 @@ use Rattle.fs_script.specs.declared.script.Script.{Script}
 use Rattle.fs_sched.specs.Runs.{Stage, start, Event, Goes, Starts, Spent, Events, ToEnd, Over, More, Words, Runs, Stops, StopsInWords}
 use Rattle.fs_sched.specs.Laws.{IsUnderWay}
 use Rattle.fs_sched.specs.Schedules.{one_event, drawn_seats}
-use Rattle.fs_sched.specs.declared.fault.RunFault.TheVariants.{Full, UnderWay}
+use Rattle.fs_verdict.specs.declared.fault.RunFault.TheVariants.{Full, UnderWay}
 use Rattle.fs_sched.specs.declared.schedule.Schedule.TheVariants.{Seeded}
 use Rattle.fs_sched.specs.declared.schedule.TheConstants.{DRAW_LIMIT}
 use Rattle.fs_sched.proofs.Ends.{at_word}

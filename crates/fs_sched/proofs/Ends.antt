@@ -12,8 +12,8 @@ use Rattle.fs_script.specs.declared.script.Word.TheVariants as words
 use Rattle.fs_sched.specs.Runs.{Stage, start, Does, Words, Runs, StopsAt, StopsInWords}
 use Rattle.fs_sched.specs.Laws.{IsUnderWay}
 use Rattle.fs_sched.specs.Schedules.{words_by}
-use Rattle.fs_sched.specs.declared.fault.RunFault.{RunFault}
-use Rattle.fs_sched.specs.declared.fault.RunFault.TheVariants.{Full, UnderWay}
+use Rattle.fs_verdict.specs.declared.fault.RunFault.{RunFault}
+use Rattle.fs_verdict.specs.declared.fault.RunFault.TheVariants.{Full, UnderWay}
 use Rattle.fs_sched.specs.declared.schedule.Schedule.{Schedule}
 use Rattle.fs_sched.proofs.OneText.{Same, same_seat, same_start, does_same}
 

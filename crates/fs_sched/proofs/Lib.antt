@@ -1,4 +1,3 @@
-pub mod CheckLemmas
 pub mod DrawLemmas
 pub mod DivisionLemmas
 pub mod RunTextLemmas
@@ -7,7 +6,7 @@ pub mod Staging
 pub mod CountLemmas
 pub mod RunLemmas
 pub mod SeedLemmas
-pub mod Counts
+pub mod Tallies
 pub mod Whole
 pub mod Stopping
 pub mod OneText
@@ -17,7 +16,6 @@ pub mod OverLemmas
 pub mod Asking
 pub mod Alone
 pub mod Marks
-pub mod Between
 pub mod Leasts
 pub mod Ends
 pub mod Drawn

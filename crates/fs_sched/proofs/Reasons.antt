@@ -6,8 +6,8 @@ use Rattle.fs_script.specs.declared.script.Script.{Script}
 use Rattle.fs_sched.specs.Devices.{IsFaultOf, IsSameText}
 use Rattle.fs_sched.specs.Runs.{IsFaultOfRun, ReachesStop}
 use Rattle.fs_sched.specs.code.Done.{IsStop}
-use Rattle.fs_sched.specs.declared.fault.RunFault.{RunFault}
-use Rattle.fs_sched.specs.declared.fault.RunFault.TheVariants as faults
+use Rattle.fs_verdict.specs.declared.fault.RunFault.{RunFault}
+use Rattle.fs_verdict.specs.declared.fault.RunFault.TheVariants as faults
 use Rattle.fs_sched.specs.declared.schedule.Schedule.{Schedule}
 use Rattle.fs_sched.proofs.RunLemmas.{script_same}
 

@@ -34,7 +34,7 @@ use Rattle.fs_sched.specs.declared.schedule.Schedule.TheVariants.{Given, RoundRo
 use Rattle.fs_sched.specs.Runs.{Stage, start, next_call, Event, Goes, Starts, Spent, Events, IsOver, ToEnd, Over, More, EndsBy, Does, Words, Runs, calls_in, end_of, IsRunOf, IsWhole, HasFinish}
 use Rattle.fs_sched.specs.Devices.{IsSameText}
 use Rattle.fs_sched.specs.Schedules.{words_by, is_finish, goes_on}
-use Rattle.fs_sched.proofs.Counts.{number_push, number_append, idle_returned, idle_committed, few_returned, few_committed}
+use Rattle.fs_sched.proofs.Tallies.{number_push, number_append, idle_returned, idle_committed, few_returned, few_committed}
 use Rattle.fs_sched.proofs.RunLemmas.{known_run}
 use Rattle.fs_sched.proofs.Rounds.{cost_of, owed, owed_less, none_some, event_run, event_length, AreSeats}
 use Rattle.fs_sched.proofs.Staging.{nothing_more, call_past}

@@ -17,8 +17,8 @@ use Rattle.fs_machine.specs.declared.answers.Stepped.{Stepped}
 use Rattle.fs_sched.specs.Devices.{IsFaultOf}
 use Rattle.fs_sched.specs.RunTexts.{IsRunText, number_of}
 use Rattle.fs_sched.specs.declared.run_texts.EntryKind.TheVariants as kind
-use Rattle.fs_sched.specs.declared.fault.RunFault.{RunFault}
-use Rattle.fs_sched.specs.declared.fault.RunFault.TheVariants as fault
+use Rattle.fs_verdict.specs.declared.fault.RunFault.{RunFault}
+use Rattle.fs_verdict.specs.declared.fault.RunFault.TheVariants as fault
 use Rattle.fs_sched.specs.declared.running.RunEnd.{RunEnd}
 use Rattle.fs_sched.specs.Schedules.{is_finish, words_by, goes_on}
 use Rattle.fs_sched.specs.declared.schedule.Schedule.{Schedule}

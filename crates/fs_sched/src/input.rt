@@ -6,8 +6,8 @@ ghost use Rattle.fs_script.specs.declared.limits.TheConstants.{CALL_LIMIT};
 ghost use Rattle.fs_sched.specs.Runs.{calls_in};
 ghost use Rattle.fs_sched.specs.Devices.{IsFaultOf};
 
-use crate::fault::{RunFault, run_fault};
 use fs_script::{Script, read_script};
+use fs_verdict::{RunFault, run_fault};
 use std::alloc::Global;
 
 /// The script that a text has, or why no run of it begins.

@@ -8,13 +8,13 @@ ghost use Rattle.fs_sched.specs.code.Counts.{AreCapped};
 ghost use Rattle.fs_sched.specs.code.Stages.{stage_of, IsMarked, IsWhy};
 ghost use Rattle.fs_sched.specs.code.Done.{HasDone};
 
-use crate::fault::RunFault;
 use crate::play::Play;
 use crate::progress::Progress;
 use crate::run_texts::{Counts, counts_of};
 use crate::schedule::Schedule;
 use fs_names::Limits;
 use fs_script::{CallLists, Script, Word};
+use fs_verdict::RunFault;
 use std::alloc::{AllocError, Global};
 
 /// A run in its last piece, and how many entries the pieces before had.

@@ -10,7 +10,6 @@ ghost use Rattle.fs_sched.specs.Runs.{start, has_more, Event, Events, Round, ToE
 ghost use Rattle.fs_sched.specs.Schedules.{drawn_seats};
 ghost use Rattle.fs_sched.specs.code.Stages.{stage_of, IsSeated, IsMarked, AreOver, IsRefusal, IsWhy, fault_of_checkpoint};
 
-use crate::fault::RunFault;
 use crate::progress::Progress;
 use crate::schedule::DRAW_LIMIT;
 use crate::seats::SeatsAhead;
@@ -19,6 +18,7 @@ use fs_core::{Core, NoCheckpoint, Refusal, Stepped};
 use fs_names::{Limits, NODE_LIMIT, SeatNo};
 use fs_script::{CallLists, Word};
 use fs_timeline::Entry;
+use fs_verdict::RunFault;
 use std::alloc::{AllocError, Global};
 
 /// The core, with a seat for each thread, how many calls of each thread have begun, and which threads were found to be
@@ -43,7 +43,7 @@ fn refused(refusal: Refusal) -> RunFault
 }
 
 /// The fault of a run of which a checkpoint was refused.
-fn stopped(why: NoCheckpoint) -> RunFault
+pub fn checkpoint_fault(why: NoCheckpoint) -> RunFault
     ensures { result ≡ fault_of_checkpoint why }
 {
     match why {
@@ -255,7 +255,7 @@ impl Play {
     {
         match self.core.checkpoint(alloc) {
             Ok(entries) => Ok(entries),
-            Err(why) => Err(stopped(why)),
+            Err(why) => Err(checkpoint_fault(why)),
         }
     }
 

@@ -55,14 +55,14 @@ pub fn number_of(kind: EntryKind, entries: &[Entry]) -> usize
 
 /// How many entries of each kind there are.
 #[derive(Clone, Copy, Debug, PartialEq, Eq)]
-pub(crate) struct Counts {
-    pub(crate) begun: usize,
-    pub(crate) committed: usize,
-    pub(crate) returned: usize,
+pub struct Counts {
+    pub begun: usize,
+    pub committed: usize,
+    pub returned: usize,
 }
 
 /// The counts of entries.
-pub(crate) fn counts_of(entries: &[Entry]) -> Counts
+pub fn counts_of(entries: &[Entry]) -> Counts
     ensures exact { AreCounts result entries.now }
     ensures capped { AreCapped result entries.now }
 {
@@ -75,7 +75,7 @@ pub(crate) fn counts_of(entries: &[Entry]) -> Counts
 
 impl Counts {
     /// With so many more, each up to the greatest number.
-    pub(crate) fn plus(self, more: Counts) -> Counts
+    pub fn plus(self, more: Counts) -> Counts
         ensures { (entries others : List Entry) → AreCapped self entries → AreCounts more others → AreCapped result (entries ++ others) }
     {
         Counts {
@@ -140,7 +140,8 @@ fn push_count(word: &[u8], count: usize, line: &mut Addition) -> Result<(), Allo
     line.push_number(count as u64)
 }
 
-fn push_counts(counts: Counts, line: &mut Addition) -> Result<(), AllocError>
+/// Adds the last line of a run with so many entries of each kind. The only error is out of memory.
+pub fn push_counts(counts: Counts, line: &mut Addition) -> Result<(), AllocError>
     ensures ok { OnOk result (line.new.added ≡ line.old.added ++ counts_line counts.begun counts.committed counts.returned) }
     ensures before { line.new.before ≡ line.old.before }
 {

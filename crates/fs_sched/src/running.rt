@@ -13,16 +13,15 @@ ghost use Rattle.fs_sched.specs.code.Counts.{AreCounts};
 ghost use Rattle.fs_sched.specs.code.Mades.{IsRead, MakesRun};
 ghost use Rattle.fs_sched.specs.code.Done.{IsRun, IsStop};
 
-use crate::fault::RunFault;
 use crate::input::script_in;
 use crate::pieces::Pieces;
 use crate::progress::{Progress, Silent};
-use crate::run_texts::{Counts, counted_text, counts_of};
+use crate::run_texts::{Counts, counted_text};
 use crate::schedule::Schedule;
 use fs_calls::Call;
 use fs_io::{Made, Sink, Source, transform};
 use fs_script::Script;
-use fs_timeline::Entry;
+use fs_verdict::RunFault;
 use std::alloc::Global;
 
 /// How a run ended: how many calls began, took their place and returned, of how many calls of the script.
@@ -57,11 +56,11 @@ fn end_of(calls: usize, counts: Counts) -> RunEnd
     }
 }
 
-/// How a run of a script ended that has these entries, in all its pieces.
-pub fn run_end(script: &Script, entries: &[Entry]) -> RunEnd
-    ensures { result ≡ end_of script.now entries.now }
+/// How a run of a script ended that has so many entries, in all its pieces.
+pub fn run_end(script: &Script, counts: Counts) -> RunEnd
+    ensures { (entries : List Entry) → AreCounts counts entries → result ≡ end_of script.now entries }
 {
-    end_of(count_calls(script.lists.as_slice()), counts_of(entries))
+    end_of(count_calls(script.lists.as_slice()), counts)
 }
 
 /// A run of a script that was read, from its first event to its last.

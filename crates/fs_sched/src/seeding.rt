@@ -12,18 +12,17 @@ ghost use Rattle.fs_sched.specs.Seeds.{seed_line, lawful_line, IsLawfulFrom, Are
 ghost use Rattle.fs_sched.specs.code.Mades.{MakesRuns};
 ghost use Rattle.fs_sched.specs.code.Stages.{stage_of};
 
-use crate::fault::RunFault;
 use crate::input::script_in;
 use crate::play::Play;
 use crate::progress::{Progress, Silent};
 use crate::running::play;
 use crate::schedule::Schedule;
-use crate::verdict_line::{is_lawful, push_verdict};
 use fs_io::{Made, Sink, Source, transform};
 use fs_journal::check_from;
 use fs_script::Script;
 use fs_text::Addition;
 use fs_timeline::Verdict;
+use fs_verdict::{RunFault, is_lawful, push_verdict};
 use std::alloc::{AllocError, Global};
 
 /// The greatest number that a first run is drawn from.

@@ -1,5 +1,5 @@
 -- The line of what was read is the line of the input, and its number is that of the script's calls.
-use Rattle.std.proofs.Common.{◌≡◌, ◌≢◌, ℕ, ◌+◌, cond, List, [], ◌∷◌, length, map, sum_by, Option, Some, None, Result, Err, refl, sym, ap, ◌∙◌, subst, arith}
+use Rattle.std.proofs.Common.{◌≡◌, ◌≢◌, ℕ, ◌+◌, cond, List, [], ◌∷◌, length, map, sum_by, Option, Some, None, Result, refl, sym, ap, ◌∙◌, arith}
 use Rattle.std.specs.Prelude.{IfSome}
 use Rattle.std.proofs.lemmas.List.Sums.{sum_by-cons}
 use Rattle.fs_calls.specs.declared.call.Call.{Call}
@@ -11,9 +11,9 @@ use Rattle.fs_script.specs.declared.script.Script.{Script}
 use Rattle.fs_sched.specs.Devices.{IsSameText}
 use Rattle.fs_sched.specs.Runs.{calls_in}
 use Rattle.fs_sched.specs.RunTexts.{is_of, number_of}
-use Rattle.fs_sched.specs.declared.fault.RunFault.TheVariants as run
+use Rattle.fs_verdict.specs.declared.fault.RunFault.TheVariants as run
 use Rattle.fs_sched.specs.declared.run_texts.EntryKind.TheVariants as kind
-use Rattle.fs_sched.proofs.RunLemmas.{script_same, known_script}
+use Rattle.fs_sched.proofs.RunLemmas.{script_same}
 use Rattle.fs_share.specs.Returns.{returns}
 use Rattle.fs_io.specs.declared.failure.Failure.{Failure}
 use Rattle.fs_io.specs.declared.failure.Failure.TheVariants as failure

@@ -5,7 +5,7 @@ use Rattle.fs_words.specs.declared.fault.ScriptFault.{ScriptFault}
 use Rattle.fs_io.specs.declared.failure.Failure.{Failure}
 use Rattle.fs_io.specs.declared.failure.Failure.TheVariants as failure
 use Rattle.fs_sched.specs.Devices.{IsFaultOrRefusal}
-use Rattle.fs_sched.specs.declared.fault.RunFault.TheVariants as run
+use Rattle.fs_verdict.specs.declared.fault.RunFault.TheVariants as run
 use Rattle.fs_share.specs.declared.lists.ListsFault.{ListsFault}
 use Rattle.fs_share.specs.declared.lists.ListsFault.TheVariants.{NoWorker, Refused}
 use Rattle.fs_threads.specs.declared.fault.ThreadsFault.{ThreadsFault}

@@ -5,8 +5,8 @@ use Rattle.fs_timeline.specs.declared.entry.Entry.{Entry}
 use Rattle.fs_sched.specs.Runs.{Stage, Runs, StopsBy}
 use Rattle.fs_sched.specs.code.Counts.{AreCapped}
 use Rattle.fs_sched.specs.code.Stages.{stage_of}
-use Rattle.fs_sched.specs.declared.fault.RunFault.{RunFault}
-use Rattle.fs_sched.specs.declared.fault.RunFault.TheVariants.{OutOfMemory, UnderWay}
+use Rattle.fs_verdict.specs.declared.fault.RunFault.{RunFault}
+use Rattle.fs_verdict.specs.declared.fault.RunFault.TheVariants.{OutOfMemory, UnderWay}
 use Rattle.fs_sched.specs.declared.pieces.Pieces.{Pieces}
 use Rattle.fs_sched.specs.declared.schedule.Schedule.{Schedule}
 

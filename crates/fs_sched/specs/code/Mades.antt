@@ -1,15 +1,13 @@
--- What is made of the text of an input, before it is written.
+-- What is made of the text of a script, before it is written.
 use Rattle.std.specs.Prelude.{◌≡◌, ℕ, Bool, List, true, Result, Ok, IfOk, OnOk, IfErr}
-use Rattle.fs_timeline.specs.declared.verdict.Verdict.{Verdict}
 use Rattle.fs_io.specs.declared.shell.Made.{Made}
 use Rattle.fs_script.specs.Script.{script_of}
 use Rattle.fs_script.specs.declared.script.Script.{Script}
-use Rattle.fs_sched.specs.Checks.{is_lawful, verdict_line, verdict_of}
 use Rattle.fs_sched.specs.Devices.{IsFaultOf}
 use Rattle.fs_sched.specs.EachRun.{EachIsReadAgain}
 use Rattle.fs_sched.specs.Runs.{IsRunOf, IsFaultOfRun}
 use Rattle.fs_sched.specs.Seeds.{AreRunsOf}
-use Rattle.fs_sched.specs.declared.fault.RunFault.{RunFault}
+use Rattle.fs_verdict.specs.declared.fault.RunFault.{RunFault}
 use Rattle.fs_sched.specs.declared.running.RunEnd.{RunEnd}
 use Rattle.fs_sched.specs.declared.schedule.Schedule.{Schedule}
 
@@ -28,13 +26,3 @@ pub record MakesRuns (seed : ℕ) (runs : ℕ) (input : List ℕ) (result : Resu
   pub ok : IfOk result (λ made. AreRunsOf seed runs input made.text.items)
   pub lawful : IfOk result (λ made. made.end ≡ true)
   pub fault : IfErr result (IsFaultOf (script_of input))
-
--- the line of a verdict, and whether that is lawful
-pub record IsJudged (v : Verdict) (made : Made Bool) : Type 0 where
-  pub end : made.end ≡ is_lawful v
-  pub text : made.text.items ≡ verdict_line v
-
--- the line of the verdict on a journal; or why there is none
-pub record MakesVerdict (input : List ℕ) (result : Result (Made Bool) RunFault) : Type 0 where
-  pub ok : IfOk result (λ made. (v : Verdict) × (verdict_of input ≡ Ok v) × IsJudged v made)
-  pub fault : IfErr result (IsFaultOf (verdict_of input))

@@ -6,8 +6,8 @@ use Rattle.fs_core.specs.declared.checkpoint.NoCheckpoint.{NoCheckpoint}
 use Rattle.fs_core.specs.declared.checkpoint.NoCheckpoint.TheVariants as why
 use Rattle.fs_sched.specs.Runs.{Stage, has_more}
 use Rattle.fs_sched.specs.declared.play.Play.{Play}
-use Rattle.fs_sched.specs.declared.fault.RunFault.{RunFault}
-use Rattle.fs_sched.specs.declared.fault.RunFault.TheVariants.{Input, Read, Write, OutOfMemory, Full, UnderWay}
+use Rattle.fs_verdict.specs.declared.fault.RunFault.{RunFault}
+use Rattle.fs_verdict.specs.declared.fault.RunFault.TheVariants.{Input, Read, Write, OutOfMemory, Full, UnderWay}
 
 -- the core's state, and how many calls of each thread have begun
 abbrev pub stage_of : Play → Stage

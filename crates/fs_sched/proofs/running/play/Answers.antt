@@ -5,8 +5,8 @@ use Rattle.fs_script.specs.declared.script.Script.{Script}
 use Rattle.fs_sched.specs.Runs.{Stage, start, RunsFrom, StopsFrom, StopsBy, calls_in}
 use Rattle.fs_sched.specs.code.Done.{IsStop}
 use Rattle.fs_sched.specs.code.Stages.{stage_of, IsWhy}
-use Rattle.fs_sched.specs.declared.fault.RunFault.{RunFault}
-use Rattle.fs_sched.specs.declared.fault.RunFault.TheVariants as faults
+use Rattle.fs_verdict.specs.declared.fault.RunFault.{RunFault}
+use Rattle.fs_verdict.specs.declared.fault.RunFault.TheVariants as faults
 use Rattle.fs_sched.specs.declared.schedule.Schedule.{Schedule}
 use Rattle.fs_sched.proofs.Filling.{never_fills}
 use Rattle.fs_sched.proofs.running.play.Goals as goal

@@ -1,9 +1,9 @@
 use Rattle.std.proofs.Common.{refl, sym, subst, Err, ap, ◌≡◌, ◌≢◌, ◌<◌, ◌^◌, arith}
 use Rattle.fs_io.specs.declared.failure.Failure.TheVariants as failure
 use Rattle.fs_sched.specs.Runs.{IsRunOf, IsFaultOfRun}
-use Rattle.fs_sched.specs.declared.fault.RunFault.{RunFault}
-use Rattle.fs_sched.specs.declared.fault.RunFault.TheVariants.{Input, Write, Full, UnderWay}
-use Rattle.fs_sched.proofs.Between.{of_input, of_full, of_under_way, of_write}
+use Rattle.fs_verdict.specs.declared.fault.RunFault.{RunFault}
+use Rattle.fs_verdict.specs.declared.fault.RunFault.TheVariants.{Input, Write, Full, UnderWay}
+use Rattle.fs_verdict.proofs.Between.{of_input, of_full, of_under_way, of_write}
 use Rattle.fs_sched.proofs.RunLemmas.{script_short, known_script, known_run}
 use Rattle.fs_sched.proofs.OneText.{known_each, known_again}
 use Rattle.fs_sched.proofs.Reasons.{known_stop}

@@ -1,7 +1,7 @@
 use Rattle.fs_sched.specs.code.Stages.{stage_of}
 use Rattle.fs_sched.proofs.Drawn.{drawn_once, never_under_way}
-use Rattle.fs_sched.specs.declared.fault.RunFault.{RunFault}
-use Rattle.fs_sched.specs.declared.fault.RunFault.TheVariants as faults
+use Rattle.fs_verdict.specs.declared.fault.RunFault.{RunFault}
+use Rattle.fs_verdict.specs.declared.fault.RunFault.TheVariants as faults
 use Rattle.fs_sched.specs.declared.schedule.Schedule.TheVariants.{Seeded}
 use Rattle.fs_sched.specs.code.Done.{IsStop}
 use Rattle.fs_script.specs.declared.script.Script.{Script}

@@ -2,9 +2,9 @@ use Rattle.std.proofs.Common.{refl, subst, Err, ap, ◌≡◌, ◌≢◌, ◌∙
 use Rattle.fs_io.specs.declared.failure.Failure.TheVariants as failure
 use Rattle.fs_script.specs.Script.{script_of}
 use Rattle.fs_sched.specs.Devices.{IsFaultOf}
-use Rattle.fs_sched.specs.declared.fault.RunFault.{RunFault}
-use Rattle.fs_sched.specs.declared.fault.RunFault.TheVariants.{Input, Write, Full, UnderWay}
-use Rattle.fs_sched.proofs.Between.{of_input, of_full, of_under_way, of_write}
+use Rattle.fs_verdict.specs.declared.fault.RunFault.{RunFault}
+use Rattle.fs_verdict.specs.declared.fault.RunFault.TheVariants.{Input, Write, Full, UnderWay}
+use Rattle.fs_verdict.proofs.Between.{of_input, of_full, of_under_way, of_write}
 use Rattle.fs_sched.proofs.RunLemmas.{script_short, known_script}
 use Rattle.fs_sched.proofs.SeedLemmas.{known_runs}
 use Rattle.fs_sched.proofs.seeding.run_seeds.Goals as goal

@@ -1,7 +1,7 @@
 use Rattle.std.proofs.Common.{refl, subst, Err, ap, ◌≡◌, ◌≢◌, ◌∙◌}
 use Rattle.fs_io.specs.declared.failure.Failure.TheVariants as failure
 use Rattle.fs_script.specs.Script.{script_of}
-use Rattle.fs_sched.specs.declared.fault.RunFault.TheVariants.{Input, Write}
+use Rattle.fs_verdict.specs.declared.fault.RunFault.TheVariants.{Input, Write}
 use Rattle.fs_sched.proofs.RunLemmas.{script_short, known_script}
 use Rattle.fs_threads.specs.Faults.{IsOfInput}
 use Rattle.fs_threads.specs.declared.fault.ThreadsFault.{ThreadsFault}

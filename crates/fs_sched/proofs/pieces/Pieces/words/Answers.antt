@@ -2,7 +2,7 @@ use Rattle.std.proofs.Common.{◌≡◌, Result, Err, sym, subst, rules}
 use Rattle.std.specs.Prelude.{IfErr}
 use Rattle.fs_sched.specs.Runs.{StopsInWords}
 use Rattle.fs_sched.specs.code.Stages.{stage_of, IsWhy}
-use Rattle.fs_sched.specs.declared.fault.RunFault.{RunFault}
+use Rattle.fs_verdict.specs.declared.fault.RunFault.{RunFault}
 use Rattle.fs_sched.proofs.Done.{done_more, why_here}
 use Rattle.fs_sched.proofs.pieces.Pieces.words.Goals as goal
 

@@ -1,6 +1,6 @@
 use Rattle.std.proofs.Common.{◌≡◌, Err, ap, ◌∙◌, rules, arith}
 use Rattle.fs_sched.specs.code.Stages.{stage_of}
-use Rattle.fs_sched.specs.declared.fault.RunFault.TheVariants.{Full}
+use Rattle.fs_verdict.specs.declared.fault.RunFault.TheVariants.{Full}
 use Rattle.fs_sched.proofs.DrawLemmas.{upcoming_more}
 use Rattle.fs_sched.proofs.OverLemmas.{event_over}
 use Rattle.fs_sched.proofs.Staging.{lead_more, over_stays}

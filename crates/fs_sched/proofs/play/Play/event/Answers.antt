@@ -4,8 +4,8 @@ use Rattle.fs_core.specs.CoreValues.{state_of}
 use Rattle.fs_machine.specs.States.{State}
 use Rattle.fs_sched.specs.Runs.{Event, has_more, IsRefused}
 use Rattle.fs_sched.specs.code.Stages.{stage_of, IsMarked}
-use Rattle.fs_sched.specs.declared.fault.RunFault.{RunFault}
-use Rattle.fs_sched.specs.declared.fault.RunFault.TheVariants.{Full}
+use Rattle.fs_verdict.specs.declared.fault.RunFault.{RunFault}
+use Rattle.fs_verdict.specs.declared.fault.RunFault.TheVariants.{Full}
 use Rattle.fs_sched.specs.declared.play.Play.{Play}
 use Rattle.fs_sched.proofs.Asking.{went, was_there, idle, of_both}
 use Rattle.fs_sched.proofs.Marks.{still_marked, marked_same}

@@ -1,5 +1,5 @@
 use Rattle.std.proofs.Common.{◌≡◌, ◌<◌, ◌≤◌, Err, length, ap, rules, arith}
-use Rattle.fs_sched.specs.declared.fault.RunFault.TheVariants.{Full}
+use Rattle.fs_verdict.specs.declared.fault.RunFault.TheVariants.{Full}
 use Rattle.fs_sched.specs.code.Stages.{stage_of}
 use Rattle.fs_sched.proofs.Asking.{spent_times}
 use Rattle.fs_sched.proofs.Staging.{lead_more, spent_past, times_more}

@@ -6,7 +6,7 @@ use Rattle.fs_sched.proofs.OverLemmas.{events_over, there}
 use Rattle.fs_sched.proofs.Rounds.{round_smaller}
 use Rattle.fs_sched.proofs.Staging.{round_more, seats_there}
 use Rattle.fs_sched.proofs.Stopping.{stop_round}
-use Rattle.fs_sched.specs.declared.fault.RunFault.TheVariants.{Full}
+use Rattle.fs_verdict.specs.declared.fault.RunFault.TheVariants.{Full}
 use Rattle.fs_sched.proofs.play.Play.finish.Goals as goal
 
 pub rounds-smaller : goal.rounds-smaller

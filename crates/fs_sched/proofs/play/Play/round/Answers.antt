@@ -3,7 +3,7 @@ use Rattle.fs_sched.specs.code.Stages.{stage_of}
 use Rattle.fs_sched.proofs.Staging.{lead_more, range_more}
 use Rattle.fs_sched.proofs.OverLemmas.{lead_from, stop_from}
 use Rattle.fs_sched.proofs.Stopping.{stop_more, stop_here}
-use Rattle.fs_sched.specs.declared.fault.RunFault.TheVariants.{Full}
+use Rattle.fs_verdict.specs.declared.fault.RunFault.TheVariants.{Full}
 use Rattle.fs_sched.proofs.play.Play.round.Goals as goal
 
 pub loop-seat-init : goal.loop-seat-init

@@ -1,7 +1,7 @@
 //! Verdicts as they are answered and written.
 
 ghost use Rattle.std.specs.Prelude.{◌≡◌, ◌++◌, OnOk, IfOk};
-ghost use Rattle.fs_sched.specs.Checks.{kind_word, is_lawful, verdict_line};
+ghost use Rattle.fs_verdict.specs.Checks.{kind_word, is_lawful, verdict_line};
 
 use fs_text::Addition;
 use fs_timeline::{FaultKind, Verdict};

@@ -8,8 +8,8 @@ use Rattle.fs_script.specs.Journals.{journal_of}
 use Rattle.fs_script.proofs.HeaderLemmas.{long_journal}
 use Rattle.fs_words.specs.declared.fault.ScriptFault.{ScriptFault}
 use Rattle.fs_words.specs.declared.fault.FaultKind.TheVariants as kind
-use Rattle.fs_sched.specs.Checks.{judged, verdict_of, verdict_line}
-use Rattle.fs_sched.specs.Devices.{IsSameText, WritesBeginning, WritesBeginningOf}
+use Rattle.fs_verdict.specs.Checks.{judged, verdict_of, verdict_line}
+use Rattle.fs_verdict.specs.Devices.{IsSameText, WritesBeginning, WritesBeginningOf}
 
 no_journal : (text : List ℕ) → 16777216 < length text → journal_of text ≡ Err (fault_at 1 kind.TooLarge)
 no_journal text h = long_journal text (lt-ltb 16777216 (length text) h)

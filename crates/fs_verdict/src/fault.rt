@@ -1,7 +1,7 @@
 //! Why a run ended without its whole text written.
 
 ghost use Rattle.std.specs.Prelude.{◌≡◌};
-ghost use Rattle.fs_sched.specs.Faults.{run_fault_of, fault_between, status_of_fault};
+ghost use Rattle.fs_verdict.specs.Faults.{run_fault_of, fault_between, status_of_fault};
 
 use fs_io::Failure;
 use fs_names::CallNo;

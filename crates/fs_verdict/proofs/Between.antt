@@ -3,9 +3,9 @@ use Rattle.std.proofs.Common.{◌≡◌, ◌≢◌, ℕ, refl, ap, sym}
 use Rattle.fs_words.specs.declared.fault.ScriptFault.{ScriptFault}
 use Rattle.fs_io.specs.declared.failure.Failure.{Failure}
 use Rattle.fs_io.specs.declared.failure.Failure.TheVariants as failure
-use Rattle.fs_sched.specs.Faults.{fault_between}
-use Rattle.fs_sched.specs.declared.fault.RunFault.{RunFault}
-use Rattle.fs_sched.specs.declared.fault.RunFault.TheVariants.{Input, Write, Full, UnderWay}
+use Rattle.fs_verdict.specs.Faults.{fault_between}
+use Rattle.fs_verdict.specs.declared.fault.RunFault.{RunFault}
+use Rattle.fs_verdict.specs.declared.fault.RunFault.TheVariants.{Input, Write, Full, UnderWay}
 
 -- a fault of the input is why no text was made
 pub of_input : (g : Failure RunFault) (f : ScriptFault) → Input f ≡ fault_between g → g ≡ failure.Unmade (Input f)

@@ -5,9 +5,9 @@ ghost use Rattle.std.specs.Io.KnownBytes.{Appends, IsAtEnd};
 ghost use Rattle.fs_timeline.specs.Verdicts.{verdict};
 ghost use Rattle.fs_script.specs.Journals.{journal_of};
 ghost use Rattle.fs_words.specs.declared.fault.ScriptFault.{ScriptFault};
-ghost use Rattle.fs_sched.specs.Checks.{is_lawful, verdict_line, verdict_of};
-ghost use Rattle.fs_sched.specs.Devices.{IsFaultOf, WritesBeginningOf};
-ghost use Rattle.fs_sched.specs.code.Mades.{IsJudged, MakesVerdict};
+ghost use Rattle.fs_verdict.specs.Checks.{is_lawful, verdict_line, verdict_of};
+ghost use Rattle.fs_verdict.specs.Devices.{IsFaultOf, WritesBeginningOf};
+ghost use Rattle.fs_verdict.specs.code.Judged.{IsJudged, MakesVerdict};
 
 use crate::fault::{RunFault, run_fault};
 use crate::verdict_line::{is_lawful, verdict_line};

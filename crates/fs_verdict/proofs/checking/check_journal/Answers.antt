@@ -1,13 +1,13 @@
 use Rattle.std.specs.Io.KnownBytes.{Appends}
 use Rattle.std.proofs.Common.{refl, subst, Err, ap, ◌≡◌, ◌≢◌, ◌∙◌}
 use Rattle.fs_io.specs.declared.failure.Failure.TheVariants as failure
-use Rattle.fs_sched.specs.Checks.{verdict_of}
-use Rattle.fs_sched.specs.Devices.{IsFaultOf}
-use Rattle.fs_sched.specs.declared.fault.RunFault.{RunFault}
-use Rattle.fs_sched.specs.declared.fault.RunFault.TheVariants.{Input, Write}
-use Rattle.fs_sched.proofs.Between.{of_input, of_write}
-use Rattle.fs_sched.proofs.CheckLemmas.{verdict_short, known_verdict, known_beginning}
-use Rattle.fs_sched.proofs.checking.check_journal.Goals as goal
+use Rattle.fs_verdict.specs.Checks.{verdict_of}
+use Rattle.fs_verdict.specs.Devices.{IsFaultOf}
+use Rattle.fs_verdict.specs.declared.fault.RunFault.{RunFault}
+use Rattle.fs_verdict.specs.declared.fault.RunFault.TheVariants.{Input, Write}
+use Rattle.fs_verdict.proofs.Between.{of_input, of_write}
+use Rattle.fs_verdict.proofs.CheckLemmas.{verdict_short, known_verdict, known_beginning}
+use Rattle.fs_verdict.proofs.checking.check_journal.Goals as goal
 
 pub returns-clause-verdict : goal.returns-clause-verdict
 returns-clause-verdict g c =
