@@ -1,7 +1,8 @@
 """Runs in pieces: scripts with `!checkpoint` through the program.
 
 The text of a run is that of its last piece: what it starts at and comes to is what tests/model.py makes of the calls of all pieces. Each text is
-lawful by `atomfs check`. Where calls are under way nothing is written, and the message names the least of their numbers.
+lawful by `atomfs check`. Where calls are under way nothing is written, and the message names the least of their numbers. A trace and a picture show
+each checkpoint, and end as the run does.
 """
 import random
 import unittest
@@ -131,6 +132,20 @@ class Checkpoints(harness.Case):
 
     def test_rows(self):
         self.each(((name, script(*lines), wanted) for name, (lines, wanted) in ROWS.items()), self.look)
+
+    def shown(self, given, wanted):
+        """A trace and a picture have each checkpoint, and end as the run does; where that has no text they have none."""
+        checkpoints = given.count(b"!checkpoint") if wanted.output else 0
+        for words in (("trace",), ("trace", "--every"), ("draw",)):
+            came = run(given, *words)
+            if harness.compares:
+                count = came.output.splitlines().count(b"checkpoint, the next call is #1") + came.output.count(b'<g class="checkpoint">')
+                self.same(given, (came.status, came.message, bool(came.output), count), (wanted.status, wanted.message, bool(wanted.output), checkpoints))
+                if words[0] == "trace":
+                    self.same(given, came.output.partition(b"\ntree\n")[2], wanted.output.partition(b"\ntree\n")[2])
+
+    def test_rows_are_shown(self):
+        self.each(((name, script(*lines), wanted) for name, (lines, wanted) in ROWS.items()), self.shown)
 
     def test_second_version(self):
         """Each piece begins with its start tree, also where that is the root alone."""

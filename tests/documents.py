@@ -507,7 +507,7 @@ class Believed(Sentences):
     """What docs/BELIEVE.md counts: the definitions behind the headline, over their own references."""
 
     # What the models of a timeline, a core and a store name.
-    MODELS = ("fs_timeline.specs.Timeline", "TimelineValue"), ("fs_core.specs.CoreValues", "CoreValue"), ("fs_nodes.specs.Plains", "plains")
+    MODELS = ("fs_timeline.specs.Timeline", "TimelineValue"), ("fs_core.specs.CoreValues", "CoreValue"), ("fs_places.specs.Plains", "plains")
 
     def setUp(self):
         self.headline = of_headline(("lawful", "spelled"), self.MODELS)

@@ -35,6 +35,9 @@ STARTED = (
     b"begin 3 1 read /b/f 0 9\nreturn 1 stat file 2\ncommit 3\nreturn 3 bytes 6869\n"
 )
 WRONGLY = STARTED.replace(b"bytes 6869", b"bytes 68")
+IN_PIECES = (RUNS / "in_pieces.script").read_bytes()
+# Each call is the first of its piece. A row has room for nine of them.
+MANY_PIECES = b"atomfs 1\nthread t\n" + b"".join(b"mkdir /%d\n" % call for call in range(12)) + b"thread u\nschedule\n" + b" ".join([b"t*5 !checkpoint"] * 12) + b"\n"
 # Each stored picture: its name, its input and what is asked.
 STORED = (
     ("helped_mkdir", (RUNS / "helped_mkdir.script").read_bytes()),
@@ -49,21 +52,32 @@ STORED = (
     ("odd", ODD, "--seed", "4"),
     ("around", (EXAMPLES / "many_helped.script").read_bytes(), "--around", "5"),
     ("empty", b"atomfs 1\nschedule\n"),
+    ("in_pieces", IN_PIECES),
+    ("in_pieces_around", IN_PIECES, "--around", "3"),
+    ("many_pieces", MANY_PIECES),
+    ("checkpoints_at_the_ends", traces.AT_THE_ENDS),
+    ("nothing_but_a_checkpoint", traces.NOTHING),
 )
-# What a page tells of a picture that it shows: texts that leave it, and labels that meet.
+# What a page tells of a picture that it shows: texts that leave it, labels, or words and numbers of the axis, that meet, and labels on lines of
+# checkpoints.
 LOOK = """
 <script>
 const svg = document.querySelector('svg'), frame = svg.getBoundingClientRect(), wrong = [];
 const boxes = [...svg.querySelectorAll('text')].map(text => [text, text.getBoundingClientRect()]);
 for (const [text, box] of boxes)
   if (box.right > frame.right + 1 || box.left < frame.left - 1 || box.bottom > frame.bottom + 1) wrong.push('leaves: ' + text.textContent);
-const labels = boxes.filter(([text]) => text.parentNode.getAttribute('class') == 'b');
-for (let i = 0; i < labels.length; i++)
-  for (let k = i + 1; k < labels.length; k++) {
-    const [a, b] = [labels[i][1], labels[k][1]];
-    if (a.left < b.right && b.left < a.right && a.top < b.bottom - 4 && b.top < a.bottom - 4) wrong.push('meet: ' + labels[i][0].textContent + ' | ' + labels[k][0].textContent);
-  }
-document.body.innerHTML = '<pre>' + JSON.stringify([labels.length, wrong]).replace(/&/g, '&amp;').replace(/</g, '&lt;') + '</pre>';
+for (const names of [['b'], ['a', 'checkpoint']]) {
+  const labels = boxes.filter(([text]) => names.includes(text.parentNode.getAttribute('class')));
+  for (let i = 0; i < labels.length; i++)
+    for (let k = i + 1; k < labels.length; k++) {
+      const [a, b] = [labels[i][1], labels[k][1]];
+      if (a.left < b.right && b.left < a.right && a.top < b.bottom - 4 && b.top < a.bottom - 4) wrong.push('meet: ' + labels[i][0].textContent + ' | ' + labels[k][0].textContent);
+    }
+}
+for (const line of [...svg.querySelectorAll('.checkpoint path')].map(path => path.getBoundingClientRect()))
+  for (const [text, box] of boxes.filter(([text]) => text.parentNode.getAttribute('class') == 'b'))
+    if (box.left < line.right && line.left < box.right && box.top < line.bottom && line.top < box.bottom) wrong.push('crossed: ' + text.textContent);
+document.body.innerHTML = '<pre>' + JSON.stringify([boxes.length, wrong]).replace(/&/g, '&amp;').replace(/</g, '&lt;') + '</pre>';
 </script>
 """
 
@@ -74,11 +88,21 @@ def crowd(threads, calls, number):
     return drawn.script([[drawn.moving_call(draw, drawn.CROWDED) for _ in range(calls)] for _ in range(threads)]).encode()
 
 
-# Runs that are too large to be stored: eight threads, 500 calls, and many seats.
+def crowd_in_pieces(pieces, threads, calls, number):
+    """The same of threads that have all their calls in one piece: drawn events, and then rounds that are enough for these calls."""
+    draw = random.Random(number)
+    names = [[f"t{piece * threads + thread}" for thread in range(threads)] for piece in range(pieces)]
+    lists = [[drawn.moving_call(draw, drawn.CROWDED) for _ in range(calls)] for _ in range(pieces * threads)]
+    words = [" ".join([*draw.choices(piece, k=80), *(f"{name}*5" for name in piece * 100)]) for piece in names]
+    return drawn.script(lists, " !checkpoint\n".join(words)).encode()
+
+
+# Runs that are too large to be stored: eight threads, 500 calls, many seats, and pieces of many calls.
 LARGE = (
     ("eight_threads", crowd(8, 6, 1), "--seed", "3"),
     ("five_hundred_calls", crowd(4, 125, 2), "--seed", "3"),
     ("twenty_threads", crowd(20, 3, 3), "--seed", "3"),
+    ("eight_pieces", crowd_in_pieces(8, 3, 5, 4)),
 )
 
 
@@ -91,24 +115,47 @@ def inputs():
     yield from LARGE
 
 
+def counts(root):
+    """How many calls, commits by the call itself, commits by another one, and checkpoints a picture has."""
+    classes = [element.get("class") for element in root.iter() if element.tag in (SVG + "g", SVG + "circle")]
+    return tuple(classes.count(name) for name in ("call", "c", "k", "checkpoint"))
+
+
+def crossed(root):
+    """The bars that cross the line of a checkpoint in their row."""
+    lines = [re.match(r"M(\d+) (\d+)V(\d+)", group.find(SVG + "path").get("d")) for group in root.iter(SVG + "g") if group.get("class") == "checkpoint"]
+    lines = [tuple(map(int, line.groups())) for line in lines]
+    bars = [path.get("d") for group in root.iter(SVG + "g") if group.get("class") in ("call", "more") for path in group.iter(SVG + "path")]
+    for bar in bars:
+        if found := re.match(r"M(\d+) (\d+)H(\d+)v16", bar):
+            one, y, other = map(int, found.groups())
+            if any(min(one, other) < x < max(one, other) and top < y < bottom for x, top, bottom in lines):
+                yield bar
+
+
 class Counted(Case):
-    """A picture is well-formed, and has what its journal has."""
+    """A picture is well-formed, and has what its journal has, or the trace of its run, which tells of each piece."""
 
     def look(self, given, *words):
         came = run(given, "draw", *words)
-        journal = given if given.startswith(b"atomfs-journal") else run(given, "run", *(words if words[:1] != ("--around",) else ())).output
+        is_journal = given.startswith(b"atomfs-journal")
+        told = given if is_journal else run(given, "trace", *(words if words[:1] != ("--around",) else ())).output
         if not harness.compares:
             return
         shown = given.decode(errors="backslashreplace")
         root = ElementTree.fromstring(came.output)
-        classes = [element.get("class") for element in root.iter() if element.tag in (SVG + "g", SVG + "circle")]
-        counts = tuple(classes.count(name) for name in ("call", "c", "k"))
         self.same(shown, (root.tag, came.output.isascii(), root.find(SVG + "title") is not None, root.find(SVG + "desc") is not None), (SVG + "svg", True, True, True))
-        if "--around" in words or came.status and given.startswith(b"atomfs-journal"):
+        self.same(shown, list(crossed(root)), [])
+        if "--around" in words or came.status and is_journal:
             return
-        lines = journal.decode().split("\ntree\n", 1)[0].splitlines()
-        begun, committed = (sum(line.startswith(f"{word} ") for line in lines) for word in ("begin", "commit"))
-        self.same(shown, (counts[0], counts[1] + counts[2]), (begun, committed))
+        lines = told.decode().split("\ntree\n", 1)[0].splitlines()
+        if is_journal:
+            wanted = *(sum(line.startswith(f"{word} ") for line in lines) for word in ("begin", "commit")), 0
+        else:
+            moments = traces.Trace(told).moments
+            wanted = *(sum(moment != traces.CHECKPOINT and moment.did in did for moment in moments) for did in (("begun",), ("committed", "helped"))), moments.count(traces.CHECKPOINT)
+        calls, own, given_by_another, checkpoints = counts(root)
+        self.same(shown, (calls, own + given_by_another, checkpoints), wanted)
 
     def test_each(self):
         self.each(inputs(), self.look)
@@ -152,12 +199,71 @@ class Asked(Case):
 
 
 class Checkpoints(Case):
-    """A script whose own schedule comes to a checkpoint is not drawn; a journal that starts at another tree is judged from there."""
+    """A run in pieces is drawn whole, with a line at each checkpoint; a journal that starts at another tree is judged from there."""
+
+    def drawn(self, given, *words):
+        """The picture of a run that went well."""
+        came = run(given, "draw", *words)
+        self.same(given.decode(), (came.status, came.message), (0, b""))
+        return ElementTree.fromstring(came.output if harness.compares else b"<svg/>")
+
+    def labels(self, root):
+        """The labels of the calls, up to their replies."""
+        return [text.text for group in root.iter(SVG + "g") if group.get("class") == "b" for text in group.iter(SVG + "text")]
 
     def test_the_given_schedule(self):
-        for given in (traces.PIECES, *traces.MET):
+        """All pieces are drawn; call numbers begin again, and so do those of commits."""
+        root = self.drawn(IN_PIECES)
+        if harness.compares:
+            orders = [group.find(SVG + "title").text.split("\n")[2].split(",")[0] for group in root.iter(SVG + "g") if group.get("class") == "call"]
+            self.same("calls, dots and checkpoints", counts(root), (8, 6, 2, 2))
+            self.same("the numbers of calls", sorted(label.split(" ")[0] for label in self.labels(root)), ["#1", "#1", "#1", "#2", "#2", "#3", "#3", "#4"])
+            self.same("the numbers of commits", sorted(orders), [f"commit number {number}" for number in (1, 1, 1, 2, 2, 3, 3, 4)])
+            told = "8 calls on 3 threads, 2 commits given by another call, 2 checkpoints"
+            self.same("what it tells", [root.find(SVG + "title").text, root.find(SVG + "desc").text.split(".")[0]], [f"AtomFS: {told}", told])
+
+    def test_what_a_line_tells(self):
+        root = self.drawn(traces.PIECES)
+        if harness.compares:
+            told = ["".join(group.itertext()) for group in root.iter(SVG + "g") if group.get("class") == "checkpoint"]
+            self.same("its tooltip and its word", told, ["the journal begins again here, and the next call is #1checkpoint"] * 2)
+
+    def test_calls_under_way(self):
+        for given, call in traces.MET:
             for more in ((), ("--around", "1")):
-                self.same(given.decode(), run(given, "draw", *more), traces.NOT_SHOWN)
+                self.same(given.decode(), run(given, "draw", *more), harness.Outcome(1, b"", b"atomfs: call %d under way\n" % call))
+
+    def test_around_a_call_of_each_piece(self):
+        """A number is that of a call of each piece which has so many; the checkpoints between what is drawn are drawn."""
+        rows = ((IN_PIECES, "1", 5, 2), (IN_PIECES, "3", 6, 1), (IN_PIECES, "4", 3, 0), (MANY_PIECES, "1", 12, 11))
+        for given, number, calls, checkpoints in rows:
+            root = self.drawn(given, "--around", number)
+            if harness.compares:
+                self.same(f"{given.decode()}--around {number}", (counts(root)[0], counts(root)[3]), (calls, checkpoints))
+        self.same("--around 5", run(IN_PIECES, "draw", "--around", "5"), harness.Outcome(2, b"", b"atomfs: there is no call 5\n"))
+
+    def test_pieces_without_the_number(self):
+        """Each checkpoint between two calls that are drawn has its line, also where the piece between has no such call."""
+        given = b"atomfs 1\nthread t\nmkdir /a\nmkdir /b\nmkdir /c\nmkdir /d\nmkdir /e\nschedule\nt*10 !checkpoint t*5 !checkpoint t*10\n"
+        root = self.drawn(given, "--around", "2")
+        if harness.compares:
+            self.same(given.decode(), (counts(root), self.labels(root)), ((2, 2, 0, 2), ["#2 mkdir /b \u2192 ok", "#2 mkdir /e \u2192 ok"]))
+
+    def test_rows(self):
+        """A checkpoint before a call that stands in the next row stands there too: in each row but for the last a call is behind the last line."""
+        root = self.drawn(MANY_PIECES)
+        if not harness.compares:
+            return
+        lines = [re.match(r"M(\d+) (\d+)V(\d+)", group.find(SVG + "path").get("d")) for group in root.iter(SVG + "g") if group.get("class") == "checkpoint"]
+        bars = [re.match(r"M(\d+) (\d+)", group.find(SVG + "path").get("d")) for group in root.iter(SVG + "g") if group.get("class") == "call"]
+        rows = sorted({(int(line[2]), int(line[3])) for line in lines})
+        self.same("its rows", len(rows), 2)
+        for top, bottom in rows:
+            last = max(int(line[1]) for line in lines if int(line[2]) == top)
+            behind = [bar[0] for bar in bars if top < int(bar[2]) < bottom and int(bar[1]) > last]
+            self.same(f"what is behind the last line from {top} to {bottom}", len(behind), int(bottom < rows[-1][1]))
+        first = min(int(line[1]) for line in lines if int(line[2]) == rows[1][0])
+        self.same("what is before the first line of the second row", [bar[0] for bar in bars if int(bar[2]) > rows[1][0] and int(bar[1]) < first], [])
 
     def test_other_schedules(self):
         for schedule in (("--robin",), ("--seed", "7")):
@@ -196,7 +302,7 @@ class Rendered(Case):
         harness.takes_a_process()
         if not CHROMIUM:
             self.skipTest("pictures are rendered where Chromium is installed")
-        self.each([*STORED, *LARGE[:1], LARGE[2]], self.look)
+        self.each([*STORED, LARGE[0], *LARGE[2:]], self.look)
 
 
 if __name__ == "__main__":

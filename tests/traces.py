@@ -1,7 +1,8 @@
 """Traces of runs, and the scripts that `atomfs schedule` writes: the words of each event, and that a written schedule is the run again.
 
 tests/data/traces has the trace of each worked script by its own schedule. Each event of a trace is looked at beside what the library answers at it, and the
-paths beside the tree that the library has then. Which events are told is worked out here once more, from a trace of every one.
+paths beside the tree that the library has then. Which events are told is worked out here once more, from a trace of every one. Behind a checkpoint the
+numbers of calls begin again, and those of events go on.
 """
 import ctypes
 import random
@@ -11,13 +12,15 @@ import unittest
 import drawn
 import events
 import harness
-from harness import DATA, ROOT, Case, Outcome, atomfs, library, run
+from harness import DATA, Case, Outcome, atomfs, library, run
 from worked import EXAMPLES, RUNS, examples
 
 TRACES = DATA / "traces"
 # Drawn runs whose schedule is written and run, and drawn runs whose events are compared with the library's.
 SEEDS = 1_000
 DRAWN = 60
+# Drawn runs in pieces of which the same is compared.
+DRAWN_PIECES = 40
 PATH = r"/(?:[!-\$&-.0-~]|%[0-9A-F]{2}|/)*"
 WHO = r"([a-z][a-z0-9_]*)#([1-9][0-9]*)"
 ERRNO = "ENOENT|ENOTDIR|EEXIST|ENOTEMPTY|EISDIR|EINVAL|EBUSY|EPERM|ENOSPC|EFBIG"
@@ -34,11 +37,18 @@ WHAT = {
 }
 EVENT = re.compile(rf"([1-9][0-9]*) (?:{WHO} (.*)|([a-z][a-z0-9_]*) has nothing left)")
 LEFT = re.compile(rf"left (?:{WHO}|([a-z][a-z0-9_]*) unbegun) (.+)")
-# Its own schedule comes to a checkpoint, where no call is under way.
+CHECKPOINT = "checkpoint, the next call is #1"
+# Its own schedule comes to two checkpoints, where no call is under way.
 PIECES = b"atomfs 1\nthread m\nmkdir /a\nmkdir /a/d\nthread r\nmknod /x\nschedule\nm*5 !checkpoint m*7 !checkpoint finish\n"
-# The same where one is, and where nothing is done at all.
-MET = b"atomfs 1\nthread m\nmkdir /a\nschedule\nm*2 !checkpoint finish\n", b"atomfs 1\nschedule\n!checkpoint\n"
-NOT_SHOWN = Outcome(3, b"", b"atomfs: a run with a checkpoint is not shown\n")
+# The same where nothing is done at all, and where checkpoints stand before the first event, at one place and behind the last one.
+NOTHING = b"atomfs 1\nschedule\n!checkpoint\n"
+AT_THE_ENDS = b"atomfs 1\nthread t\nmkdir /a\nschedule\n!checkpoint !checkpoint t*7 !checkpoint !checkpoint !checkpoint\n"
+# The same where calls are under way, of which the least number is told.
+MET = (
+    (b"atomfs 1\nthread m\nmkdir /a\nschedule\nm*2 !checkpoint finish\n", 1),
+    (PIECES.replace(b"m*7", b"r m*3"), 1),
+    (PIECES.replace(b"m*7", b"r*3 m*3 r*2"), 2),
+)
 # Two calls are under way, and others have not begun.
 CUT = b"atomfs 1\nthread m\nmkdir /a\nmkdir /a/d\nthread r\nmknod /x\nstat /a\nthread w\nmkdir /q\nschedule\nm*4 r*3\n"
 
@@ -70,21 +80,40 @@ class Trace:
         self.threads = [line.removeprefix("thread ") for line in lines[1:] if line.startswith("thread ")]
         lines = lines[1 + len(self.threads) :]
         self.left = [line for line in lines if LEFT.fullmatch(line)]
-        self.events = [Event(line) for line in lines[: len(lines) - len(self.left)]]
+        # Events, and the lines of checkpoints between.
+        self.moments = [line if line == CHECKPOINT else Event(line) for line in lines[: len(lines) - len(self.left)]]
+        self.events = [moment for moment in self.moments if moment != CHECKPOINT]
         self.end = f"tree\n{rest}"
 
+    def lines(self):
+        return [moment if moment == CHECKPOINT else moment.line for moment in self.moments]
 
-def without_repetitions(told):
+
+def without_repetitions(moments):
     """The lines of a trace that is not told to show every event: no idle turns, and no wait for whom its thread waited in its last event. Of one call such
     waits are for one node, whose path may have changed."""
     last, kept = {}, []
-    for event in told:
+    for event in moments:
+        if event == CHECKPOINT:
+            kept.append(event)
+            continue
         waits = event.says[1:] if event.did == "busy" else None
         repeats = waits and last.get(event.thread) == waits
         last[event.thread] = waits
         if event.did != "idle" and not repeats:
             kept.append(event.line)
     return kept
+
+
+def begun(moments):
+    """The numbers of the calls that begin, piece by piece."""
+    pieces = [[]]
+    for moment in moments:
+        if moment == CHECKPOINT:
+            pieces.append([])
+        elif moment.did == "begun":
+            pieces[-1].append(moment.call)
+    return pieces
 
 
 def words(*more):
@@ -95,6 +124,28 @@ def script_of(number):
     """A drawn script of calls that meet, with renames and exchanges above them."""
     draw = random.Random(number)
     return drawn.script(drawn.exchanging(draw) if number % 3 == 0 else drawn.moving(draw)).encode()
+
+
+def in_pieces(tree_library, number):
+    """A drawn script of calls that meet, and a drawn schedule with two to four checkpoints: before each the calls under way go on to their returns."""
+    draw = random.Random(f"pieces {number}")
+    threads = drawn.exchanging(draw) if number % 3 == 0 else drawn.moving(draw)
+    given = []
+    with atomfs.Tree(tree_library, 1_048_576) as tree:
+        ran = events.Run(tree, threads)
+
+        def event(seat):
+            ran.event(seat)
+            given.append(f"t{seat}")
+
+        for _ in range(draw.randint(2, 4)):
+            for _ in range(draw.randint(0, 150)):
+                if ran.live:
+                    event(draw.choice(sorted(ran.live)))
+            while ran.under_way:
+                event(draw.choice(sorted(ran.under_way)))
+            given.append("!checkpoint")
+    return drawn.script(threads, " ".join([*given, "finish"])).encode()
 
 
 def calls_of(script):
@@ -112,9 +163,16 @@ class Stored(Case):
     """The trace of each worked script is stored."""
 
     def look(self, example, script):
-        stored = TRACES / f"{example.name}.trace"
         cut = (RUNS / f"{example.name}.status").exists()
-        self.same(script.decode(errors="backslashreplace"), run(script, *words()), Outcome(int(cut), stored.read_bytes() if stored.exists() else b""))
+        self.told(script, (TRACES / f"{example.name}.trace"), int(cut))
+
+    def told(self, script, stored, status, *more):
+        wanted = Outcome(status, stored.read_bytes() if stored.exists() else b"")
+        self.same(script.decode(errors="backslashreplace"), run(script, *words(*more)), wanted)
+
+    def test_every_event_of_a_run_in_pieces(self):
+        """With idle turns and repeated waits, and the lines of checkpoints between."""
+        self.told((RUNS / "in_pieces.script").read_bytes(), TRACES / "in_pieces.every.trace", 0, "--every")
 
     def test_worked_scripts(self):
         rows = [(path.name, path, script) for folder in (RUNS, EXAMPLES) for path, script in examples(folder, "script")]
@@ -122,7 +180,7 @@ class Stored(Case):
 
     def test_each_is_of_a_script(self):
         scripts = {path.name for folder in (RUNS, EXAMPLES) for path, _ in examples(folder, "script")}
-        self.same("the traces that are of no script", sorted(path.stem for path in TRACES.iterdir() if path.stem not in scripts), [])
+        self.same("the traces that are of no script", sorted(path.name for path in TRACES.iterdir() if path.name.split(".")[0] not in scripts), [])
 
 
 class Words(Case):
@@ -135,7 +193,8 @@ class Words(Case):
         given = script.decode(errors="backslashreplace")
         told, told_short = Trace(every.output), Trace(short.output)
         self.same(given, [event.number for event in told.events], list(range(1, len(told.events) + 1)))
-        self.same(given, [event.line for event in told_short.events], without_repetitions(told.events))
+        self.same(given, told_short.lines(), without_repetitions(told.moments))
+        self.same(given, [list(range(1, len(piece) + 1)) for piece in begun(told.moments)], begun(told.moments))
         self.same(given, (told.end, every.status, told_short.end, told_short.left), (ran.output.decode()[-len(told.end) :], ran.status, told.end, told.left))
         self.same(given, ran.output.decode().count("\ntree\n"), 1)
         self.same(given, len(told.end), len(ran.output.decode().split("\ntree\n", 1)[1]) + len("tree\n"))
@@ -173,15 +232,35 @@ def moved(path, old, new):
 
 
 class Checkpoints(Case):
-    """A run that comes to a checkpoint has no trace; where the words of the script are not used, all is as without the word."""
+    """A checkpoint has a line, and where calls are under way there is no trace; where the words of the script are not used, all is as without the word."""
 
-    def test_the_given_schedule(self):
-        for given in (PIECES, *MET):
+    def told(self, given, *lines):
+        for more in ((), ("--every",)):
+            self.same(given.decode(), run(given, *words(*more)), Outcome(0, "".join(f"{line}\n" for line in ("atomfs-trace 1", *lines)).encode()))
+
+    def test_without_events(self):
+        self.told(NOTHING, CHECKPOINT, "tree", "dir /", "begun 0 committed 0 returned 0")
+
+    def test_at_the_ends(self):
+        """Before the first event, several at one place, and behind the last event; the last line counts the last piece."""
+        given = AT_THE_ENDS.replace(b"t*7", b"t*5")
+        lines = "1 t#1 begins mkdir /a", "2 t#1 takes /", "3 t#1 commits, adds /a", "4 t#1 lets / go", "5 t#1 returns ok"
+        self.told(given, "thread t", *[CHECKPOINT] * 2, *lines, *[CHECKPOINT] * 3, "tree", "dir /", "dir /a", "begun 0 committed 0 returned 0")
+
+    def test_calls_left(self):
+        """The numbers of those that have begun are those of the last piece."""
+        told = run(PIECES.replace(b"!checkpoint finish", b"!checkpoint r*2"), *words())
+        if harness.compares:
+            self.same(PIECES.decode(), (told.status, Trace(told.output).left), (1, ["left r#1 mknod /x"]))
+
+    def test_calls_under_way(self):
+        for given, call in MET:
             for more in ((), ("--every",)):
-                self.same(given.decode(), run(given, *words(*more)), NOT_SHOWN)
+                self.same(given.decode(), run(given, *words(*more)), Outcome(1, b"", b"atomfs: call %d under way\n" % call))
+            self.same(given.decode(), run(given, "run"), Outcome(1, b"", b"atomfs: call %d under way\n" % call))
 
     def test_other_schedules(self):
-        for given in (PIECES, *MET):
+        for given in (PIECES, NOTHING, MET[0][0]):
             plain = given.replace(b"!checkpoint ", b"").replace(b"!checkpoint", b"")
             for schedule in (("--robin",), ("--seed", "7")):
                 for asked in (words(), words("--every"), ("schedule",)):
@@ -191,7 +270,7 @@ class Checkpoints(Case):
 
     def test_a_written_schedule(self):
         harness.takes_a_process()
-        for given in (PIECES, *MET):
+        for given in (PIECES, NOTHING, MET[0][0]):
             for schedule in (("--robin",), ("--seed", "7")):
                 written = run(given, "schedule", *schedule)
                 self.same(given.decode(), run(written.output, "run"), run(given, "run", *schedule))
@@ -206,7 +285,12 @@ class OnTheLibrary(Case):
         names, did, about = {}, ctypes.c_uint8(), ctypes.c_uint64()
         left = {name: list(calls[name])[::-1] for name in told.threads}
         begun = 0
-        for event in told.events:
+        for event in told.moments:
+            if event == CHECKPOINT:
+                # The library refuses it where a call is under way.
+                tree.checkpoint()
+                begun = 0
+                continue
             before = tree_paths(tree.tree().decode())
             if event.did == "idle":
                 if left[event.thread]:
@@ -288,6 +372,11 @@ class OnTheLibrary(Case):
         library()
         rows = [(f"script_{number}_{order}", script_of(number), "--seed", str(number)) for number in range(DRAWN) for order in ("seed",)]
         self.each(rows, self.look)
+
+    def test_drawn_pieces(self):
+        """Scripts whose own schedule is drawn, with checkpoints where no call is under way."""
+        tree_library = library()
+        self.each(((f"script_{number}", in_pieces(tree_library, number)) for number in range(DRAWN_PIECES)), self.look)
 
 
 class Schedules(Case):

@@ -52,7 +52,7 @@ fn answer_each<T: Threads + Wait + Clock + Sync>(rt: &HostRuntime, threads: &T) 
         words[0] = "atomfs";
         let mut output = Vec::new(alloc);
         let mut errors = Vec::new(alloc);
-        let status = status_of_args(threads, alloc, words.as_slice(), &rest[..size], &mut output, &mut errors);
+        let status = status_of_args(threads, alloc, words.as_slice(), &rest[..size], &mut output, &mut errors, None);
         writeln!(answers, "{} {} {}", status, output.len(), errors.len()).ok()?;
         answers.write_all(output.as_slice()).ok()?;
         answers.write_all(errors.as_slice()).ok()?;

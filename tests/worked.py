@@ -15,7 +15,7 @@ from harness import DATA, ROOT, Case, Outcome, atomfs, library, run, told
 RUNS, JOURNALS, FAULTS, EXAMPLES = (*(DATA / "worked" / folder for folder in ("runs", "journals", "faults")), ROOT / "examples")
 # How many inputs a folder has, and what stands behind the name of one.
 FOLDERS = (
-    ("runs", RUNS, 46, ("script", "text", "robin.text", "drawn.text", "status")),
+    ("runs", RUNS, 47, ("script", "text", "robin.text", "drawn.text", "status")),
     ("journals", JOURNALS, 14, ("journal", "verdict", "status")),
     ("faults", FAULTS, 44, ("script", "journal", "message", "status")),
 )

@@ -13,18 +13,17 @@ ghost use Rattle.fs_command.specs.Commands.{IsWithin};
 mod tests;
 
 use fs_command::{
-    Line, SharedLine, Subcommand, Topic, explanation, parse, report, report_draw, report_trace,
+    Line, SharedLine, Subcommand, Topic, explanation, parse, report, report_draw, report_schedule,
     status_of_run, status_of_unreadable_args, status_of_usage, status_of_verdict,
 };
 use fs_draw::{DrawFault, draw_input};
-use fs_record::TraceFault;
 use fs_sched::{
     Device, Progress, RunFault, Schedule, Silent, Sink, Source, check_journal, run_script,
     run_seeds, write_text,
 };
 use fs_share::Open;
 use fs_threads::{ThreadsFault, Watch, run_threads};
-use fs_trace::{schedule_script, trace_script};
+use fs_trace::{ScheduleFault, schedule_script, trace_script};
 use std::alloc::Global;
 use std::convert::AsStr;
 use std::io::{IsTerminal, Read, Stderr, Write};
@@ -104,7 +103,7 @@ fn trace<R: Source, W: Sink>(
     writer: &mut W,
     schedule: Schedule,
     every: bool,
-) -> Result<u8, TraceFault>
+) -> Result<u8, RunFault>
     requires reads { R.failures reader.old < 2 ^ 64 - 1 }
     requires writes { W.failures writer.old < 2 ^ 64 - 1 }
 {
@@ -137,7 +136,7 @@ fn schedule<R: Source, W: Sink>(
     reader: &mut R,
     writer: &mut W,
     schedule: Schedule,
-) -> Result<u8, TraceFault>
+) -> Result<u8, ScheduleFault>
     requires reads { R.failures reader.old < 2 ^ 64 - 1 }
     requires writes { W.failures writer.old < 2 ^ 64 - 1 }
 {
@@ -249,14 +248,12 @@ fn perform<T: Threads + Wait + Clock + Sync, R: Source, W: Sink, E: Write>(
         }
         Subcommand::Check => check(alloc, reader, writer),
         Subcommand::Explain(first, second) => explain(alloc, writer, *first, *second),
-        Subcommand::Trace(order, every) => {
-            return report_trace(errors, trace(alloc, reader, writer, *order, *every));
-        }
+        Subcommand::Trace(order, every) => trace(alloc, reader, writer, *order, *every),
         Subcommand::Draw(order, call) => {
             return report_draw(errors, draw(alloc, reader, writer, *order, *call));
         }
         Subcommand::Schedule(order) => {
-            return report_trace(errors, schedule(alloc, reader, writer, *order));
+            return report_schedule(errors, schedule(alloc, reader, writer, *order));
         }
         Subcommand::Threads => {
             return report(errors, threads_shown(rt, alloc, reader, writer, terminal));

@@ -6,8 +6,8 @@ use Rattle.fs_threads.specs.declared.fault.ThreadsFault.{ThreadsFault}
 use Rattle.fs_threads.specs.declared.fault.ThreadsFault.TheVariants.{Run, Lists}
 use Rattle.fs_draw.specs.Faults.{status_of_draw}
 use Rattle.fs_draw.specs.declared.fault.DrawFault.{DrawFault}
-use Rattle.fs_record.specs.Faults.{status_of_trace}
-use Rattle.fs_record.specs.declared.fault.TraceFault.{TraceFault}
+use Rattle.fs_trace.specs.Faults.{status_of_schedule}
+use Rattle.fs_trace.specs.declared.fault.ScheduleFault.{ScheduleFault}
 
 -- the status that a command came to, or that of its fault: 4 where there was no worker
 abbrev pub status_of : Result ℕ ThreadsFault → ℕ
@@ -15,10 +15,10 @@ status_of (Ok status) = status
 status_of (Err (Run fault)) = status_of_fault fault
 status_of (Err (Lists fault)) = 4
 
--- the same of a trace or a schedule
-abbrev pub status_of_traced : Result ℕ TraceFault → ℕ
-status_of_traced (Ok status) = status
-status_of_traced (Err fault) = status_of_trace fault
+-- the same of a schedule that is written
+abbrev pub status_of_scheduled : Result ℕ ScheduleFault → ℕ
+status_of_scheduled (Ok status) = status
+status_of_scheduled (Err fault) = status_of_schedule fault
 
 -- the same of a picture
 abbrev pub status_of_drawn : Result ℕ DrawFault → ℕ

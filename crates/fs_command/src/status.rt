@@ -3,14 +3,14 @@
 ghost use Rattle.std.specs.Prelude.{◌≡◌, ◌≢◌, ◌⊎◌};
 ghost use Rattle.std.specs.IoError.{error_kind};
 ghost use Rattle.clap.specs.Values.{kind_of};
-ghost use Rattle.fs_command.specs.Statuses.{status_of, status_of_drawn, status_of_run, status_of_traced, status_of_verdict};
+ghost use Rattle.fs_command.specs.Statuses.{status_of, status_of_drawn, status_of_run, status_of_scheduled, status_of_verdict};
 
 use clap::Error;
 use clap::error::ErrorKind;
 use fs_draw::DrawFault;
-use fs_record::TraceFault;
 use fs_sched::{RunEnd, RunFault};
 use fs_threads::ThreadsFault;
+use fs_trace::ScheduleFault;
 use std::io::{self, ErrorKind as IoErrorKind, Write};
 
 /// The status after a run: success where every call of the script returned.
@@ -43,9 +43,9 @@ pub fn report<E: Write>(errors: &mut E, outcome: Result<u8, ThreadsFault>) -> u8
     }
 }
 
-/// The status that a trace or a schedule came to, or that of its fault, whose message is written.
-pub fn report_trace<E: Write>(errors: &mut E, outcome: Result<u8, TraceFault>) -> u8
-    ensures { result ≡ status_of_traced outcome }
+/// The status that a schedule which is written came to, or that of its fault, whose message is written.
+pub fn report_schedule<E: Write>(errors: &mut E, outcome: Result<u8, ScheduleFault>) -> u8
+    ensures { result ≡ status_of_scheduled outcome }
 {
     let fault = match outcome {
         Ok(status) => return status,

@@ -1,5 +1,5 @@
 -- Why there is no picture, and what is said of the input by what was read of it.
-use Rattle.std.proofs.Common.{◌≡◌, ◌≢◌, ℕ, ◌≤◌, ◌⊎◌, inl, inr, ⊎_elim, Bool, List, length, Option, Some, None, Err, refl, ap, sym, ◌∙◌}
+use Rattle.std.proofs.Common.{◌≡◌, ◌≢◌, ℕ, ◌≤◌, ◌⊎◌, inl, inr, ⊎_elim, Bool, List, length, Option, Some, None, Err, refl, ap, sym}
 use Rattle.std.specs.Prelude.{IfSome, ◌==◌}
 use Rattle.fs_words.specs.declared.fault.ScriptFault.{ScriptFault}
 use Rattle.fs_io.specs.declared.failure.Failure.{Failure}
@@ -7,24 +7,19 @@ use Rattle.fs_io.specs.declared.failure.Failure.TheVariants as failure
 use Rattle.fs_script.specs.Journals.{journal_of}
 use Rattle.fs_script.specs.Script.{script_of}
 use Rattle.fs_script.specs.declared.script.Script.{Script}
-use Rattle.fs_core.specs.CoreValues.{state_of}
-use Rattle.fs_machine.specs.States.{State}
 use Rattle.fs_sched.specs.Checks.{judged, verdict_of}
-use Rattle.fs_sched.specs.Runs.{end_of}
-use Rattle.fs_sched.specs.declared.running.RunEnd.{RunEnd}
 use Rattle.fs_sched.specs.Devices.{IsFaultOf, IsSameText}
-use Rattle.fs_sched.specs.declared.fault.RunFault.{RunFault}
-use Rattle.fs_sched.specs.declared.fault.RunFault.TheVariants as run
+use Rattle.fs_verdict.specs.declared.fault.RunFault.{RunFault}
+use Rattle.fs_verdict.specs.declared.fault.RunFault.TheVariants as run
 use Rattle.fs_sched.specs.declared.schedule.Schedule.{Schedule}
-use Rattle.fs_sched.proofs.CheckLemmas.{known_verdict, verdict_short}
+use Rattle.fs_verdict.proofs.CheckLemmas.{known_verdict, verdict_short}
 use Rattle.fs_sched.proofs.RunLemmas.{known_script, script_short}
-use Rattle.fs_record.specs.declared.fault.TraceFault.TheVariants as trace
 use Rattle.fs_record.specs.Recordings.{IsRecorded}
 use Rattle.fs_record.specs.declared.recorder.Recording.{Recording}
 use Rattle.fs_draw.specs.Faults.{fault_between}
 use Rattle.fs_draw.specs.Pictures.{IsOfRun, IsPictureOf, has_returned}
 use Rattle.fs_draw.specs.declared.fault.DrawFault.{DrawFault}
-use Rattle.fs_draw.specs.declared.fault.DrawFault.TheVariants.{Trace, NoCall}
+use Rattle.fs_draw.specs.declared.fault.DrawFault.TheVariants.{Run, NoCall}
 
 -- there is no journal, and so no verdict on one
 pub of_journal : (input : List ℕ) (fault : RunFault) → IsFaultOf (journal_of input) fault → IsFaultOf (verdict_of input) fault
@@ -36,8 +31,8 @@ of_journal input run.Full is = is
 of_journal input (run.UnderWay c) is = is
 
 -- a run that was recorded is drawn, and the answer is whether each call returned
-pub run_drawn : (schedule : Schedule) (text : List ℕ) (script : Script) (recording : Recording) (end : RunEnd) → IsRecorded schedule text script recording → end ≡ end_of script (state_of recording.core).timeline → IsOfRun schedule text (end.returned == end.calls)
-run_drawn schedule text script recording end (is, last, state, tells) e = (script, is, recording.told.items, last, tells, ap has_returned (e ∙ ap (λ (s : State). end_of script s.timeline) (sym state)))
+pub run_drawn : (schedule : Schedule) (text : List ℕ) (script : Script) (recording : Recording) → IsRecorded schedule text script recording → IsOfRun schedule text (recording.end.returned == recording.end.calls)
+run_drawn schedule text script recording (is, recorded) = (script, is, recording.moments.items, recorded.last, recorded.tells, ap has_returned recorded.end)
 
 -- what has a picture is not too long
 pub picture_short : (schedule : Schedule) (text items out : List ℕ) (well : Bool) → text ≡ items → IsPictureOf schedule text well out → length items ≤ 16777216
@@ -51,18 +46,18 @@ known_fault (Some input) text items f e s is = ⊎_elim (λ script. inl (known_s
 -- ---- between a reader and a writer
 
 -- a fault of the input is why no picture was made
-pub of_input : (g : Failure DrawFault) (f : ScriptFault) → Trace (trace.Run (run.Input f)) ≡ fault_between g → g ≡ failure.Unmade (Trace (trace.Run (run.Input f)))
+pub of_input : (g : Failure DrawFault) (f : ScriptFault) → Run (run.Input f) ≡ fault_between g → g ≡ failure.Unmade (Run (run.Input f))
 of_input failure.Read f e = absurd (cc)
 of_input failure.Write f e = absurd (cc)
 of_input failure.OutOfMemory f e = absurd (cc)
 of_input (failure.Unmade h) f e = ap failure.Unmade (sym e)
 
--- so is a checkpoint
-pub of_checkpoint : (g : Failure DrawFault) → Trace trace.Checkpoint ≡ fault_between g → g ≡ failure.Unmade (Trace trace.Checkpoint)
-of_checkpoint failure.Read e = absurd (cc)
-of_checkpoint failure.Write e = absurd (cc)
-of_checkpoint failure.OutOfMemory e = absurd (cc)
-of_checkpoint (failure.Unmade h) e = ap failure.Unmade (sym e)
+-- so is a checkpoint while calls are under way
+pub of_under_way : (g : Failure DrawFault) (c : ℕ) → Run (run.UnderWay c) ≡ fault_between g → g ≡ failure.Unmade (Run (run.UnderWay c))
+of_under_way failure.Read c e = absurd (cc)
+of_under_way failure.Write c e = absurd (cc)
+of_under_way failure.OutOfMemory c e = absurd (cc)
+of_under_way (failure.Unmade h) c e = ap failure.Unmade (sym e)
 
 -- and a call that is not there
 pub of_no_call : (g : Failure DrawFault) (number : ℕ) → NoCall number ≡ fault_between g → g ≡ failure.Unmade (NoCall number)
@@ -72,14 +67,14 @@ of_no_call failure.OutOfMemory number e = absurd (cc)
 of_no_call (failure.Unmade h) number e = ap failure.Unmade (sym e)
 
 -- the reader failed, where what makes a picture does not blame it
-pub of_read : (g : Failure DrawFault) → ((f : DrawFault) → g ≡ failure.Unmade f → f ≢ Trace (trace.Run run.Read)) → Trace (trace.Run run.Read) ≡ fault_between g → g ≡ failure.Read
+pub of_read : (g : Failure DrawFault) → ((f : DrawFault) → g ≡ failure.Unmade f → f ≢ Run run.Read) → Run run.Read ≡ fault_between g → g ≡ failure.Read
 of_read failure.Read never e = refl
 of_read failure.Write never e = absurd (cc)
 of_read failure.OutOfMemory never e = absurd (cc)
 of_read (failure.Unmade h) never e = absurd (never h refl (sym e))
 
 -- the writer failed, where what makes a picture does not blame it
-pub of_write : (g : Failure DrawFault) → ((f : DrawFault) → g ≡ failure.Unmade f → f ≢ Trace (trace.Run run.Write)) → Trace (trace.Run run.Write) ≡ fault_between g → g ≡ failure.Write
+pub of_write : (g : Failure DrawFault) → ((f : DrawFault) → g ≡ failure.Unmade f → f ≢ Run run.Write) → Run run.Write ≡ fault_between g → g ≡ failure.Write
 of_write failure.Read never e = absurd (cc)
 of_write failure.Write never e = refl
 of_write failure.OutOfMemory never e = absurd (cc)

@@ -7,17 +7,17 @@ use Rattle.fs_sched.specs.Checks.{is_lawful, verdict_of}
 use Rattle.fs_sched.specs.Runs.{Stage, end_of}
 use Rattle.fs_sched.specs.declared.running.RunEnd.{RunEnd}
 use Rattle.fs_sched.specs.declared.schedule.Schedule.{Schedule}
-use Rattle.fs_record.specs.Answers.{TellsRun}
-use Rattle.fs_record.specs.declared.told.Told.{Told}
+use Rattle.fs_record.specs.Answers.{TellsRun, entries_told}
+use Rattle.fs_record.specs.declared.told.Moment.{Moment}
 
 -- whether each call of a script returned
 abbrev pub has_returned : RunEnd → Bool
 has_returned end = end.returned == end.calls
 
--- a run of the script that an input has went well where each call returned
+-- a run of the script that an input has went well where each call returned, in whichever piece
 abbrev pub IsOfRun : Schedule → List ℕ → Bool → Type 0
 IsOfRun schedule input well =
-    (script : Script) × (script_of input ≡ Ok script) × (told : List Told) × (last : Stage) × TellsRun schedule script told last × (well ≡ has_returned (end_of script last.state.timeline))
+    (script : Script) × (script_of input ≡ Ok script) × (ms : List Moment) × (last : Stage) × TellsRun schedule script ms last × (well ≡ has_returned (end_of script (entries_told ms ++ last.state.timeline)))
 
 -- a journal that an input has went well where it is lawful
 abbrev pub IsOfJournal : List ℕ → Bool → Type 0

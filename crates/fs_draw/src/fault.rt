@@ -4,28 +4,27 @@ ghost use Rattle.std.specs.Prelude.{◌≡◌};
 ghost use Rattle.fs_draw.specs.Faults.{fault_between, status_of_draw};
 
 use fs_io::Failure;
-use fs_record::TraceFault;
 use fs_sched::RunFault;
 use thiserror::Error;
 
 /// Why no picture was written.
 #[derive(Clone, Copy, Debug, PartialEq, Eq, Error)]
 pub enum DrawFault {
-    /// The input is no script and no journal, the run comes to a checkpoint, a device failed, or memory ran out.
+    /// The input is no script and no journal, the run has no end, a device failed, or memory ran out.
     #[error("{0}")]
-    Trace(TraceFault),
+    Run(RunFault),
     /// No call has the number around which is to be drawn.
     #[error("there is no call {0}")]
     NoCall(u64),
 }
 
 impl DrawFault {
-    /// The status of a program that this fault ended: 2 where no call has the number, else that of the trace.
+    /// The status of a program that this fault ended: 2 where no call has the number, else that of the run.
     pub fn status(&self) -> u8
         ensures { result ≡ status_of_draw self.now }
     {
         match self {
-            DrawFault::Trace(fault) => fault.status(),
+            DrawFault::Run(fault) => fault.status(),
             DrawFault::NoCall(_) => 2,
         }
     }
@@ -37,9 +36,9 @@ impl From<Failure<DrawFault>> for DrawFault {
 
     fn from(failure: Failure<DrawFault>) -> DrawFault {
         match failure {
-            Failure::Read => DrawFault::Trace(TraceFault::Run(RunFault::Read)),
-            Failure::Write => DrawFault::Trace(TraceFault::Run(RunFault::Write)),
-            Failure::OutOfMemory => DrawFault::Trace(TraceFault::Run(RunFault::OutOfMemory)),
+            Failure::Read => DrawFault::Run(RunFault::Read),
+            Failure::Write => DrawFault::Run(RunFault::Write),
+            Failure::OutOfMemory => DrawFault::Run(RunFault::OutOfMemory),
             Failure::Unmade(fault) => fault,
         }
     }

@@ -81,6 +81,11 @@ pub(crate) fn heading_of(alloc: Global, scene: &Scene) -> Result<Vec<u8>, AllocE
             &mut words,
         )?;
     }
+    let checkpoints = scene.checkpoints.len();
+    if checkpoints > 0 {
+        words.raw(b", ")?;
+        push_count(checkpoints, b" checkpoint", b" checkpoints", &mut words)?;
+    }
     if let Some(fault) = &scene.fault {
         words.raw(b", not lawful: ")?;
         words.raw(fault.words.as_slice())?;
@@ -90,6 +95,7 @@ pub(crate) fn heading_of(alloc: Global, scene: &Scene) -> Result<Vec<u8>, AllocE
 
 /// The head of the file from its first attribute on, up to the heading.
 pub(crate) fn write_head(
+    scene: &Scene,
     width: u64,
     height: u64,
     heading: &[u8],
@@ -108,8 +114,14 @@ pub(crate) fn write_head(
     ink.raw(b"</title>\n<desc id=\"D\">")?;
     ink.words(heading)?;
     ink.raw(
-        b". Time runs from left to right. A bar is a call from its begin to its return; the dot is its commit, and the number beside it is its place in the order of commits.</desc>\n",
+        b". Time runs from left to right. A bar is a call from its begin to its return; the dot is its commit, and the number beside it is its place in the order of commits.",
     )?;
+    if !scene.checkpoints.is_empty() {
+        ink.raw(
+            b" A line across all lanes is a checkpoint: there the journal begins again, and so do the numbers of calls and commits.",
+        )?;
+    }
+    ink.raw(b"</desc>\n")?;
     ink.raw(STYLE)?;
     ink.text_at(b"q", 10, 21, heading)?;
     ink.raw(b"\n")
@@ -127,9 +139,18 @@ const WALKING: Sign = Sign {
     words: b"before its commit",
 };
 
+const DOT: &[u8] =
+    b"<path class=\"w\" d=\"M0 0H8v14H0z\"/><path class=\"f\" d=\"M8 0H26v14H8z\"/><circle class=\"j\" cx=\"8\" cy=\"7\" r=\"4.5\"/><text class=\"m\" x=\"16\" y=\"11\">3</text>";
+
 const COMMIT: Sign = Sign {
-    drawing: b"<path class=\"w\" d=\"M0 0H8v14H0z\"/><path class=\"f\" d=\"M8 0H26v14H8z\"/><circle class=\"j\" cx=\"8\" cy=\"7\" r=\"4.5\"/><text class=\"m\" x=\"16\" y=\"11\">3</text>",
+    drawing: DOT,
     words: b"commit, the third of all",
+};
+
+/// The same where numbers begin again.
+const PIECE_COMMIT: Sign = Sign {
+    drawing: DOT,
+    words: b"commit, the third of its piece",
 };
 
 const DONE: Sign = Sign {
@@ -165,6 +186,11 @@ const WAITING: Sign = Sign {
 const UNRETURNED: Sign = Sign {
     drawing: b"<path class=\"w\" d=\"M16 0H0v14H16\"/><text class=\"o\" x=\"18\" y=\"11\">?</text>",
     words: b"did not return",
+};
+
+const CHECKPOINT: Sign = Sign {
+    drawing: b"<path class=\"j\" d=\"M12 -1V15\"/>",
+    words: b"checkpoint: numbers begin again",
 };
 
 const FAULTY: Sign = Sign {
@@ -212,9 +238,11 @@ fn which_occur(scene: &Scene) -> Occurring {
 fn signs_of(alloc: Global, scene: &Scene) -> Result<Vec<Sign>, AllocError> {
     let occur = which_occur(scene);
     let nodes = scene.shows_nodes();
+    let in_pieces = !scene.checkpoints.is_empty();
     let all = [
         (!scene.cards.is_empty(), WALKING),
-        (occur.commits, COMMIT),
+        (occur.commits && !in_pieces, COMMIT),
+        (occur.commits && in_pieces, PIECE_COMMIT),
         (occur.commits || occur.carries, DONE),
         (occur.gives, ARROWED),
         (occur.gives, HATCHED),
@@ -222,6 +250,7 @@ fn signs_of(alloc: Global, scene: &Scene) -> Result<Vec<Sign>, AllocError> {
         (occur.holds && nodes, HELD),
         (occur.waits && nodes, WAITING),
         (occur.unreturned, UNRETURNED),
+        (in_pieces, CHECKPOINT),
         (scene.fault.is_some(), FAULTY),
     ];
     let mut signs = Vec::new(alloc);

@@ -69,7 +69,7 @@ fn middle_of(alloc: Global, scene: &Scene) -> Result<Vec<u8>, AllocError> {
         y = write_legend(alloc, scene, frame.width, add(y, ROW_GAP), &mut body)?;
     }
     let mut ink = Ink::new(alloc);
-    write_head(frame.width, add(y, 8), heading.as_slice(), &mut ink)?;
+    write_head(scene, frame.width, add(y, 8), heading.as_slice(), &mut ink)?;
     ink.raw(body.into_text().as_slice())?;
     Ok(ink.into_text())
 }

@@ -3,8 +3,8 @@
 use crate::ink::Ink;
 use crate::tips::write_tip;
 use fs_layout::{
-    Arrow, BAR_HEIGHT, BOX_HEIGHT, Band, Bands, Bar, Dot, Frame, Hold, Part, Piece, Places, Row,
-    add, less, small_width,
+    Arrow, BAR_HEIGHT, BOX_HEIGHT, Band, Bands, Bar, CHECKPOINT, Dot, Frame, Hold, Part, Piece,
+    Places, Row, add, checkpoint_reach, digits, less, small_width,
 };
 use fs_scene::{Card, Scene, label_of, push_cut, push_number};
 use std::alloc::{AllocError, Global};
@@ -21,9 +21,58 @@ pub(crate) struct Canvas<'a> {
 /// The least distance between two numbers of the axis.
 const AXIS_STEP: u64 = 36;
 
+/// Where the words above the checkpoints of a row stand: those that are far enough apart.
+fn words_of(alloc: Global, checkpoints: &[u64]) -> Result<Vec<u64>, AllocError> {
+    let mut words = Vec::new(alloc);
+    let mut free = 0;
+    for x in checkpoints {
+        if *x >= free {
+            words.push(*x)?;
+            free = add(*x, add(checkpoint_reach().saturating_mul(2), 4));
+        }
+    }
+    Ok(words)
+}
+
+/// Whether a number of the axis meets none of these words where it stands.
+fn is_clear(x: u64, number: u64, words: &[u64]) -> bool {
+    let apart = add(checkpoint_reach(), add(small_width(digits(number)) / 2, 4));
+    words
+        .iter()
+        .all(|word| x >= add(*word, apart) || add(x, apart) <= *word)
+}
+
+/// The lines of checkpoints, across all lanes.
+fn write_checkpoints(
+    row: &Row,
+    words: &[u64],
+    bands: &Bands,
+    ink: &mut Ink,
+) -> Result<(), AllocError> {
+    if row.checkpoints.is_empty() {
+        return Ok(());
+    }
+    ink.raw(b"<g class=\"a\">")?;
+    for x in &row.checkpoints {
+        ink.raw(
+            b"<g class=\"checkpoint\"><title>the journal begins again here, and the next call is #1</title>",
+        )?;
+        ink.with(b"<path class=\"j\" d=\"M", *x)?;
+        ink.with(b" ", add(bands.top, 17))?;
+        ink.with(b"V", bands.bottom)?;
+        ink.raw(b"\"/>")?;
+        if words.contains(x) {
+            ink.text_at(b"", *x, add(bands.top, 13), CHECKPOINT)?;
+        }
+        ink.raw(b"</g>")?;
+    }
+    ink.raw(b"</g>\n")
+}
+
 impl<'a> Canvas<'a> {
-    /// Where the numbers of the axis stand: at the first mark of the row, and at multiples of five that are far enough apart.
-    fn axis_of(&self, row: &Row) -> Result<Vec<(u64, u64)>, AllocError> {
+    /// Where the numbers of the axis stand: at the first mark of the row that is clear of these words, and then at multiples of
+    /// five that are far enough apart.
+    fn axis_of(&self, row: &Row, words: &[u64]) -> Result<Vec<(u64, u64)>, AllocError> {
         let mut axis = Vec::new(self.alloc);
         let mut last: Option<u64> = None;
         for at in row.first..row.end {
@@ -35,7 +84,7 @@ impl<'a> Canvas<'a> {
                     None => true,
                     Some(x) => mark.at % 5 == 0 && place.x >= add(x, AXIS_STEP),
                 };
-                if fits {
+                if fits && is_clear(place.x, mark.at, words) {
                     axis.push((place.x, mark.at))?;
                     last = Some(place.x);
                 }
@@ -92,8 +141,10 @@ impl<'a> Canvas<'a> {
         bands: &Bands,
         ink: &mut Ink,
     ) -> Result<(), AllocError> {
-        let axis = self.axis_of(row)?;
+        let words = words_of(self.alloc, row.checkpoints.as_slice())?;
+        let axis = self.axis_of(row, words.as_slice())?;
         self.write_lines(axis.as_slice(), bands, ink)?;
+        write_checkpoints(row, words.as_slice(), bands, ink)?;
         self.write_names(bands, ink)?;
         for piece in &row.pieces {
             if let (Some(card), Some(band)) = (

@@ -6,7 +6,7 @@ ghost use Rattle.fs_words.specs.declared.fault.ScriptFault.{ScriptFault};
 ghost use Rattle.fs_script.specs.Script.{script_of};
 ghost use Rattle.fs_sched.specs.Checks.{verdict_of};
 ghost use Rattle.fs_sched.specs.Devices.{WritesBeginning};
-ghost use Rattle.fs_record.specs.Recordings.{HasCheckpoint};
+ghost use Rattle.fs_sched.specs.Runs.{ReachesStop};
 ghost use Rattle.fs_draw.specs.Faults.{IsFaultOfPicture};
 ghost use Rattle.fs_draw.specs.Pictures.{IsOfJournal, IsOfRun, IsPictureOf};
 ghost use Rattle.fs_draw.specs.code.Mades.{MakesPicture, out_of_memory};
@@ -15,16 +15,16 @@ use crate::fault::DrawFault;
 use crate::picture::picture_of;
 use fs_io::{Made, Sink, Source, transform};
 use fs_journal::check_from;
-use fs_record::{TraceFault, recorded};
+use fs_record::recorded;
 use fs_scene::{Scene, around, scene_of_journal, scene_of_run};
-use fs_sched::{RunFault, Schedule, is_lawful, journal_in, run_end};
+use fs_sched::{RunFault, Schedule, is_lawful, journal_in};
 use std::alloc::{AllocError, Global};
 
 /// The fault where memory ran out.
 fn out_of_memory() -> DrawFault
     ensures { result ≡ out_of_memory }
 {
-    DrawFault::Trace(TraceFault::Run(RunFault::OutOfMemory))
+    DrawFault::Run(RunFault::OutOfMemory)
 }
 
 /// A scene, and whether what it shows went well.
@@ -41,15 +41,14 @@ fn of_script(alloc: Global, text: &[u8], schedule: Schedule) -> Result<Drawing, 
 {
     let (script, recording) = match recorded(alloc, text, schedule) {
         Ok(made) => made,
-        Err(fault) => return Err(DrawFault::Trace(fault)),
+        Err(fault) => return Err(DrawFault::Run(fault)),
     };
-    let end = run_end(&script, recording.core.timeline());
-    let Ok(scene) = scene_of_run(alloc, &script, recording.told.as_slice()) else {
+    let Ok(scene) = scene_of_run(alloc, &script, recording.moments.as_slice()) else {
         return Err(out_of_memory());
     };
     Ok(Drawing {
         scene,
-        well: end.returned == end.calls,
+        well: recording.end.returned == recording.end.calls,
     })
 }
 
@@ -60,7 +59,7 @@ fn of_journal(alloc: Global, text: &[u8]) -> Result<Drawing, DrawFault>
 {
     let journal = match journal_in(alloc, text) {
         Ok(journal) => journal,
-        Err(fault) => return Err(DrawFault::Trace(TraceFault::Run(fault))),
+        Err(fault) => return Err(DrawFault::Run(fault)),
     };
     let Ok(verdict) = check_from(alloc, &journal.start, journal.entries.as_slice()) else {
         return Err(out_of_memory());
@@ -141,17 +140,19 @@ pub fn draw_input<R: Source, W: Sink>(
     // What is written is a picture of a run of the script that was read, or of the journal, and the answer how that went.
     ensures ran { IfOk result (λ well. (text : List ℕ) × IfSome (R.remaining reader.old) (λ input. IsPictureOf schedule input well text) × Appends (W.contents writer.old) (W.contents writer.new) text) }
     ensures end { OnOk result (IsAtEnd (R.remaining reader.new)) }
-    ensures input { (f : ScriptFault) → result ≡ Err (DrawFault.Trace (TraceFault.Run (RunFault.Input f))) → IfSome (R.remaining reader.old) (λ input. (script_of input ≡ Err f) ⊎ (verdict_of input ≡ Err f)) }
-    ensures checkpoint { result ≡ Err (DrawFault.Trace TraceFault.Checkpoint) → IfSome (R.remaining reader.old) (HasCheckpoint schedule) }
+    ensures input { (f : ScriptFault) → result ≡ Err (DrawFault.Run (RunFault.Input f)) → IfSome (R.remaining reader.old) (λ input. (script_of input ≡ Err f) ⊎ (verdict_of input ≡ Err f)) }
     ensures no_call { (number : ℕ) → result ≡ Err (DrawFault.NoCall number) → call ≡ Some number }
 
+    // `UnderWay` comes where the script comes to a checkpoint while calls are under way; then it has no run.
+    ensures under_way { (c : ℕ) → result ≡ Err (DrawFault.Run (RunFault.UnderWay c)) → IfSome (R.remaining reader.old) (λ input. ReachesStop schedule input (RunFault.UnderWay c)) }
+
     // A device is blamed only where it failed in this call.
-    ensures read { IsErrOf result (DrawFault.Trace (TraceFault.Run RunFault.Read)) → R.failures reader.new ≡ R.failures reader.old + 1 }
-    ensures write { IsErrOf result (DrawFault.Trace (TraceFault.Run RunFault.Write)) → W.failures writer.new ≡ W.failures writer.old + 1 }
+    ensures read { IsErrOf result (DrawFault.Run RunFault.Read) → R.failures reader.new ≡ R.failures reader.old + 1 }
+    ensures write { IsErrOf result (DrawFault.Run RunFault.Write) → W.failures writer.new ≡ W.failures writer.old + 1 }
 
     // After a failed write a beginning of the picture stands, and after every other error nothing was written.
-    ensures nothing { result ≢ Err (DrawFault.Trace (TraceFault.Run RunFault.Write)) → OnErr result (writer.new ≡ writer.old) }
-    ensures beginning { IsErrOf result (DrawFault.Trace (TraceFault.Run RunFault.Write)) → (well : Bool) × (text : List ℕ) × IfSome (R.remaining reader.old) (λ input. IsPictureOf schedule input well text) × WritesBeginning text (W.contents writer.old) (W.contents writer.new) }
+    ensures nothing { result ≢ Err (DrawFault.Run RunFault.Write) → OnErr result (writer.new ≡ writer.old) }
+    ensures beginning { IsErrOf result (DrawFault.Run RunFault.Write) → (well : Bool) × (text : List ℕ) × IfSome (R.remaining reader.old) (λ input. IsPictureOf schedule input well text) × WritesBeginning text (W.contents writer.old) (W.contents writer.new) }
 {
     let well = transform(
         alloc,

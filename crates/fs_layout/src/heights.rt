@@ -78,5 +78,9 @@ pub fn bands_of(alloc: Global, scene: &Scene, row: &Row, top: u64) -> Result<Ban
         band.top = bottom;
         bottom = add(bottom, band.height());
     }
+    // A checkpoint is seen although no lane is.
+    if !row.checkpoints.is_empty() {
+        bottom = bottom.max(add(add(top, AXIS_HEIGHT), EMPTY_HEIGHT));
+    }
     Ok(Bands { bands, top, bottom })
 }

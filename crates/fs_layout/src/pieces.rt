@@ -80,11 +80,13 @@ struct Live {
     wait: Option<Hold>,
 }
 
-/// A row: its pieces and arrows, and the places of its marks, from the first on to the one behind the last.
+/// A row: its pieces and arrows, where checkpoints stand, and the places of its marks, from the first on to the one behind the
+/// last.
 #[derive(Drop)]
 pub struct Row {
     pub pieces: Vec<Piece>,
     pub arrows: Vec<Arrow>,
+    pub checkpoints: Vec<u64>,
     pub first: usize,
     pub end: usize,
 }
@@ -95,6 +97,7 @@ pub struct Rows {
     frame: Frame,
     lanes: Vec<Live>,
     next: usize,
+    next_checkpoint: usize,
 }
 
 fn new_piece(alloc: Global, card: usize, lane: usize, from: u64, comes: bool) -> Piece {
@@ -270,6 +273,7 @@ impl Rows {
             frame,
             lanes,
             next: 0,
+            next_checkpoint: 0,
         })
     }
 
@@ -464,6 +468,25 @@ impl Rows {
         Ok(())
     }
 
+    /// Where the checkpoints of the next row stand.
+    fn checkpoints_in(
+        &mut self,
+        alloc: Global,
+        places: &Places,
+        number: usize,
+    ) -> Result<Vec<u64>, AllocError> {
+        let mut found = Vec::new(alloc);
+        for at in self.next_checkpoint..places.checkpoints.len() {
+            let place: Place = places.checkpoints[at];
+            if place.row != number {
+                break;
+            }
+            found.push(place.x)?;
+        }
+        self.next_checkpoint = self.next_checkpoint.saturating_add(found.len());
+        Ok(found)
+    }
+
     /// The next row. Its calls go on to the right end, or where it is the last row, to where that ends.
     pub fn next_row(
         &mut self,
@@ -475,6 +498,7 @@ impl Rows {
         let mut row = Row {
             pieces: Vec::new(alloc),
             arrows: Vec::new(alloc),
+            checkpoints: self.checkpoints_in(alloc, places, number)?,
             first: self.next,
             end: self.next,
         };

@@ -1,10 +1,12 @@
-//! Where the marks stand: in which row, and how far from the left.
+//! Where the marks and the checkpoints stand: in which row, and how far from the left.
 
-use crate::space::{Frame, add, digits, label_width, small_width};
+use crate::space::{
+    CHECKPOINT_ROOM, Frame, add, checkpoint_reach, digits, label_width, less, small_width,
+};
 use fs_scene::{Card, Mark, Scene, What, label_of};
 use std::alloc::{AllocError, Global};
 
-/// The place of a mark.
+/// The place of a mark or of a checkpoint.
 #[derive(Clone, Copy, Debug)]
 pub struct Place {
     pub row: usize,
@@ -35,7 +37,7 @@ struct Lane {
     taken: Vec<Taken>,
 }
 
-/// The places so far.
+/// The places so far: the row, and what stands last in it, if anything does; and the places of checkpoints.
 #[derive(Drop)]
 struct Placing {
     frame: Frame,
@@ -44,12 +46,14 @@ struct Placing {
     lanes: Vec<Lane>,
     row: usize,
     x: Option<u64>,
+    checkpoints: Vec<Place>,
 }
 
-/// The places of marks, how many rows there are, and where the last row ends.
+/// The places of marks and of checkpoints, how many rows there are, and where the last row ends.
 #[derive(Drop)]
 pub struct Places {
     pub marks: Vec<Place>,
+    pub checkpoints: Vec<Place>,
     pub rows: usize,
     pub end: u64,
 }
@@ -127,6 +131,7 @@ impl Placing {
             lanes,
             row: 0,
             x: None,
+            checkpoints: Vec::new(alloc),
         })
     }
 
@@ -167,6 +172,50 @@ impl Placing {
                 None => 0,
             };
             lane.turn(self.frame.left, label);
+        }
+        Ok(())
+    }
+
+    /// Where the next checkpoint stands, if it stands in this row: behind each mark, and each label of a call.
+    fn next_checkpoint(&self) -> u64 {
+        let Some(before) = self.x else {
+            return add(self.frame.left, 10);
+        };
+        let mut reach = before;
+        for lane in &self.lanes {
+            reach = reach.max(lane.label_end);
+        }
+        add(reach, CHECKPOINT_ROOM)
+    }
+
+    /// A checkpoint stands in this row, or in a new one where it does not fit.
+    fn put_checkpoint(&mut self, alloc: Global, scene: &Scene) -> Result<(), AllocError> {
+        let mut x = self.next_checkpoint();
+        if self.x.is_some() && add(x, checkpoint_reach()) > self.frame.right {
+            self.turn(alloc, scene)?;
+            x = self.next_checkpoint();
+        }
+        self.checkpoints.push(Place { row: self.row, x })?;
+        self.x = Some(add(x, less(CHECKPOINT_ROOM, self.step)));
+        Ok(())
+    }
+
+    /// Places so many checkpoints, and behind them a mark that needs so much room, if one stands there. Where both do not fit the
+    /// row they stand in a new one.
+    fn put_checkpoints(
+        &mut self,
+        alloc: Global,
+        scene: &Scene,
+        count: usize,
+        need: u64,
+    ) -> Result<(), AllocError> {
+        let room = (count as u64).saturating_mul(CHECKPOINT_ROOM.saturating_mul(2));
+        let reach = add(add(self.next_checkpoint(), room), need);
+        if count > 0 && self.x.is_some() && reach > self.frame.right {
+            self.turn(alloc, scene)?;
+        }
+        for _ in 0..count {
+            self.put_checkpoint(alloc, scene)?;
         }
         Ok(())
     }
@@ -241,7 +290,19 @@ fn other_card(scene: &Scene, what: What) -> Option<&Card> {
     }
 }
 
-/// Where the next mark stands.
+/// How many of the checkpoints stand before the event of a number, besides so many that are placed.
+fn count_before(scene: &Scene, placed: usize, at: u64) -> usize {
+    let mut count = 0usize;
+    for place in placed..scene.checkpoints.len() {
+        if scene.checkpoints[place] > at {
+            return count;
+        }
+        count = count.saturating_add(1);
+    }
+    count
+}
+
+/// Where the next mark stands. The checkpoints before it are placed first.
 fn place_mark(
     alloc: Global,
     scene: &Scene,
@@ -254,8 +315,10 @@ fn place_mark(
         Some(other) => (Some(other.lane), other.order),
         None => (None, card.order),
     };
-    let mut x = placing.next_x(card.lane, mark.what, other);
     let need = Placing::need(mark.what, label, order);
+    let checkpoints = count_before(scene, placing.checkpoints.len(), mark.at);
+    placing.put_checkpoints(alloc, scene, checkpoints, need)?;
+    let mut x = placing.next_x(card.lane, mark.what, other);
     if placing.x.is_some() && add(x, need) > placing.frame.right {
         placing.turn(alloc, scene)?;
         x = placing.next_x(card.lane, mark.what, other);
@@ -273,7 +336,7 @@ fn place_mark(
     ))
 }
 
-/// The places of all marks of a scene.
+/// The places of all marks and checkpoints of a scene.
 pub fn places_of(alloc: Global, scene: &Scene, frame: Frame) -> Result<Places, AllocError> {
     let mut placing = Placing::new(alloc, scene, frame)?;
     let mut marks = Vec::new(alloc);
@@ -285,8 +348,14 @@ pub fn places_of(alloc: Global, scene: &Scene, frame: Frame) -> Result<Places, A
             end = end.max(reach);
         }
     }
+    let checkpoints = count_before(scene, placing.checkpoints.len(), u64::MAX);
+    placing.put_checkpoints(alloc, scene, checkpoints, 0)?;
+    for place in &placing.checkpoints {
+        end = end.max(add(place.x, CHECKPOINT_ROOM));
+    }
     Ok(Places {
         marks,
+        checkpoints: placing.checkpoints,
         rows: placing.row.saturating_add(1),
         end,
     })

@@ -20,6 +20,12 @@ pub const AXIS_HEIGHT: u64 = 20;
 
 pub const ROW_GAP: u64 = 22;
 
+/// The word above a checkpoint, with its middle there.
+pub const CHECKPOINT: &[u8] = b"checkpoint";
+
+/// The room of a checkpoint before it, and the same behind it.
+pub const CHECKPOINT_ROOM: u64 = 8;
+
 /// How wide so many characters are, of so many quarters of a pixel each.
 fn quarters(characters: usize, each: u64) -> u64 {
     (characters as u64).saturating_mul(each).saturating_add(3) / 4
@@ -38,6 +44,11 @@ pub fn small_width(characters: usize) -> u64 {
 /// How wide the heading of so many characters is.
 pub fn heading_width(characters: usize) -> u64 {
     quarters(characters, 32)
+}
+
+/// How far the word above a checkpoint reaches on both sides.
+pub fn checkpoint_reach() -> u64 {
+    small_width(CHECKPOINT.len()) / 2 + 1
 }
 
 /// How many digits a number has.

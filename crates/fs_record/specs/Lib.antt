@@ -1,6 +1,6 @@
 pub mod Answers
 pub mod Faults
+pub mod Gives
 pub mod Laws
 pub mod Recordings
-pub mod Seats
 pub mod code

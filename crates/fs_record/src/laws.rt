@@ -1,4 +1,4 @@
-//! What holds of the answers of runs. The function's contract is a law, and its body is empty.
+//! What holds of the moments of runs. The function's contract is a law, and its body is empty.
 
 ghost use Rattle.fs_record.specs.Laws.{ToldIsARun};
 

@@ -1,40 +1,48 @@
 //! A run of a script, event by event, with what each was answered.
 
-ghost use Rattle.std.specs.Prelude.{◌≡◌, ◌<◌, ◌≤◌, ◌∷◌, ◌-◌, ◌^◌, [], ℕ, List, IfOk, OnOk, IfErr, Ok, None, true, length, get_or, replicate};
-ghost use Rattle.std.specs.List.{range_with_len, list_any};
+ghost use Rattle.std.specs.Prelude.{◌≡◌, ◌<◌, ◌≤◌, ◌∷◌, ◌++◌, ◌-◌, ◌^◌, [], ℕ, List, IfOk, OnOk, IfErr, Ok, None, true, length, map, get_or, replicate};
+ghost use Rattle.std.specs.List.{range_with_len};
 ghost use Rattle.fs_names.specs.declared.limits.TheConstants.{NODE_LIMIT};
+ghost use Rattle.fs_calls.specs.declared.call.Call.{Call};
 ghost use Rattle.fs_core.specs.CoreValues.{state_of};
 ghost use Rattle.fs_machine.specs.States.{empty};
-ghost use Rattle.fs_sched.specs.Runs.{Stage, start, has_more};
-ghost use Rattle.fs_sched.specs.Schedules.{drawn_seats};
+ghost use Rattle.fs_timeline.specs.declared.entry.Entry.{Entry};
+ghost use Rattle.fs_script.specs.declared.limits.TheConstants.{CALL_LIMIT};
+ghost use Rattle.fs_sched.specs.Runs.{start, has_more, calls_in, StopsAt, StopsInWords, StopsFrom, StopsBy};
+ghost use Rattle.fs_sched.specs.Schedules.{drawn_seats, one_event, words_by};
 ghost use Rattle.fs_sched.specs.declared.schedule.TheConstants.{DRAW_LIMIT};
+ghost use Rattle.fs_sched.specs.code.Counts.{AreCapped};
 ghost use Rattle.fs_sched.specs.code.Stages.{IsRefusal};
-ghost use Rattle.fs_record.specs.Answers.{AnswersEvent, TellsRun};
-ghost use Rattle.fs_record.specs.Seats.{word_seats, given_seats, seats_before, is_checkpoint, has_checkpoint};
+ghost use Rattle.fs_record.specs.Answers.{AnswersEvent, entries_of, entries_told};
+ghost use Rattle.fs_record.specs.Gives.{single_words, given_words, words_before};
+ghost use Rattle.fs_record.specs.Recordings.{IsRecording};
 ghost use Rattle.fs_record.specs.code.Recorders.{stage_of, IsSeated, AreOver, Notes, NotesCut, NotesToEnd, NotesRun, IsUnrecorded};
 
-use crate::fault::TraceFault;
-use crate::told::{Answer, Told};
+use crate::told::{Answer, Moment, Told};
 use fs_calls::Call;
 use fs_core::Core;
 use fs_names::{Limits, NODE_LIMIT, SeatNo};
-use fs_sched::{DRAW_LIMIT, Divisor, Draws, RunFault, Schedule};
+use fs_sched::{
+    Counts, DRAW_LIMIT, Divisor, Draws, RunEnd, RunFault, Schedule, checkpoint_fault, counts_of,
+    run_end,
+};
 use fs_script::{CallLists, Script, Word};
 use std::alloc::{AllocError, Global};
 
-/// The core, with a seat for each thread, how many calls of each thread have begun, and what each event so far was answered.
+/// The core, with a seat for each thread, how many calls of each thread have begun, and the moments so far.
 #[derive(Drop)]
 pub(crate) struct Recorder {
     pub(crate) core: Core,
     pub(crate) begun: Vec<usize>,
-    pub(crate) told: Vec<Told>,
+    pub(crate) moments: Vec<Moment>,
 }
 
-/// A run of a script: the core after its last event, and what each event was answered.
+/// A run of a script: the core after its last moment, its moments, and how it ended in all its pieces.
 #[derive(Drop)]
 pub struct Recording {
     pub core: Core,
-    pub told: Vec<Told>,
+    pub moments: Vec<Moment>,
+    pub end: RunEnd,
 }
 
 /// The calls of a thread; none where there is no such thread.
@@ -76,14 +84,14 @@ impl Recorder {
     fn new(alloc: Global, limits: Limits, threads: usize) -> Result<Recorder, AllocError>
         ensures start { IfOk result (λ recorder. stage_of recorder ≡ start limits threads) }
         ensures seats { IfOk result (λ recorder. IsSeated recorder threads) }
-        ensures told { IfOk result (λ recorder. recorder.told.items ≡ []) }
+        ensures nothing { IfOk result (λ recorder. recorder.moments.items ≡ []) }
     {
         let core = seated(alloc, limits, threads)?;
         let begun = zeros(alloc, threads)?;
         Ok(Recorder {
             core,
             begun,
-            told: Vec::new(alloc),
+            moments: Vec::new(alloc),
         })
     }
 
@@ -118,7 +126,7 @@ impl Recorder {
         requires free { (state_of self.old.core).on_seat seat ≡ None }
         ensures event { IfOk result (λ answer. AnswersEvent lists.now (stage_of self.old) seat answer (stage_of self.new)) }
         ensures seats { OnOk result (IsSeated self.new (length lists.now)) }
-        ensures told { self.new.told.items ≡ self.old.told.items }
+        ensures same { self.new.moments.items ≡ self.old.moments.items }
         ensures fault { IfErr result IsRefusal }
     {
         let calls = calls_of(lists, seat);
@@ -141,7 +149,7 @@ impl Recorder {
         requires { IsSeated self.old (length lists.now) }
         ensures event { IfOk result (λ answer. AnswersEvent lists.now (stage_of self.old) seat answer (stage_of self.new)) }
         ensures seats { OnOk result (IsSeated self.new (length lists.now)) }
-        ensures told { self.new.told.items ≡ self.old.told.items }
+        ensures same { self.new.moments.items ≡ self.old.moments.items }
         ensures fault { IfErr result IsRefusal }
     {
         if seat >= self.begun.len() {
@@ -157,13 +165,13 @@ impl Recorder {
     /// An event of a thread, with what it was answered noted; and whether the thread may have come to its end.
     fn event(&mut self, alloc: Global, lists: &CallLists, seat: usize) -> Result<bool, RunFault>
         requires { IsSeated self.old (length lists.now) }
-        ensures notes { OnOk result (Notes lists.now self.old (seat ∷ []) self.new) }
+        ensures notes { OnOk result (Notes lists.now self.old (one_event seat ∷ []) self.new) }
         ensures seats { OnOk result (IsSeated self.new (length lists.now)) }
         ensures fault { IfErr result IsRefusal }
     {
         let answer = self.happen(alloc, lists, seat)?;
         let may_end = answer.may_end();
-        match self.told.push(Told { seat, answer }) {
+        match self.moments.push(Moment::Event(Told { seat, answer })) {
             Ok(()) => Ok(may_end),
             Err(_) => Err(RunFault::OutOfMemory),
         }
@@ -178,7 +186,7 @@ impl Recorder {
         times: u64,
     ) -> Result<(), RunFault>
         requires { IsSeated self.old (length lists.now) }
-        ensures notes { OnOk result (Notes lists.now self.old (replicate times seat) self.new) }
+        ensures notes { OnOk result (Notes lists.now self.old (replicate times (one_event seat)) self.new) }
         ensures seats { OnOk result (IsSeated self.new (length lists.now)) }
         ensures fault { IfErr result IsRefusal }
     {
@@ -188,25 +196,42 @@ impl Recorder {
         Ok(())
     }
 
-    /// The events that a word gives; no run that is recorded comes to a checkpoint.
+    /// The timeline begins again, where no call is under way, and its entries are noted.
+    fn begin_again(&mut self, alloc: Global) -> Result<(), RunFault>
+        ensures notes { (lists : List (List Call)) → OnOk result (Notes lists self.old (Word.Checkpoint ∷ []) self.new) }
+        ensures seats { (threads : ℕ) → IsSeated self.old threads → OnOk result (IsSeated self.new threads) }
+        ensures why { (lists : List (List Call)) → IfErr result (IsUnrecorded (StopsAt lists (stage_of self.old) Word.Checkpoint)) }
+    {
+        let entries = match self.core.checkpoint(alloc) {
+            Ok(entries) => entries,
+            Err(why) => return Err(checkpoint_fault(why)),
+        };
+        let Ok(()) = self.moments.push(Moment::Checkpoint(entries)) else {
+            return Err(RunFault::OutOfMemory);
+        };
+        Ok(())
+    }
+
+    /// The moments that a word gives.
     fn word(&mut self, alloc: Global, lists: &CallLists, word: Word) -> Result<(), RunFault>
         requires { IsSeated self.old (length lists.now) }
-        ensures notes { OnOk result (Notes lists.now self.old (word_seats word) self.new) }
+        ensures notes { OnOk result (Notes lists.now self.old (single_words word) self.new) }
         ensures seats { OnOk result (IsSeated self.new (length lists.now)) }
-        ensures fault { IfErr result IsRefusal }
+        ensures why { IfErr result (IsUnrecorded (StopsAt lists.now (stage_of self.old) word)) }
     {
         match word {
             Word::Events(seat, times) => self.events(alloc, lists, seat, times),
-            Word::Checkpoint | Word::Finish => Ok(()),
+            Word::Checkpoint => self.begin_again(alloc),
+            Word::Finish => Ok(()),
         }
     }
 
-    /// The events that words give, from left to right.
+    /// The moments that words give, from left to right.
     fn words(&mut self, alloc: Global, lists: &CallLists, words: &[Word]) -> Result<(), RunFault>
         requires { IsSeated self.old (length lists.now) }
-        ensures notes { OnOk result (Notes lists.now self.old (given_seats words.now) self.new) }
+        ensures notes { OnOk result (Notes lists.now self.old (given_words words.now) self.new) }
         ensures seats { OnOk result (IsSeated self.new (length lists.now)) }
-        ensures fault { IfErr result IsRefusal }
+        ensures why { IfErr result (IsUnrecorded (StopsInWords lists.now (stage_of self.old) words.now)) }
     {
         for word in words {
             self.word(alloc, lists, *word)?;
@@ -217,7 +242,7 @@ impl Recorder {
     /// Events of threads that are drawn from a number, until none has anything to do or the limit is reached.
     fn drawn(&mut self, alloc: Global, lists: &CallLists, seed: u64) -> Result<(), RunFault>
         requires { IsSeated self.old (length lists.now) }
-        ensures notes { OnOk result (NotesCut lists.now self.old (drawn_seats seed (length lists.now) DRAW_LIMIT) self.new) }
+        ensures notes { OnOk result (NotesCut lists.now self.old (map one_event (drawn_seats seed (length lists.now) DRAW_LIMIT)) self.new) }
         ensures seats { OnOk result (IsSeated self.new (length lists.now)) }
         ensures fault { IfErr result IsRefusal }
     {
@@ -240,7 +265,7 @@ impl Recorder {
     /// One event of each thread.
     fn round(&mut self, alloc: Global, lists: &CallLists) -> Result<(), RunFault>
         requires { IsSeated self.old (length lists.now) }
-        ensures notes { OnOk result (Notes lists.now self.old (range_with_len 0 (length lists.now)) self.new) }
+        ensures notes { OnOk result (Notes lists.now self.old (map one_event (range_with_len 0 (length lists.now))) self.new) }
         ensures seats { OnOk result (IsSeated self.new (length lists.now)) }
         ensures fault { IfErr result IsRefusal }
     {
@@ -266,12 +291,12 @@ impl Recorder {
         }
     }
 
-    /// The events before rounds to the end.
+    /// The moments before rounds to the end.
     fn before(&mut self, alloc: Global, script: &Script, schedule: Schedule) -> Result<(), RunFault>
         requires { IsSeated self.old (length script.now.lists) }
-        ensures notes { OnOk result (NotesCut script.now.lists self.old (seats_before schedule script.now.words (length script.now.lists)) self.new) }
+        ensures notes { OnOk result (NotesCut script.now.lists self.old (words_before schedule script.now.words (length script.now.lists)) self.new) }
         ensures seats { OnOk result (IsSeated self.new (length script.now.lists)) }
-        ensures fault { IfErr result IsRefusal }
+        ensures why { IfErr result (IsUnrecorded (StopsInWords script.now.lists (stage_of self.old) (words_by schedule script.now.words (length script.now.lists)))) }
     {
         match schedule {
             Schedule::Given => self.words(alloc, &script.lists, script.words.as_slice()),
@@ -280,12 +305,12 @@ impl Recorder {
         }
     }
 
-    /// All events of a script by a schedule.
+    /// All moments of a script by a schedule.
     fn run(&mut self, alloc: Global, script: &Script, schedule: Schedule) -> Result<(), RunFault>
         requires { IsSeated self.old (length script.now.lists) }
         ensures notes { OnOk result (NotesRun schedule script.now self.old self.new) }
         ensures seats { OnOk result (IsSeated self.new (length script.now.lists)) }
-        ensures fault { IfErr result IsRefusal }
+        ensures why { IfErr result (IsUnrecorded (StopsFrom schedule script.now (stage_of self.old))) }
     {
         self.before(alloc, script, schedule)?;
         if schedule.goes_on(script.words.as_slice()) {
@@ -295,44 +320,42 @@ impl Recorder {
     }
 }
 
-fn is_checkpoint(word: &Word) -> bool
-    ensures { result ≡ is_checkpoint word.now }
+/// With so many entries more as end at a moment.
+fn counted_more(counts: Counts, moment: &Moment) -> Counts
+    ensures { (before : List Entry) → AreCapped counts before → AreCapped result (before ++ entries_of moment.now) }
 {
-    matches!(word, Word::Checkpoint)
-}
-
-fn any_checkpoint(words: &[Word]) -> bool
-    ensures { result ≡ list_any is_checkpoint words.now }
-{
-    words.iter().any(|word| is_checkpoint(word))
-}
-
-/// Whether a run by a schedule comes to the word for a checkpoint.
-fn has_checkpoint(schedule: Schedule, words: &[Word]) -> bool
-    ensures { result ≡ has_checkpoint schedule words.now }
-{
-    match schedule {
-        Schedule::Given => any_checkpoint(words),
-        Schedule::RoundRobin | Schedule::Seeded(_) => false,
+    match moment {
+        Moment::Event(_) => counts,
+        Moment::Checkpoint(entries) => counts.plus(counts_of(entries.as_slice())),
     }
 }
 
-/// Runs a script by a schedule, and notes what each event is answered. A run that comes to a checkpoint is not recorded.
-pub fn record(alloc: Global, script: &Script, schedule: Schedule) -> Result<Recording, TraceFault>
-    ensures told { IfOk result (λ recording. (last : Stage) × (last.state ≡ state_of recording.core) × TellsRun schedule script.now recording.told.items last) }
-    ensures fault { IfErr result (IsUnrecorded schedule script.now.words) }
+/// How many entries the pieces have that end at these moments.
+fn counts_told(moments: &[Moment]) -> Counts
+    ensures { AreCapped result (entries_told moments.now) }
 {
-    if has_checkpoint(schedule, script.words.as_slice()) {
-        return Err(TraceFault::Checkpoint);
+    let mut counts = counts_of(&[]);
+    for moment in moments {
+        counts = counted_more(counts, moment);
     }
+    counts
+}
+
+/// Runs a script by a schedule, and notes its moments: what each event is answered, and which entries end at a checkpoint.
+pub fn record(alloc: Global, script: &Script, schedule: Schedule) -> Result<Recording, RunFault>
+    requires few { calls_in script.now.lists ≤ CALL_LIMIT }
+    ensures told { IfOk result (IsRecording schedule script.now) }
+    ensures fault { IfErr result (IsUnrecorded (StopsBy schedule script.now)) }
+{
     let Ok(mut recorder) = Recorder::new(alloc, script.limits, script.lists.as_slice().len()) else {
-        return Err(TraceFault::Run(RunFault::OutOfMemory));
+        return Err(RunFault::OutOfMemory);
     };
-    match recorder.run(alloc, script, schedule) {
-        Ok(()) => Ok(Recording {
-            core: recorder.core,
-            told: recorder.told,
-        }),
-        Err(fault) => Err(TraceFault::Run(fault)),
-    }
+    recorder.run(alloc, script, schedule)?;
+    let before = counts_told(recorder.moments.as_slice());
+    let counts = before.plus(counts_of(recorder.core.timeline()));
+    Ok(Recording {
+        end: run_end(script, counts),
+        core: recorder.core,
+        moments: recorder.moments,
+    })
 }

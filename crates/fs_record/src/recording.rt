@@ -1,12 +1,11 @@
 //! A run of the script that a text has.
 
 ghost use Rattle.std.specs.Prelude.{IfOk, IfErr};
-ghost use Rattle.fs_record.specs.Faults.{IsFaultOfTrace};
+ghost use Rattle.fs_record.specs.Faults.{IsFaultOfRecord};
 ghost use Rattle.fs_record.specs.Recordings.{IsRecorded};
 
-use crate::fault::TraceFault;
 use crate::recorder::{Recording, record};
-use fs_sched::{Schedule, script_in};
+use fs_sched::{RunFault, Schedule, script_in};
 use fs_script::Script;
 use std::alloc::Global;
 
@@ -15,13 +14,13 @@ pub fn recorded(
     alloc: Global,
     text: &[u8],
     schedule: Schedule,
-) -> Result<(Script, Recording), TraceFault>
+) -> Result<(Script, Recording), RunFault>
     ensures ok { IfOk result (λ made. IsRecorded schedule text.now made.0 made.1) }
-    ensures fault { IfErr result (IsFaultOfTrace schedule text.now) }
+    ensures fault { IfErr result (IsFaultOfRecord schedule text.now) }
 {
     let script = match script_in(alloc, text) {
         Ok(script) => script,
-        Err(fault) => return Err(TraceFault::Run(fault)),
+        Err(fault) => return Err(fault),
     };
     match record(alloc, &script, schedule) {
         Ok(recording) => Ok((script, recording)),

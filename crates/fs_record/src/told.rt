@@ -1,7 +1,8 @@
-//! What the events of a run were answered.
+//! What the moments of a run were.
 
 use fs_core::Stepped;
 use fs_names::CallNo;
+use fs_timeline::Entry;
 
 /// What an event was answered.
 #[derive(Drop)]
@@ -19,6 +20,15 @@ pub enum Answer {
 pub struct Told {
     pub seat: usize,
     pub answer: Answer,
+}
+
+/// A moment of a run.
+#[derive(Drop)]
+pub enum Moment {
+    /// An event of a thread.
+    Event(Told),
+    /// A checkpoint: the timeline begins again, which had these entries.
+    Checkpoint(Vec<Entry>),
 }
 
 impl Answer {

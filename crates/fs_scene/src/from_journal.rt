@@ -80,6 +80,7 @@ impl Reading {
                 lanes: names,
                 cards: Vec::new(alloc),
                 marks: Vec::new(alloc),
+                checkpoints: Vec::new(alloc),
                 fault: fault_of(alloc, verdict)?,
                 is_run: false,
                 calls: 0,

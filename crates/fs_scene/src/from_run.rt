@@ -3,10 +3,10 @@
 use crate::labels::last_name;
 use crate::scene::{Card, Mark, Scene, What};
 use fs_core::Stepped;
-use fs_record::{Answer, Told};
+use fs_record::{Answer, Moment};
 use fs_script::Script;
+use fs_story::{Deed, Line, Story, tell_run};
 use fs_text::{write_call, write_reply};
-use fs_trace::{Deed, Line, Story, tell_run};
 use std::alloc::{AllocError, Global};
 
 /// The word at a place among words with a space between.
@@ -30,20 +30,47 @@ fn word_at(words: &[u8], place: usize) -> &[u8] {
     }
 }
 
-/// The place of a call among the calls, by its number, which counts from 1.
-fn card_of(number: u64) -> usize {
-    number.saturating_sub(1) as usize
+/// How far a run is told: how many calls began, how many of them before the last checkpoint, and how many commits there were
+/// behind that.
+#[derive(Clone, Copy)]
+struct SoFar {
+    begun: usize,
+    before: usize,
+    commits: u64,
 }
 
-/// What a line of a story tells of its call; none of an idle turn.
-fn what_of(line: &Line) -> Option<What> {
+impl SoFar {
+    /// The place of a call among the calls, by its number, which counts from 1 behind each checkpoint.
+    fn card_of(&self, number: u64) -> usize {
+        self.before
+            .saturating_add(number.saturating_sub(1) as usize)
+    }
+
+    /// The numbers of calls and of commits begin again.
+    fn checkpoint(&mut self) {
+        self.before = self.begun;
+        self.commits = 0;
+    }
+
+    /// A call does this.
+    fn note(&mut self, what: What) {
+        match what {
+            What::Begin => self.begun = self.begun.saturating_add(1),
+            What::Commit | What::Help(_) => self.commits = self.commits.saturating_add(1),
+            _ => {}
+        }
+    }
+}
+
+/// What a line of a story tells of its call; none of an idle turn and of a checkpoint.
+fn what_of(line: &Line, so_far: &SoFar) -> Option<What> {
     Some(match line.deed {
-        Deed::Idles => return None,
+        Deed::Idles | Deed::Checkpoint => return None,
         Deed::Begins => What::Begin,
         Deed::Takes(node) => What::Take(node.get()),
         Deed::Waits(node, holder) => What::Wait(node.get(), holder.get()),
         Deed::LetsGo(node) => What::LetGo(node.get()),
-        Deed::Helps(helped) => What::Help(card_of(helped.get())),
+        Deed::Helps(helped) => What::Help(so_far.card_of(helped.get())),
         Deed::Commits => What::Commit,
         Deed::CarriesOut => What::Carry,
         Deed::Returns => What::Return,
@@ -70,7 +97,7 @@ fn lanes_of(alloc: Global, script: &Script) -> Result<Vec<Vec<u8>>, AllocError> 
     Ok(lanes)
 }
 
-/// The calls that began, in the order of their numbers.
+/// The calls that began, in the order of their begins.
 fn cards_of(alloc: Global, script: &Script, story: &Story) -> Result<Vec<Card>, AllocError> {
     let lists = script.lists.as_slice();
     let mut cards = Vec::new(alloc);
@@ -83,7 +110,7 @@ fn cards_of(alloc: Global, script: &Script, story: &Story) -> Result<Vec<Card>, 
             }
         }
         cards.push(Card {
-            number: (i as u64).saturating_add(1),
+            number: place.number,
             lane: place.seat,
             words,
             reply: Vec::new(alloc),
@@ -99,70 +126,84 @@ fn cards_of(alloc: Global, script: &Script, story: &Story) -> Result<Vec<Card>, 
     Ok(cards)
 }
 
-/// The reply that an event was answered, where it is a return.
+/// The reply that a moment was answered, where it is a return of the call at a place among the calls.
 fn set_reply(
     alloc: Global,
-    told: &[Told],
-    line: &Line,
+    moment: Option<&Moment>,
+    card: usize,
     scene: &mut Scene,
 ) -> Result<(), AllocError> {
-    let Some(one) = told.get(line.number.saturating_sub(1)) else {
+    let Some(Moment::Event(told)) = moment else {
         return Ok(());
     };
-    if let Answer::Stepped(Stepped::Returned(reply)) = &one.answer {
-        if let Some(card) = scene.cards.get_mut(card_of(line.call)) {
+    if let Answer::Stepped(Stepped::Returned(reply)) = &told.answer {
+        if let Some(card) = scene.cards.get_mut(card) {
             write_reply(alloc, reply, &mut card.reply)?;
         }
     }
     Ok(())
 }
 
-/// Adds a line of the story.
+/// Adds a line of the story, of which the moments tell the reply.
 fn add_line(
     alloc: Global,
     line: &Line,
     words: &[u8],
-    commits: &mut u64,
+    moments: &[Moment],
+    so_far: &mut SoFar,
     scene: &mut Scene,
 ) -> Result<(), AllocError> {
-    let Some(what) = what_of(line) else {
+    if line.deed == Deed::Checkpoint {
+        so_far.checkpoint();
+        scene.checkpoints.push(line.number as u64)?;
+        return Ok(());
+    }
+    let Some(what) = what_of(line, so_far) else {
         return Ok(());
     };
-    if matches!(what, What::Commit | What::Help(_)) {
-        *commits = commits.saturating_add(1);
-    }
+    so_far.note(what);
     let at = line.number as u64;
-    let card = card_of(line.call);
-    scene.note(at, card, what, *commits);
+    let card = so_far.card_of(line.call);
+    scene.note(at, card, what, so_far.commits);
     scene.marks.push(Mark {
         at,
         card,
         what,
         name: Vec::from_slice(alloc, name_at(what, words))?,
     })?;
-    Ok(())
+    // Among the moments stand the checkpoints too.
+    let place = scene.checkpoints.len().saturating_add(line.number);
+    set_reply(alloc, moments.get(place.saturating_sub(1)), card, scene)
 }
 
-/// The scene of a run, of which each event was answered as told.
-pub fn scene_of_run(alloc: Global, script: &Script, told: &[Told]) -> Result<Scene, AllocError> {
-    let story = tell_run(alloc, script, told, false)?;
+/// The scene of a run, of which these are the moments: all its pieces, one after the other.
+pub fn scene_of_run(
+    alloc: Global,
+    script: &Script,
+    moments: &[Moment],
+) -> Result<Scene, AllocError> {
+    let story = tell_run(alloc, script, moments, false)?;
     let cards = cards_of(alloc, script, &story)?;
     let mut scene = Scene {
         lanes: lanes_of(alloc, script)?,
         calls: cards.len(),
         cards,
         marks: Vec::new(alloc),
+        checkpoints: Vec::new(alloc),
         fault: None,
         is_run: true,
         around: None,
     };
-    let mut commits = 0;
+    let mut so_far = SoFar {
+        begun: 0,
+        before: 0,
+        commits: 0,
+    };
     let mut from = 0;
     for line in &story.lines {
         if let Some(words) = story.words.get(from..line.end) {
-            add_line(alloc, line, words, &mut commits, &mut scene)?;
+            add_line(alloc, line, words, moments, &mut so_far, &mut scene)?;
         }
-        set_reply(alloc, told, line, &mut scene)?;
         from = line.end;
     }
     Ok(scene)

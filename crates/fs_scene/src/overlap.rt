@@ -9,17 +9,35 @@ fn overlap(one: &Card, other: &Card) -> bool {
     !before(one, other) && !before(other, one)
 }
 
-/// Which calls overlap the one of a place.
-fn kept_at(alloc: Global, scene: &Scene, place: usize) -> Result<Vec<bool>, AllocError> {
+/// Which calls overlap the last one of this number before them, or are that. Each piece of a run may have one, and calls of two
+/// pieces do not overlap.
+fn kept_behind(alloc: Global, scene: &Scene, number: u64) -> Result<Vec<bool>, AllocError> {
     let mut kept = Vec::new(alloc);
+    let mut last: Option<&Card> = None;
     for card in &scene.cards {
-        let keeps = match scene.cards.get(place) {
+        if card.number == number {
+            last = Some(card);
+        }
+        kept.push(match last {
             Some(one) => overlap(one, card),
             None => false,
-        };
-        kept.push(keeps)?;
+        })?;
     }
     Ok(kept)
+}
+
+/// Keeps the calls too that overlap the next one of this number.
+fn keep_before(scene: &Scene, number: u64, kept: &mut Vec<bool>) {
+    let mut next: Option<&Card> = None;
+    for i in (0..scene.cards.len()).rev() {
+        let card = &scene.cards[i];
+        if card.number == number {
+            next = Some(card);
+        }
+        if let (Some(one), Some(slot)) = (next, kept.get_mut(i)) {
+            *slot = *slot || overlap(one, card);
+        }
+    }
 }
 
 /// Keeps a call too where the other one is kept, and the other way round; and answers whether that is new.
@@ -104,12 +122,13 @@ fn mark_at(mark: Mark, cards: &[Option<usize>]) -> Option<Mark> {
 }
 
 /// The scene of the call of a number and those that overlap it, or help a call that is shown, or are helped by one; none where
-/// no call has this number.
+/// no call has this number. Of a run in pieces it has that of each piece that has such a call, with the checkpoints between.
 pub fn around(alloc: Global, scene: Scene, number: u64) -> Result<Option<Scene>, AllocError> {
-    let Some(place) = scene.cards.iter().position(|card| card.number == number) else {
+    let mut kept = kept_behind(alloc, &scene, number)?;
+    keep_before(&scene, number, &mut kept);
+    if !kept.contains(&true) {
         return Ok(None);
-    };
-    let mut kept = kept_at(alloc, &scene, place)?;
+    }
     keep_helpers(&scene, &mut kept);
     let cards = new_places(alloc, kept.as_slice())?;
     let lanes_kept = lanes_kept(alloc, &scene, kept.as_slice())?;
@@ -157,6 +176,19 @@ fn moved_lanes(
     Ok(new)
 }
 
+/// The checkpoints between the first of these marks and the last one.
+fn between(alloc: Global, checkpoints: &[u64], marks: &[Mark]) -> Result<Vec<u64>, AllocError> {
+    let mut kept = Vec::new(alloc);
+    if let (Some(first), Some(last)) = (marks.first(), marks.last()) {
+        for number in checkpoints {
+            if *number > first.at && *number <= last.at {
+                kept.push(*number)?;
+            }
+        }
+    }
+    Ok(kept)
+}
+
 /// The fault with the new place of its mark; none where that mark has none.
 fn moved_fault(fault: Option<Fault>, mark: Option<usize>) -> Option<Fault> {
     let Fault { words, mark: old } = fault?;
@@ -178,6 +210,7 @@ fn moved(
         lanes: names,
         cards: old,
         marks: all,
+        checkpoints,
         fault,
         is_run,
         calls,
@@ -200,6 +233,7 @@ fn moved(
     Ok(Scene {
         lanes: moved_lanes(alloc, names, lanes)?,
         cards: moved_cards(alloc, old, cards, lanes)?,
+        checkpoints: between(alloc, checkpoints.as_slice(), marks.as_slice())?,
         marks,
         fault: moved_fault(fault, fault_at),
         is_run,

@@ -37,8 +37,9 @@ pub struct Mark {
     pub name: Vec<u8>,
 }
 
-/// A call: its number, its lane, its words, its reply's words (none where it did not return), the reply that was due where it
-/// is another one, and where it began, ended, took its place and was carried out. Numbers that are not there are 0.
+/// A call: its number, which counts from 1 behind each checkpoint, its lane, its words, its reply's words (none where it did not
+/// return), the reply that was due where it is another one, and where it began, ended, took its place and was carried out.
+/// Numbers that are not there are 0.
 #[derive(Drop)]
 pub struct Card {
     pub number: u64,
@@ -61,13 +62,14 @@ pub struct Fault {
     pub mark: Option<usize>,
 }
 
-/// What is drawn: the names of the lanes, the calls in the order of their begins, and the marks; whether it is a run, of which
-/// each event is told; and how many calls there are in all.
+/// What is drawn: the names of the lanes, the calls in the order of their begins, the marks, and of each checkpoint the number of
+/// the event behind it; whether it is a run, of which each event is told; and how many calls there are in all.
 #[derive(Drop)]
 pub struct Scene {
     pub lanes: Vec<Vec<u8>>,
     pub cards: Vec<Card>,
     pub marks: Vec<Mark>,
+    pub checkpoints: Vec<u64>,
     pub fault: Option<Fault>,
     pub is_run: bool,
     pub calls: usize,

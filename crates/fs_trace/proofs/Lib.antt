@@ -1,4 +1,4 @@
+mod Between
 mod Lining
 mod Making
-mod Showing
-mod Turning
+mod Wording

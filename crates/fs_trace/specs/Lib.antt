@@ -1,4 +1,3 @@
-pub mod Laws
-pub mod Shown
+pub mod Faults
 pub mod Traces
 pub mod code

@@ -1,4 +1,3 @@
 pub mod LineTexts
 pub mod Mades
-pub mod TurnTexts
-pub mod Waiting
+pub mod WordTexts

@@ -5,14 +5,15 @@ ghost use Rattle.std.specs.Io.KnownBytes.{Appends, IsAtEnd};
 ghost use Rattle.fs_words.specs.declared.fault.ScriptFault.{ScriptFault};
 ghost use Rattle.fs_script.specs.Script.{script_of};
 ghost use Rattle.fs_sched.specs.Devices.{WritesBeginning};
-ghost use Rattle.fs_record.specs.Recordings.{HasCheckpoint};
+ghost use Rattle.fs_sched.specs.Runs.{ReachesStop};
 ghost use Rattle.fs_trace.specs.Traces.{IsScheduleOf, IsTraceOf};
 ghost use Rattle.fs_trace.specs.code.Mades.{MakesSchedule, MakesTrace};
 
+use crate::fault::ScheduleFault;
 use crate::script_text::script_text;
 use crate::trace_text::trace_text;
 use fs_io::{Made, Sink, Source, transform};
-use fs_record::{TraceFault, recorded};
+use fs_record::recorded;
 use fs_sched::{RunEnd, RunFault, Schedule};
 use std::alloc::Global;
 
@@ -22,61 +23,74 @@ fn trace_of(
     text: Vec<u8>,
     schedule: Schedule,
     every: bool,
-) -> Result<Made<RunEnd>, TraceFault>
+) -> Result<Made<RunEnd>, RunFault>
     ensures { MakesTrace schedule every text.items result }
 {
     let (script, recording) = recorded(alloc, text.as_slice(), schedule)?;
     drop(text);
     match trace_text(alloc, &script, &recording, every) {
-        Ok(made) => Ok(made),
-        Err(_) => Err(TraceFault::Run(RunFault::OutOfMemory)),
+        Ok(text) => Ok(Made {
+            text,
+            end: recording.end,
+        }),
+        Err(_) => Err(RunFault::OutOfMemory),
     }
 }
 
-/// A script's text with the events of its run as its words.
-fn schedule_of(alloc: Global, text: Vec<u8>, schedule: Schedule) -> Result<Made<()>, TraceFault>
+/// A script's text with the moments of its run as its words.
+fn schedule_of(alloc: Global, text: Vec<u8>, schedule: Schedule) -> Result<Made<()>, ScheduleFault>
     ensures { MakesSchedule schedule text.items result }
 {
-    let (script, recording) = recorded(alloc, text.as_slice(), schedule)?;
-    match script_text(alloc, text.as_slice(), &script, recording.told.as_slice()) {
+    let (script, recording) = match recorded(alloc, text.as_slice(), schedule) {
+        Ok(made) => made,
+        Err(fault) => return Err(ScheduleFault::Run(fault)),
+    };
+    match script_text(
+        alloc,
+        text.as_slice(),
+        &script,
+        recording.moments.as_slice(),
+    ) {
         Ok(Some(text)) => Ok(Made { text, end: () }),
-        Ok(None) => Err(TraceFault::TooManyEvents),
-        Err(_) => Err(TraceFault::Run(RunFault::OutOfMemory)),
+        Ok(None) => Err(ScheduleFault::TooManyEvents),
+        Err(_) => Err(ScheduleFault::Run(RunFault::OutOfMemory)),
     }
 }
 
 /// Reads a script to its end, runs it by a schedule, and writes the trace of the run: a line for each event, or for each that
-/// tells something new, and behind them the end of the run's own text. The answer says how many calls began, took their place
-/// and returned. The text is made before its first byte is written.
+/// tells something new, and for each checkpoint, and behind them the end of the run's own text. The answer says how many calls
+/// began, took their place and returned, in all pieces of the run. The text is made before its first byte is written.
 pub fn trace_script<R: Source, W: Sink>(
     alloc: Global,
     reader: &mut R,
     writer: &mut W,
     schedule: Schedule,
     every: bool,
-) -> Result<RunEnd, TraceFault>
+) -> Result<RunEnd, RunFault>
     requires reads { R.failures reader.old < 2 ^ 64 - 1 }
     requires writes { W.failures writer.old < 2 ^ 64 - 1 }
 
     // What is written is the trace of a run of the script that was read.
     ensures ran { IfOk result (λ end. (text : List ℕ) × IfSome (R.remaining reader.old) (λ input. IsTraceOf schedule every input end text) × Appends (W.contents writer.old) (W.contents writer.new) text) }
     ensures end { OnOk result (IsAtEnd (R.remaining reader.new)) }
-    ensures input { (f : ScriptFault) → result ≡ Err (TraceFault.Run (RunFault.Input f)) → IfSome (R.remaining reader.old) (λ input. script_of input ≡ Err f) }
-    ensures checkpoint { result ≡ Err TraceFault.Checkpoint → IfSome (R.remaining reader.old) (HasCheckpoint schedule) }
+    ensures input { (f : ScriptFault) → result ≡ Err (RunFault.Input f) → IfSome (R.remaining reader.old) (λ input. script_of input ≡ Err f) }
+
+    // `UnderWay` comes where the script comes to a checkpoint while calls are under way; then it has no run.
+    ensures under_way { (call : ℕ) → result ≡ Err (RunFault.UnderWay call) → IfSome (R.remaining reader.old) (λ input. ReachesStop schedule input (RunFault.UnderWay call)) }
 
     // A device is blamed only where it failed in this call.
-    ensures read { IsErrOf result (TraceFault.Run RunFault.Read) → R.failures reader.new ≡ R.failures reader.old + 1 }
-    ensures write { IsErrOf result (TraceFault.Run RunFault.Write) → W.failures writer.new ≡ W.failures writer.old + 1 }
+    ensures read { IsErrOf result RunFault.Read → R.failures reader.new ≡ R.failures reader.old + 1 }
+    ensures write { IsErrOf result RunFault.Write → W.failures writer.new ≡ W.failures writer.old + 1 }
 
     // After a failed write a beginning of the text stands, and after every other error nothing was written.
-    ensures nothing { result ≢ Err (TraceFault.Run RunFault.Write) → OnErr result (writer.new ≡ writer.old) }
-    ensures beginning { IsErrOf result (TraceFault.Run RunFault.Write) → (end : RunEnd) × (text : List ℕ) × IfSome (R.remaining reader.old) (λ input. IsTraceOf schedule every input end text) × WritesBeginning text (W.contents writer.old) (W.contents writer.new) }
+    ensures nothing { result ≢ Err RunFault.Write → OnErr result (writer.new ≡ writer.old) }
+    ensures beginning { IsErrOf result RunFault.Write → (end : RunEnd) × (text : List ℕ) × IfSome (R.remaining reader.old) (λ input. IsTraceOf schedule every input end text) × WritesBeginning text (W.contents writer.old) (W.contents writer.new) }
 {
     let end = transform(
         alloc,
         reader,
         writer,
-        |text| -> Result<Made<RunEnd>, TraceFault>
+        |text| -> Result<Made<RunEnd>, RunFault>
             ensures { MakesTrace schedule every text.items result }
         { trace_of(alloc, text, schedule, every) },
     )?;
@@ -84,36 +98,38 @@ pub fn trace_script<R: Source, W: Sink>(
 }
 
 /// Reads a script to its end, runs it by a schedule, and writes the script again, up to its line `schedule` byte for byte, with
-/// the events of the run as its words. A run of that by its own words has the same text. It is made before its first byte is
+/// the events and checkpoints of the run as its words. A run of that by its own words has the same text. It is made before its first byte is
 /// written.
 pub fn schedule_script<R: Source, W: Sink>(
     alloc: Global,
     reader: &mut R,
     writer: &mut W,
     schedule: Schedule,
-) -> Result<(), TraceFault>
+) -> Result<(), ScheduleFault>
     requires reads { R.failures reader.old < 2 ^ 64 - 1 }
     requires writes { W.failures writer.old < 2 ^ 64 - 1 }
 
-    // What is written is the script that was read, with the events of a run of it as its words.
+    // What is written is the script that was read, with the moments of a run of it as its words.
     ensures ran { OnOk result ((text : List ℕ) × IfSome (R.remaining reader.old) (λ input. IsScheduleOf schedule input text) × Appends (W.contents writer.old) (W.contents writer.new) text) }
     ensures end { OnOk result (IsAtEnd (R.remaining reader.new)) }
-    ensures input { (f : ScriptFault) → result ≡ Err (TraceFault.Run (RunFault.Input f)) → IfSome (R.remaining reader.old) (λ input. script_of input ≡ Err f) }
-    ensures checkpoint { result ≡ Err TraceFault.Checkpoint → IfSome (R.remaining reader.old) (HasCheckpoint schedule) }
+    ensures input { (f : ScriptFault) → result ≡ Err (ScheduleFault.Run (RunFault.Input f)) → IfSome (R.remaining reader.old) (λ input. script_of input ≡ Err f) }
+
+    // `UnderWay` comes where the script comes to a checkpoint while calls are under way; then it has no run.
+    ensures under_way { (call : ℕ) → result ≡ Err (ScheduleFault.Run (RunFault.UnderWay call)) → IfSome (R.remaining reader.old) (λ input. ReachesStop schedule input (RunFault.UnderWay call)) }
 
     // A device is blamed only where it failed in this call.
-    ensures read { IsErrOf result (TraceFault.Run RunFault.Read) → R.failures reader.new ≡ R.failures reader.old + 1 }
-    ensures write { IsErrOf result (TraceFault.Run RunFault.Write) → W.failures writer.new ≡ W.failures writer.old + 1 }
+    ensures read { IsErrOf result (ScheduleFault.Run RunFault.Read) → R.failures reader.new ≡ R.failures reader.old + 1 }
+    ensures write { IsErrOf result (ScheduleFault.Run RunFault.Write) → W.failures writer.new ≡ W.failures writer.old + 1 }
 
     // After a failed write a beginning of the text stands, and after every other error nothing was written.
-    ensures nothing { result ≢ Err (TraceFault.Run RunFault.Write) → OnErr result (writer.new ≡ writer.old) }
-    ensures beginning { IsErrOf result (TraceFault.Run RunFault.Write) → (text : List ℕ) × IfSome (R.remaining reader.old) (λ input. IsScheduleOf schedule input text) × WritesBeginning text (W.contents writer.old) (W.contents writer.new) }
+    ensures nothing { result ≢ Err (ScheduleFault.Run RunFault.Write) → OnErr result (writer.new ≡ writer.old) }
+    ensures beginning { IsErrOf result (ScheduleFault.Run RunFault.Write) → (text : List ℕ) × IfSome (R.remaining reader.old) (λ input. IsScheduleOf schedule input text) × WritesBeginning text (W.contents writer.old) (W.contents writer.new) }
 {
     let done = transform(
         alloc,
         reader,
         writer,
-        |text| -> Result<Made<()>, TraceFault>
+        |text| -> Result<Made<()>, ScheduleFault>
             ensures { MakesSchedule schedule text.items result }
         { schedule_of(alloc, text, schedule) },
     )?;

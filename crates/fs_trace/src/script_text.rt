@@ -1,13 +1,14 @@
 //! A script with other words.
 
 ghost use Rattle.std.specs.Prelude.{◌≡◌, ◌++◌, ◌∷◌, [], ℕ, List, IfOk, IfSome, OnOk, get_or};
-ghost use Rattle.std.specs.List.{flat_map};
-ghost use Rattle.fs_trace.specs.Traces.{busy_seat, busy_seats, times_word, turn_seats, turn_word, AreTurnWords, IsGap, IsScheduleText};
-ghost use Rattle.fs_trace.specs.code.TurnTexts.{AddsWords, IsBeginning};
+ghost use Rattle.fs_sched.specs.Schedules.{one_event};
+ghost use Rattle.fs_record.specs.Gives.{single_words, given_words};
+ghost use Rattle.fs_trace.specs.Traces.{busy_event, busy_words, times_text, word_text, AreWordTexts, IsGap, IsScheduleText};
+ghost use Rattle.fs_trace.specs.code.WordTexts.{AddsWords, IsBeginning};
 
-use fs_record::{Answer, Told};
+use fs_record::{Answer, Moment, Told};
 use fs_script::limits::EVENT_LIMIT;
-use fs_script::{Script, ThreadNames};
+use fs_script::{Script, ThreadNames, Word};
 use fs_words::lines::cut_line;
 use fs_words::{Addition, TEXT_LIMIT};
 use std::alloc::{AllocError, Global};
@@ -15,52 +16,74 @@ use std::alloc::{AllocError, Global};
 /// The most bytes that a line of words is to have; a single word may be longer.
 const LINE_WIDTH: usize = 72;
 
-/// So many events of a thread, one after the other.
-#[derive(Clone, Copy, Debug, PartialEq, Eq)]
-pub(crate) struct Turn {
-    pub(crate) seat: usize,
-    pub(crate) times: u64,
+/// A word with an event of a thread more, where it is one of events of that thread.
+fn with_event(word: Word, seat: usize) -> Option<Word>
+    ensures { IfSome result (λ more. single_words more ≡ single_words word ++ one_event seat ∷ []) }
+{
+    match word {
+        Word::Events(other, times) if other == seat && times < u64::MAX => {
+            Some(Word::Events(seat, times + 1))
+        }
+        _ => None,
+    }
 }
 
-/// Adds an event to turns.
-fn push_event(seat: usize, turns: &mut Vec<Turn>) -> Result<(), AllocError>
-    ensures { OnOk result (flat_map turn_seats turns.new.items ≡ flat_map turn_seats turns.old.items ++ seat ∷ []) }
+/// Adds an event to words.
+fn push_event(seat: usize, words: &mut Vec<Word>) -> Result<(), AllocError>
+    ensures { OnOk result (given_words words.new.items ≡ given_words words.old.items ++ one_event seat ∷ []) }
 {
-    let count = turns.len();
-    if count > 0 && turns[count - 1].seat == seat && turns[count - 1].times < u64::MAX {
-        turns[count - 1].times += 1;
-        return Ok(());
+    let count = words.len();
+    if count > 0 {
+        if let Some(more) = with_event(words[count - 1], seat) {
+            words[count - 1] = more;
+            return Ok(());
+        }
     }
-    turns.push(Turn { seat, times: 1 })?;
+    words.push(Word::Events(seat, 1))?;
     Ok(())
 }
 
-/// Adds an event to turns, where it is no idle turn.
-fn push_told(told: &Told, turns: &mut Vec<Turn>) -> Result<(), AllocError>
-    ensures { OnOk result (flat_map turn_seats turns.new.items ≡ flat_map turn_seats turns.old.items ++ busy_seat told.now.seat told.now.answer) }
+/// Adds an event to words, where it is no idle turn.
+fn push_told(told: &Told, words: &mut Vec<Word>) -> Result<(), AllocError>
+    ensures { OnOk result (given_words words.new.items ≡ given_words words.old.items ++ busy_event told.now.seat told.now.answer) }
 {
     match told.answer {
         Answer::Spent => Ok(()),
-        _ => push_event(told.seat, turns),
+        _ => push_event(told.seat, words),
     }
 }
 
-/// The turns of a run's events, without idle turns.
-fn turns_of(alloc: Global, told: &[Told]) -> Result<Vec<Turn>, AllocError>
-    ensures { IfOk result (λ turns. flat_map turn_seats turns.items ≡ busy_seats told.now) }
+/// Adds a moment to words, where it is no idle turn.
+fn push_moment(moment: &Moment, words: &mut Vec<Word>) -> Result<(), AllocError>
+    ensures { OnOk result (given_words words.new.items ≡ given_words words.old.items ++ busy_words (moment.now ∷ [])) }
 {
-    let mut turns = Vec::new(alloc);
-    for one in told {
-        push_told(one, &mut turns)?;
+    match moment {
+        Moment::Event(told) => push_told(told, words),
+        Moment::Checkpoint(_) => {
+            words.push(Word::Checkpoint)?;
+            Ok(())
+        }
     }
-    Ok(turns)
+}
+
+/// The words of a run's moments, without idle turns.
+fn words_of(alloc: Global, moments: &[Moment]) -> Result<Vec<Word>, AllocError>
+    ensures { IfOk result (λ words. given_words words.items ≡ busy_words moments.now) }
+{
+    let mut words = Vec::new(alloc);
+    for moment in moments {
+        push_moment(moment, &mut words)?;
+    }
+    Ok(words)
 }
 
 /// Whether a script may give as many events.
-fn is_within(turns: &[Turn]) -> bool {
+fn is_within(words: &[Word]) -> bool {
     let mut events = 0u64;
-    for turn in turns {
-        events = events.saturating_add(turn.times);
+    for word in words {
+        if let Word::Events(_, times) = word {
+            events = events.saturating_add(*times);
+        }
     }
     events <= EVENT_LIMIT
 }
@@ -100,25 +123,31 @@ pub(crate) fn name_of(names: &ThreadNames, seat: usize) -> &[u8]
     }
 }
 
-/// How many events a turn has, where they are not one.
-fn push_times(times: u64, word: &mut Addition) -> Result<(), AllocError>
-    ensures ok { OnOk result (word.new.added ≡ word.old.added ++ times_word times) }
-    ensures before { word.new.before ≡ word.old.before }
+/// How many events a word gives, where they are not one.
+fn push_times(times: u64, text: &mut Addition) -> Result<(), AllocError>
+    ensures ok { OnOk result (text.new.added ≡ text.old.added ++ times_text times) }
+    ensures before { text.new.before ≡ text.old.before }
 {
     if times == 1 {
         return Ok(());
     }
-    word.push_with_number(b"*", times)
+    text.push_with_number(b"*", times)
 }
 
-/// The word of a turn.
-fn word_of(alloc: Global, names: &ThreadNames, turn: Turn) -> Result<Vec<u8>, AllocError>
-    ensures { IfOk result (λ word. word.items ≡ turn_word names.now turn) }
+/// The text of a word.
+fn word_text(alloc: Global, names: &ThreadNames, word: Word) -> Result<Vec<u8>, AllocError>
+    ensures { IfOk result (λ text. text.items ≡ word_text names.now word) }
 {
-    let mut word = Addition::new(Vec::new(alloc));
-    word.push(name_of(names, turn.seat))?;
-    push_times(turn.times, &mut word)?;
-    Ok(word.kept())
+    let mut text = Addition::new(Vec::new(alloc));
+    match word {
+        Word::Events(seat, times) => {
+            text.push(name_of(names, seat))?;
+            push_times(times, &mut text)?;
+        }
+        Word::Checkpoint => text.push(b"!checkpoint")?,
+        Word::Finish => text.push(b"finish")?,
+    }
+    Ok(text.kept())
 }
 
 /// What stands before a word: it goes on a new line where there is no room for it.
@@ -128,17 +157,17 @@ fn gap_before(is_wide: bool) -> u8
     if is_wide { b'\n' } else { b' ' }
 }
 
-/// Adds the word of a turn to a line of so many bytes, or to a new one, and answers how many that has.
+/// Adds a word to a line of so many bytes, or to a new one, and answers how many that has.
 fn push_word(
     alloc: Global,
     names: &ThreadNames,
-    turn: Turn,
+    word: Word,
     width: usize,
     text: &mut Vec<u8>,
 ) -> Result<usize, AllocError>
-    ensures { OnOk result ((gap : ℕ) × IsGap gap × (text.new.items ≡ text.old.items ++ gap ∷ turn_word names.now turn)) }
+    ensures { OnOk result ((gap : ℕ) × IsGap gap × (text.new.items ≡ text.old.items ++ gap ∷ word_text names.now word)) }
 {
-    let word = word_of(alloc, names, turn)?;
+    let word = word_text(alloc, names, word)?;
     let is_wide = width.saturating_add(word.len()) >= LINE_WIDTH;
     text.push(gap_before(is_wide))?;
     text.extend_from_slice(word.as_slice())?;
@@ -146,37 +175,37 @@ fn push_word(
     Ok(before.saturating_add(word.len()))
 }
 
-/// The words of turns, each with a space or a line feed before it.
+/// The words, each with a space or a line feed before it.
 fn push_words(
     alloc: Global,
     names: &ThreadNames,
-    turns: &[Turn],
+    words: &[Word],
     text: &mut Vec<u8>,
 ) -> Result<(), AllocError>
-    ensures { OnOk result (AddsWords names.now turns.now text.old.items text.new.items) }
+    ensures { OnOk result (AddsWords names.now words.now text.old.items text.new.items) }
 {
     let mut width = LINE_WIDTH;
-    for turn in turns {
-        width = push_word(alloc, names, *turn, width, text)?;
+    for word in words {
+        width = push_word(alloc, names, *word, width, text)?;
     }
     Ok(())
 }
 
-/// A script's text with the events of a run as its words; none where a script cannot give so many.
+/// A script's text with the moments of a run as its words; none where a script cannot give so many.
 pub(crate) fn script_text(
     alloc: Global,
     input: &[u8],
     script: &Script,
-    told: &[Told],
+    moments: &[Moment],
 ) -> Result<Option<Vec<u8>>, AllocError>
-    ensures { IfOk result (λ made. IfSome made (λ text. IsScheduleText input.now script.now.names told.now text.items)) }
+    ensures { IfOk result (λ made. IfSome made (λ text. IsScheduleText input.now script.now.names moments.now text.items)) }
 {
-    let turns = turns_of(alloc, told)?;
-    if !is_within(turns.as_slice()) {
+    let words = words_of(alloc, moments)?;
+    if !is_within(words.as_slice()) {
         return Ok(None);
     }
     let mut text = Vec::from_slice(alloc, blocks_of(input))?;
-    push_words(alloc, &script.names, turns.as_slice(), &mut text)?;
+    push_words(alloc, &script.names, words.as_slice(), &mut text)?;
     text.push(b'\n')?;
     Ok(if text.len() > TEXT_LIMIT {
         None

@@ -1,20 +1,18 @@
 //! The text of a trace.
 
-ghost use Rattle.std.specs.Prelude.{◌≡◌, ◌++◌, [], IfOk, OnOk, map, codes, decimal};
+ghost use Rattle.std.specs.Prelude.{◌≡◌, ◌++◌, [], IfOk, OnOk, map};
 ghost use Rattle.std.specs.List.{flat_map};
 ghost use Rattle.fs_core.specs.CoreValues.{state_of};
-ghost use Rattle.fs_sched.specs.RunTexts.{counts_line};
-ghost use Rattle.fs_sched.specs.Runs.{end_of};
-ghost use Rattle.fs_trace.specs.Traces.{thread_line, IsTraceText};
+ghost use Rattle.fs_story.specs.Shown.{deed_shown};
+ghost use Rattle.fs_trace.specs.Traces.{head_of, line_head, thread_line, IsTraceText};
 ghost use Rattle.fs_trace.specs.code.LineTexts.{AddsLine, AddsLines, IsTraceHead};
 
 use crate::script_text::name_of;
-use crate::story::{Line, Standing, Story, tell_run};
 use fs_calls::Call;
-use fs_io::Made;
-use fs_record::{Recording, Told};
-use fs_sched::{RunEnd, run_end};
+use fs_record::{Moment, Recording};
+use fs_sched::{counts_of, push_counts};
 use fs_script::{Script, ThreadNames, write_tree};
+use fs_story::{Deed, Line, Standing, Story, tell_run};
 use fs_text::write_call;
 use fs_words::Addition;
 use std::alloc::{AllocError, Global};
@@ -40,13 +38,26 @@ fn push_threads(names: &ThreadNames, text: &mut Addition) -> Result<(), AllocErr
     Ok(())
 }
 
-/// Adds the line of an event: its number, and words.
-fn push_line(number: usize, words: &[u8], text: &mut Addition) -> Result<(), AllocError>
-    ensures ok { OnOk result (AddsLine number text.old.added text.new.added) }
+/// Adds what a line begins with: the number of its event, or the word of a checkpoint.
+fn push_head(number: usize, deed: Deed, text: &mut Addition) -> Result<(), AllocError>
+    ensures ok { OnOk result (text.new.added ≡ text.old.added ++ head_of number deed) }
     ensures before { text.new.before ≡ text.old.before }
 {
-    text.push_number(number as u64)?;
-    text.push(b" ")?;
+    match deed {
+        Deed::Checkpoint => text.push(b"checkpoint"),
+        _ => {
+            text.push_number(number as u64)?;
+            text.push(b" ")
+        }
+    }
+}
+
+/// Adds a line, with these words.
+fn push_line(line: &Line, words: &[u8], text: &mut Addition) -> Result<(), AllocError>
+    ensures ok { OnOk result (AddsLine (line_head (deed_shown line.now)) text.old.added text.new.added) }
+    ensures before { text.new.before ≡ text.old.before }
+{
+    push_head(line.number, line.deed, text)?;
     text.push(words)?;
     text.push(b"\n")
 }
@@ -59,14 +70,14 @@ fn words_between(words: &[u8], from: usize, end: usize) -> &[u8] {
     }
 }
 
-/// A line for each event that is shown, with its words.
+/// The lines, with their words.
 fn push_lines(lines: &[Line], words: &[u8], text: &mut Addition) -> Result<(), AllocError>
-    ensures ok { OnOk result (AddsLines (map (λ line. line.number) lines.now) text.old.added text.new.added) }
+    ensures ok { OnOk result (AddsLines (map line_head (map deed_shown lines.now)) text.old.added text.new.added) }
     ensures before { text.new.before ≡ text.old.before }
 {
     let mut from = 0;
     for line in lines {
-        push_line(line.number, words_between(words, from, line.end), text)?;
+        push_line(line, words_between(words, from, line.end), text)?;
         from = line.end;
     }
     Ok(())
@@ -128,36 +139,16 @@ fn left_text(alloc: Global, script: &Script, story: &Story) -> Result<Vec<u8>, A
     Ok(text.kept())
 }
 
-/// A word and a number.
-fn push_count(word: &[u8], count: usize, text: &mut Addition) -> Result<(), AllocError>
-    ensures ok { OnOk result (text.new.added ≡ text.old.added ++ word.now ++ decimal count) }
-    ensures before { text.new.before ≡ text.old.before }
-{
-    text.push(word)?;
-    text.push_number(count as u64)
-}
-
-/// The last line of a run.
-fn push_counts(end: RunEnd, text: &mut Addition) -> Result<(), AllocError>
-    ensures ok { OnOk result (text.new.added ≡ text.old.added ++ counts_line end.begun end.committed end.returned) }
-    ensures before { text.new.before ≡ text.old.before }
-{
-    push_count(b"begun ", end.begun, text)?;
-    push_count(b" committed ", end.committed, text)?;
-    push_count(b" returned ", end.returned, text)?;
-    text.push(b"\n")
-}
-
-/// The text of a trace up to its tree: the threads, each event that is shown, and what did not return.
+/// The text of a trace up to its tree: the threads, each moment that is shown, and what did not return.
 fn head_text(
     alloc: Global,
     script: &Script,
-    told: &[Told],
+    moments: &[Moment],
     every: bool,
 ) -> Result<Vec<u8>, AllocError>
-    ensures { IfOk result (λ head. IsTraceHead every script.now.names told.now head.items) }
+    ensures { IfOk result (λ head. IsTraceHead every script.now.names moments.now head.items) }
 {
-    let story = tell_run(alloc, script, told, every)?;
+    let story = tell_run(alloc, script, moments, every)?;
     let mut head = Addition::new(Vec::new(alloc));
     head.push(b"atomfs-trace 1\n")?;
     push_threads(&script.names, &mut head)?;
@@ -174,17 +165,12 @@ pub(crate) fn trace_text(
     script: &Script,
     recording: &Recording,
     every: bool,
-) -> Result<Made<RunEnd>, AllocError>
-    ensures end { IfOk result (λ made. made.end ≡ end_of script.now (state_of recording.now.core).timeline) }
-    ensures text { IfOk result (λ made. IsTraceText every script.now.names recording.now.told.items (state_of recording.now.core) made.text.items) }
+) -> Result<Vec<u8>, AllocError>
+    ensures { IfOk result (λ text. IsTraceText every script.now.names recording.now.moments.items (state_of recording.now.core) text.items) }
 {
-    let end = run_end(script, recording.core.timeline());
-    let mut text = head_text(alloc, script, recording.told.as_slice(), every)?;
+    let mut text = head_text(alloc, script, recording.moments.as_slice(), every)?;
     write_tree(alloc, recording.core.store(), &mut text)?;
     let mut last = Addition::new(text);
-    push_counts(end, &mut last)?;
-    Ok(Made {
-        text: last.kept(),
-        end,
-    })
+    push_counts(counts_of(recording.core.timeline()), &mut last)?;
+    Ok(last.kept())
 }

@@ -1,17 +1,16 @@
 -- Where the recorder of a run stands, and what it has noted.
-use Rattle.std.specs.Prelude.{ℕ, ◌≡◌, ◌<◌, true, false, List, ◌++◌, length}
+use Rattle.std.specs.Prelude.{ℕ, ◌≡◌, ◌<◌, false, List, ◌++◌, length}
 use Rattle.fs_calls.specs.declared.call.Call.{Call}
 use Rattle.fs_core.specs.CoreValues.{state_of}
 use Rattle.fs_script.specs.declared.script.Script.{Script}
-use Rattle.fs_sched.specs.Runs.{Stage, has_more}
 use Rattle.fs_script.specs.declared.script.Word.{Word}
+use Rattle.fs_sched.specs.Runs.{Stage, has_more}
 use Rattle.fs_sched.specs.code.Stages.{IsRefusal}
+use Rattle.fs_verdict.specs.declared.fault.RunFault.{RunFault}
+use Rattle.fs_verdict.specs.declared.fault.RunFault.TheVariants.{UnderWay}
 use Rattle.fs_sched.specs.declared.schedule.Schedule.{Schedule}
-use Rattle.fs_record.specs.Seats.{has_checkpoint}
-use Rattle.fs_record.specs.declared.fault.TraceFault.{TraceFault}
-use Rattle.fs_record.specs.declared.fault.TraceFault.TheVariants.{Run, TooManyEvents, Checkpoint}
-use Rattle.fs_record.specs.Answers.{AnswersAll, seats_of, AreOfSeats, AnswersToEnd, TellsFrom}
-use Rattle.fs_record.specs.declared.told.Told.{Told}
+use Rattle.fs_record.specs.Answers.{AreMoments, words_of, AreOfWords, AnswersToEnd, TellsFrom}
+use Rattle.fs_record.specs.declared.told.Moment.{Moment}
 use Rattle.fs_record.specs.declared.recorder.Recorder.{Recorder}
 
 -- the core's state, and how many calls of each thread have begun
@@ -27,24 +26,23 @@ pub record IsSeated (r : Recorder) (threads : ℕ) : Type 0 where
 abbrev pub AreOver : List (List Call) → Stage → ℕ → Type 0
 AreOver lists s from = (seat : ℕ) → seat < from → has_more lists s seat ≡ false
 
--- events of these seats have happened, and were noted with their answers
-abbrev pub Notes : List (List Call) → Recorder → List ℕ → Recorder → Type 0
-Notes lists old seats new = (ts : List Told) × (new.told.items ≡ old.told.items ++ ts) × (seats_of ts ≡ seats) × AnswersAll lists (stage_of old) ts (stage_of new)
+-- moments of these words have come, and were noted
+abbrev pub Notes : List (List Call) → Recorder → List Word → Recorder → Type 0
+Notes lists old words new = (ms : List Moment) × (new.moments.items ≡ old.moments.items ++ ms) × (words_of ms ≡ words) × AreMoments lists (stage_of old) ms (stage_of new)
 
--- the same of seats that may be cut off
-abbrev pub NotesCut : List (List Call) → Recorder → List ℕ → Recorder → Type 0
-NotesCut lists old seats new = (ts : List Told) × (new.told.items ≡ old.told.items ++ ts) × AnswersAll lists (stage_of old) ts (stage_of new) × AreOfSeats lists seats ts (stage_of new)
+-- the same of words that may be cut off
+abbrev pub NotesCut : List (List Call) → Recorder → List Word → Recorder → Type 0
+NotesCut lists old words new = (ms : List Moment) × (new.moments.items ≡ old.moments.items ++ ms) × AreMoments lists (stage_of old) ms (stage_of new) × AreOfWords lists words ms (stage_of new)
 
 -- the same of rounds to the end
 abbrev pub NotesToEnd : List (List Call) → Recorder → Recorder → Type 0
-NotesToEnd lists old new = (ts : List Told) × (new.told.items ≡ old.told.items ++ ts) × AnswersToEnd lists (stage_of old) ts (stage_of new)
+NotesToEnd lists old new = (ms : List Moment) × (new.moments.items ≡ old.moments.items ++ ms) × AnswersToEnd lists (stage_of old) ms (stage_of new)
 
--- the same of all events of a run
+-- the same of all moments of a run
 abbrev pub NotesRun : Schedule → Script → Recorder → Recorder → Type 0
-NotesRun schedule script old new = (ts : List Told) × (new.told.items ≡ old.told.items ++ ts) × TellsFrom schedule script (stage_of old) ts (stage_of new)
+NotesRun schedule script old new = (ms : List Moment) × (new.moments.items ≡ old.moments.items ++ ms) × TellsFrom schedule script (stage_of old) ms (stage_of new)
 
--- why a run is not recorded: a call's refusal, or a checkpoint to which it comes
-abbrev pub IsUnrecorded : Schedule → List Word → TraceFault → Type 0
-IsUnrecorded schedule words (Run fault) = IsRefusal fault
-IsUnrecorded schedule words TooManyEvents = ⊥
-IsUnrecorded schedule words Checkpoint = has_checkpoint schedule words ≡ true
+-- why a run is not recorded: a call's refusal, or a checkpoint at which it stops
+abbrev pub IsUnrecorded : (RunFault → Type 0) → RunFault → Type 0
+IsUnrecorded stops (UnderWay c) = stops (UnderWay c)
+IsUnrecorded stops fault = IsRefusal fault

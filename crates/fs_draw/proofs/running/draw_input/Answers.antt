@@ -1,15 +1,13 @@
-use Rattle.std.proofs.Common.{◌≡◌, ◌≢◌, ◌⊎◌, ⊎_elim, Err, refl, ap, sym, subst}
+use Rattle.std.proofs.Common.{◌≡◌, ◌≢◌, ⊎_elim, Err, refl, ap, sym, subst}
 use Rattle.fs_io.specs.declared.failure.Failure.TheVariants as failure
-use Rattle.fs_sched.specs.declared.fault.RunFault.TheVariants as run
-use Rattle.fs_sched.proofs.RunLemmas.{script_short}
-use Rattle.fs_record.specs.Recordings.{HasCheckpoint}
-use Rattle.fs_record.specs.declared.fault.TraceFault.TheVariants as trace
+use Rattle.fs_verdict.specs.declared.fault.RunFault.TheVariants as run
+use Rattle.fs_sched.proofs.Reasons.{known_stop}
 use Rattle.fs_record.proofs.Reasons.{known}
 use Rattle.fs_draw.specs.Faults.{IsFaultOfPicture}
 use Rattle.fs_draw.specs.Pictures.{IsPictureOf}
 use Rattle.fs_draw.specs.declared.fault.DrawFault.{DrawFault}
-use Rattle.fs_draw.specs.declared.fault.DrawFault.TheVariants.{Trace, NoCall}
-use Rattle.fs_draw.proofs.Reasons.{known_fault, of_checkpoint, of_input, of_no_call, of_read, of_write, picture_short}
+use Rattle.fs_draw.specs.declared.fault.DrawFault.TheVariants.{Run, NoCall}
+use Rattle.fs_draw.proofs.Reasons.{known_fault, of_input, of_no_call, of_read, of_under_way, of_write, picture_short}
 use Rattle.fs_draw.proofs.running.draw_input.Goals as goal
 
 pub returns-clause-ran : goal.returns-clause-ran
@@ -24,15 +22,14 @@ returns-clause-end g c = let told = c.in_ok-well.ensures.made in told.3 (picture
 pub returns-in_err-well-clause-input : goal.returns-in_err-well-clause-input
 returns-in_err-well-clause-input g c f e =
     let gives = rw e at c.from_residual.ensures in
-    let told = c.in_err-well.ensures.unmade (Trace (trace.Run (run.Input f))) (ap Err (of_input c.in_err-well.field-0.0 f gives.1)) in
+    let told = c.in_err-well.ensures.unmade (Run (run.Input f)) (ap Err (of_input c.in_err-well.field-0.0 f gives.1)) in
     known_fault _ _ _ f refl told.1 told.2.1.fault
 
-pub returns-in_err-well-clause-checkpoint : goal.returns-in_err-well-clause-checkpoint
-returns-in_err-well-clause-checkpoint g c e =
+pub returns-in_err-well-clause-under_way : goal.returns-in_err-well-clause-under_way
+returns-in_err-well-clause-under_way g c call e =
     let gives = rw e at c.from_residual.ensures in
-    let told = c.in_err-well.ensures.unmade (Trace trace.Checkpoint) (ap Err (of_checkpoint c.in_err-well.field-0.0 gives.1)) in
-    let has : HasCheckpoint c.args.schedule told.0.items = ⊎_elim (λ h. h) (λ no. absurd no) told.2.1.fault in
-    known (HasCheckpoint c.args.schedule) _ _ _ refl (script_short _ _ _ refl has.1) told.1 has
+    let told = c.in_err-well.ensures.unmade (Run (run.UnderWay call)) (ap Err (of_under_way c.in_err-well.field-0.0 call gives.1)) in
+    known_stop _ _ _ c.args.schedule (run.UnderWay call) refl told.1 (⊎_elim (λ stop. stop) (λ no. absurd no) told.2.1.fault)
 
 pub returns-in_err-well-clause-no_call : goal.returns-in_err-well-clause-no_call
 returns-in_err-well-clause-no_call g c number e =
@@ -43,7 +40,7 @@ returns-in_err-well-clause-no_call g c number e =
 pub returns-in_err-well-clause-beginning : goal.returns-in_err-well-clause-beginning
 returns-in_err-well-clause-beginning g c e =
     let gives = rw e at c.from_residual.ensures in
-    let never : (f : DrawFault) → c.in_err-well.field-0.0 ≡ failure.Unmade f → f ≢ Trace (trace.Run run.Write) = λ f is same.
+    let never : (f : DrawFault) → c.in_err-well.field-0.0 ≡ failure.Unmade f → f ≢ Run run.Write = λ f is same.
     let told = c.in_err-well.ensures.unmade f (ap Err is) in
     ⊎_elim (λ no. absurd no) (λ no. absurd no) (subst (IsFaultOfPicture c.args.schedule c.args.call told.0.items) same told.2.1.fault) in
     let told = c.in_err-well.ensures.beginning (ap Err (of_write c.in_err-well.field-0.0 never gives.1)) in
@@ -53,7 +50,7 @@ returns-in_err-well-clause-beginning g c e =
 pub returns-in_err-well-clause-read : goal.returns-in_err-well-clause-read
 returns-in_err-well-clause-read g c e =
     let gives = rw e at c.from_residual.ensures in
-    let never : (f : DrawFault) → c.in_err-well.field-0.0 ≡ failure.Unmade f → f ≢ Trace (trace.Run run.Read) = λ f is same.
+    let never : (f : DrawFault) → c.in_err-well.field-0.0 ≡ failure.Unmade f → f ≢ Run run.Read = λ f is same.
     let told = c.in_err-well.ensures.unmade f (ap Err is) in
     ⊎_elim (λ no. absurd no) (λ no. absurd no) (subst (IsFaultOfPicture c.args.schedule c.args.call told.0.items) same told.2.1.fault) in
     c.in_err-well.ensures.read (ap Err (of_read c.in_err-well.field-0.0 never gives.1))

@@ -4,4 +4,4 @@ use Rattle.fs_record.proofs.Telling.{run_told}
 use Rattle.fs_record.proofs.laws.told_is_a_run.Goals as goal
 
 pub returns : goal.returns
-returns c schedule script told last (none, tells) = run_told schedule script (start script.limits (length script.lists)) last told none tells
+returns c schedule script ms last tells = run_told schedule script (start script.limits (length script.lists)) last ms tells

@@ -1,4 +1,4 @@
-use Rattle.fs_trace.proofs.Turning.{begins_more}
+use Rattle.fs_trace.proofs.Wording.{begins_more}
 use Rattle.fs_trace.proofs.script_text.blocks_of.Goals as goal
 
 pub returns-then-eq : goal.returns-then-eq

@@ -1,5 +1,5 @@
-use Rattle.std.proofs.Common.{◌-◌, length}
-use Rattle.fs_sched.specs.Schedules.{drawn_seats, seats_from}
+use Rattle.std.proofs.Common.{◌-◌, length, map}
+use Rattle.fs_sched.specs.Schedules.{drawn_seats, one_event, seats_from}
 use Rattle.fs_sched.specs.declared.schedule.TheConstants.{DRAW_LIMIT}
 use Rattle.fs_record.specs.code.Recorders.{IsSeated}
 use Rattle.fs_record.proofs.Noting.{NotesOf}
@@ -9,5 +9,5 @@ use Rattle.fs_record.proofs.recorder.Recorder.drawn.Given as goal
 abbrev pub invariant-loop : goal.invariant-loop
 invariant-loop l = record {
   seats : IsSeated l.self (length l.lists);
-  notes : NotesOf l.lists l.fn.self (drawn_seats l.seed (length l.lists) DRAW_LIMIT) l.self (seats_from (length l.lists) (DRAW_LIMIT - l.counter) l.draws);
+  notes : NotesOf l.lists l.fn.self (map one_event (drawn_seats l.seed (length l.lists) DRAW_LIMIT)) l.self (map one_event (seats_from (length l.lists) (DRAW_LIMIT - l.counter) l.draws));
 }

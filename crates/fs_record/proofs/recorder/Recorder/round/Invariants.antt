@@ -1,5 +1,6 @@
-use Rattle.std.proofs.Common.{◌-◌, length}
+use Rattle.std.proofs.Common.{◌-◌, length, map}
 use Rattle.std.specs.List.{range_with_len}
+use Rattle.fs_sched.specs.Schedules.{one_event}
 use Rattle.fs_record.specs.code.Recorders.{IsSeated}
 use Rattle.fs_record.proofs.Noting.{NotesOf}
 use Rattle.fs_record.proofs.recorder.Recorder.round.Given as goal
@@ -8,5 +9,5 @@ use Rattle.fs_record.proofs.recorder.Recorder.round.Given as goal
 abbrev pub invariant-loop-seat : goal.invariant-loop-seat
 invariant-loop-seat l = record {
   seats : IsSeated l.self (length l.lists);
-  notes : NotesOf l.lists l.fn.self (range_with_len 0 (length l.lists)) l.self (range_with_len l.seat (length l.lists - l.seat));
+  notes : NotesOf l.lists l.fn.self (map one_event (range_with_len 0 (length l.lists))) l.self (map one_event (range_with_len l.seat (length l.lists - l.seat)));
 }

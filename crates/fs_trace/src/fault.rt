@@ -1,0 +1,45 @@
+//! Why no schedule of a run was written.
+
+ghost use Rattle.std.specs.Prelude.{◌≡◌};
+ghost use Rattle.fs_trace.specs.Faults.{fault_between, status_of_schedule};
+
+use fs_io::Failure;
+use fs_sched::RunFault;
+use thiserror::Error;
+
+/// Why no schedule of a run was written.
+#[derive(Clone, Copy, Debug, PartialEq, Eq, Error)]
+pub enum ScheduleFault {
+    /// The run has no end, or a device failed.
+    #[error("{0}")]
+    Run(RunFault),
+    /// The run takes more events than a script may give, or their words more bytes than a text may have.
+    #[error("the run takes more events than a script gives")]
+    TooManyEvents,
+}
+
+impl ScheduleFault {
+    /// The status of a program that this fault ended: 4 where a script has no room for the events, else that of the run.
+    pub fn status(&self) -> u8
+        ensures { result ≡ status_of_schedule self.now }
+    {
+        match self {
+            ScheduleFault::Run(fault) => fault.status(),
+            ScheduleFault::TooManyEvents => 4,
+        }
+    }
+}
+
+/// The fault between a reader and a writer.
+impl From<Failure<ScheduleFault>> for ScheduleFault {
+    ghost from_gives = { λ failure fault. fault ≡ fault_between failure };
+
+    fn from(failure: Failure<ScheduleFault>) -> ScheduleFault {
+        match failure {
+            Failure::Read => ScheduleFault::Run(RunFault::Read),
+            Failure::Write => ScheduleFault::Run(RunFault::Write),
+            Failure::OutOfMemory => ScheduleFault::Run(RunFault::OutOfMemory),
+            Failure::Unmade(fault) => fault,
+        }
+    }
+}
