@@ -2,8 +2,8 @@
 
 ghost use Rattle.std.specs.Prelude.{◌≡◌, ◌^◌};
 
-use check_threads::calls::{fits, has_counts, is_lawful, is_new, path};
-use check_threads::playing::play;
+use check_sessions::calls::{fits, has_counts, is_lawful, is_new, path};
+use check_sessions::playing::play;
 use fs_calls::{Call, Errno, Reply};
 use fs_pool::{Collected, Done, NotTaken, Pool};
 use fs_share::{AtomFs, Closed, Gate, Named, Open, Opened, Tally};

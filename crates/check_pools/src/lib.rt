@@ -6,7 +6,7 @@ mod jobs;
 mod meeting;
 mod pools;
 
-use check_threads::say;
+use check_sessions::say;
 use std::alloc::Global;
 use std::sync::Wait;
 use std::thread::Threads;

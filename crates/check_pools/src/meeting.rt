@@ -1,8 +1,10 @@
 //! Two jobs under one gate that their workers share.
 
 use crate::jobs::{Worked, Works, work_all};
-use check_threads::calls::{calls_of, commit_place, has_counts, is_before, lists_of, return_place};
-use check_threads::shared::FirstWaits;
+use check_sessions::FirstWaits;
+use check_sessions::calls::{
+    calls_of, commit_place, has_counts, is_before, lists_of, return_place,
+};
 use fs_names::CallNo;
 use fs_pool::Done;
 use std::alloc::Global;

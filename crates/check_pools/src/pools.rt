@@ -3,7 +3,7 @@
 ghost use Rattle.std.specs.Prelude.{◌≡◌, ◌^◌};
 
 use crate::jobs::{are_right, end, submit_all};
-use check_threads::calls::{calls_of, has_counts, is_lawful, lists_of};
+use check_sessions::calls::{calls_of, has_counts, is_lawful, lists_of};
 use fs_calls::Call;
 use fs_pool::{Collected, Done, Job, NoWorker, Pool};
 use fs_share::{AtomFs, Closed, Named, Open, Opened, Tally};

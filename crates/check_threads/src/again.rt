@@ -3,8 +3,8 @@
 
 ghost use Rattle.std.specs.Prelude.{◌≡◌, ◌^◌};
 
-use crate::calls::{calls_of, has_counts, is_lawful, lists_of};
-use crate::playing::{Ended, Sessions, end, play, tallies_of};
+use check_sessions::calls::{calls_of, has_counts, is_lawful, lists_of};
+use check_sessions::playing::{Ended, Sessions, end, play, tallies_of};
 use fs_journal::check_from;
 use fs_names::CallNo;
 use fs_script::CallLists;

@@ -2,8 +2,8 @@
 
 ghost use Rattle.std.specs.Prelude.{◌≡◌, ◌^◌};
 
-use crate::calls::{calls_of, fits, has_counts, is_lawful, is_new, lists_of};
-use crate::playing::{Ended, Sessions, end, play};
+use check_sessions::calls::{calls_of, fits, has_counts, is_lawful, is_new, lists_of};
+use check_sessions::playing::{Ended, Sessions, end, play};
 use fs_calls::Call;
 use fs_share::{Answer, AtomFs, Named, Open, Opened};
 use fs_timeline::Entry;

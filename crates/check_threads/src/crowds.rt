@@ -1,8 +1,8 @@
 //! Crowds of threads that want the same nodes, again and again. A wake-up that is lost leaves a thread asleep, and the program
 //! does not end.
 
-use crate::calls::{are_played, calls_of, has_counts, lists_of};
-use crate::walking::is_played;
+use check_sessions::calls::{are_played, calls_of, has_counts, lists_of};
+use check_sessions::is_played;
 use fs_calls::Call;
 use fs_share::{Closed, Open, run_lists};
 use std::alloc::Global;

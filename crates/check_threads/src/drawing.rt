@@ -1,6 +1,6 @@
 //! Drawn calls over few names. A rename or an exchange keeps the depth of what it moves, so each node can be named.
 
-use crate::calls::path;
+use check_sessions::calls::path;
 use fs_calls::{Bytes, Call};
 use fs_names::Path;
 use rand_core::Rng;

@@ -2,9 +2,11 @@
 
 ghost use Rattle.std.specs.Prelude.{◌≡◌, ◌^◌};
 
-use crate::calls::{calls_of, commit_place, has_counts, is_before, lists_of, path, return_place};
-use crate::playing::{Ended, Played, Sessions, end, play};
-use crate::waiting::{TURNS, is_set, is_set_within};
+use check_sessions::calls::{
+    calls_of, commit_place, has_counts, is_before, lists_of, path, return_place,
+};
+use check_sessions::playing::{Ended, Played, Sessions, end, play};
+use check_sessions::{TURNS, is_set, is_set_within};
 use fs_calls::{Call, Reply};
 use fs_core::Stepped;
 use fs_names::{Kind, Path};

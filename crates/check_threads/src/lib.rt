@@ -1,22 +1,19 @@
 //! Runs real threads on shared trees, by sessions and lists, also under gates that hold a call at a place of its walk, and
 //! says of each run whether it came out as it must. The program plays the lists of a script on threads and no more: it has no
-//! sessions and no gates, and tells no order of what its threads did. `check_pools` does the same of pools, with the calls,
-//! sessions and gates of this crate.
+//! sessions and no gates, and tells no order of what its threads did. `check_pools` does the same of pools, and both play and
+//! compare by `check_sessions`.
 #![tactic(auto)]
 
 mod again;
 mod answers;
-pub mod calls;
 mod crowds;
 mod drawing;
 mod held;
 mod long;
 mod parked;
-pub mod playing;
-pub mod shared;
-mod waiting;
-mod walking;
+mod shared;
 
+use check_sessions::say;
 use fs_core::Refusal;
 use fs_sched::RunFault;
 use fs_share::ListsFault;
@@ -42,16 +39,6 @@ fn say_faults(rt: &impl Print) -> io::Result<()> {
         println!(rt; "fault: {fault}")?;
     }
     Ok(())
-}
-
-/// Says of a run whether it came out as it must.
-pub fn say(rt: &impl Print, what: &str, holds: Option<bool>) -> io::Result<()> {
-    let word = match holds {
-        Some(true) => "yes",
-        Some(false) => "no",
-        None => "not run",
-    };
-    println!(rt; "{what}: {word}")
 }
 
 /// Says how many events a call has that is held after each of them.

@@ -1,8 +1,8 @@
 //! A long run of drawn calls by many threads.
 
-use crate::calls::{are_played, has_counts};
 use crate::drawing::call;
-use crate::walking::is_played;
+use check_sessions::calls::{are_played, has_counts};
+use check_sessions::is_played;
 use fs_calls::Call;
 use fs_core::Stepped;
 use fs_share::{Closed, Gate, run_lists};

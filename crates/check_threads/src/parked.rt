@@ -1,10 +1,9 @@
 //! Calls of every kind, each held after each of its events, beside a call that moves the directory above it, beside one that
 //! lets it change places with another, by its first path and by its second, and beside one that removes what it is at.
 
-use crate::calls::{calls_of, commit_place, has_counts, is_before, lists_of};
 use crate::held::{Both, Hold, Parts, meet};
-use crate::waiting::TURNS;
-use crate::walking::is_played;
+use check_sessions::calls::{calls_of, commit_place, has_counts, is_before, lists_of};
+use check_sessions::{TURNS, is_played};
 use fs_calls::{Call, Reply};
 use fs_script::CallLists;
 use std::alloc::Global;

@@ -1,52 +1,13 @@
 //! Lists of calls, also under one gate that their workers share.
 
-use crate::calls::{are_played, has_counts, lists_of, path};
-use crate::waiting::is_set;
+use check_sessions::FirstWaits;
+use check_sessions::calls::{are_played, has_counts, lists_of, path};
 use fs_calls::Call;
-use fs_core::Stepped;
-use fs_share::{Gate, Open, run_lists};
+use fs_share::{Open, run_lists};
 use std::alloc::Global;
 use std::sync::Wait;
-use std::sync::atomic::{AtomicU64, Ordering};
 use std::thread::Threads;
 use std::time::Clock;
-
-/// Holds the first caller that lets the root go until a call has returned.
-#[derive(Drop)]
-pub struct FirstWaits {
-    holds: AtomicU64,
-    returned: AtomicU64,
-    found: AtomicU64,
-}
-
-impl FirstWaits {
-    pub fn new() -> FirstWaits {
-        FirstWaits {
-            holds: AtomicU64::new(0),
-            returned: AtomicU64::new(0),
-            found: AtomicU64::new(0),
-        }
-    }
-
-    /// Whether the caller that waited saw another one return.
-    pub fn has_met(&self) -> bool {
-        self.found.load(Ordering::SeqCst) == 1
-    }
-}
-
-impl Gate for FirstWaits {
-    fn after<R: Wait + Clock>(&self, rt: &R, stepped: &Stepped) {
-        match stepped {
-            Stepped::Returned(_) => self.returned.store(1, Ordering::SeqCst),
-            Stepped::LetGo(node) if node.get() == 0 => {
-                if self.holds.swap(1, Ordering::SeqCst) == 0 && is_set(rt, &self.returned) {
-                    self.found.store(1, Ordering::SeqCst);
-                }
-            }
-            _ => {}
-        }
-    }
-}
 
 /// Two threads of a call each.
 const TWO: &[u8] = b"atomfs 1\nthread one\nstat /x\nthread other\nstat /y\nschedule\n";

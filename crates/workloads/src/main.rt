@@ -4,19 +4,12 @@
 //! A job is done in rounds, each on a tree of its own and with calls that no other round has.
 #![tactic(auto)]
 
-mod digest;
-mod drawing;
 mod runs;
-mod sandbox;
-mod shapes;
 mod texts;
 mod threads;
 mod told;
-mod tree;
 
 use anyhow::{Result, bail};
-use digest::Digest;
-use drawing::Drawing;
 use fs_sched::Schedule;
 use std::alloc::Global;
 use std::env;
@@ -25,6 +18,7 @@ use std::thread::Threads;
 use std::time::Clock;
 use texts::Names;
 use threads::Dirs;
+use workload_trees::{Digest, Drawing, sandbox, shapes};
 
 /// The jobs, and how many rounds each has.
 const JOBS: [(&str, usize); 5] = [
