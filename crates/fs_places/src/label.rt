@@ -151,7 +151,8 @@ impl Label {
     #[inline(always)]
     pub fn is_word(&self, first: u64, name: &Name) -> bool
         requires { IsHead first name.now }
-        ensures { IsTrue result → self.now ≡ name.now }
+        ensures same { IsTrue result → self.now ≡ name.now }
+        ensures short { self.now ≡ name.now → length name.now ≤ WIDTH → IsTrue result }
     {
         let bytes = self.name.bytes();
         let others = name.bytes();

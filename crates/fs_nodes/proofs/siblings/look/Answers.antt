@@ -16,7 +16,7 @@ pub search-requires-clause-other : goal.search-requires-clause-other
 search-requires-clause-other c = entry_key c.args.places.now c.in-Node.n c.args.key c.requires.places (c.in-Node.ensures (keys_of (plains c.args.places.now)) c.requires.slots)
 
 pub returns-then-is_word-clause-child : goal.returns-then-is_word-clause-child
-returns-then-is_word-clause-child c = named_child c.args.places.now c.args.key.dir c.args.name.now c.in-Node.n c.index-places-n.result c.index-places-n.is (entry_key c.args.places.now c.in-Node.n c.args.key c.requires.places (c.in-Node.ensures (keys_of (plains c.args.places.now)) c.requires.slots)) (c.is_word.ensures c.if-is_word.true)
+returns-then-is_word-clause-child c = named_child c.args.places.now c.args.key.dir c.args.name.now c.in-Node.n c.index-places-n.result c.index-places-n.is (entry_key c.args.places.now c.in-Node.n c.args.key c.requires.places (c.in-Node.ensures (keys_of (plains c.args.places.now)) c.requires.slots)) (c.is_word.ensures.same c.if-is_word.true)
 
 pub returns-then-is_word-clause-steps : goal.returns-then-is_word-clause-steps
 returns-then-is_word-clause-steps c = some_entry c.args.places.now c.args.key.dir c.in-Node.n c.requires.places (entry_key c.args.places.now c.in-Node.n c.args.key c.requires.places (c.in-Node.ensures (keys_of (plains c.args.places.now)) c.requires.slots))

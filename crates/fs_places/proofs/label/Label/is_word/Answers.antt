@@ -3,8 +3,8 @@ use Rattle.fs_names.proofs.Lemmas.{name_exact}
 use Rattle.fs_places.proofs.HeadLemmas.{head_same}
 use Rattle.fs_places.proofs.label.Label.is_word.Goals as goal
 
-pub returns-then-bytes-le-WIDTH : goal.returns-then-bytes-le-WIDTH
-returns-then-bytes-le-WIDTH c = λ h.
+pub returns-then-bytes-le-WIDTH-clause-same : goal.returns-then-bytes-le-WIDTH-clause-same
+returns-then-bytes-le-WIDTH-clause-same c = λ h.
     let own : length c.self.inside.name ≤ 8 = rw c.bytes-bytes.ensures.bytes at c.if-bytes-le-WIDTH.true.1 in
     let others : length c.bytes-others.result.now ≤ 8 = grind arith in
     let same : c.self.inside.head ≡ c.args.first = c.if-bytes-le-WIDTH.true.0 in
