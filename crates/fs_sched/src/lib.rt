@@ -30,7 +30,7 @@ pub use fs_verdict::{
     write_text,
 };
 pub use input::script_in;
-pub use play::checkpoint_fault;
+pub use play::{checkpoint_fault, refusal_fault, seated};
 pub use progress::{Progress, Silent};
 pub use run_texts::{Counts, EntryKind, counts_of, number_of, push_counts};
 pub use running::{RunEnd, run_bytes, run_end, run_script};

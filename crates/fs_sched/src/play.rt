@@ -31,7 +31,7 @@ pub(crate) struct Play {
 }
 
 /// The fault of a run of which a call was refused.
-fn refused(refusal: Refusal) -> RunFault
+pub fn refusal_fault(refusal: Refusal) -> RunFault
     ensures refusal { IsRefusal result }
     ensures full { result ≡ RunFault.Full → refusal ≡ Refusal.Full }
     ensures told { refusal ≡ Refusal.Full → result ≡ RunFault.Full }
@@ -52,20 +52,8 @@ pub fn checkpoint_fault(why: NoCheckpoint) -> RunFault
     }
 }
 
-/// The calls of a thread; none where there is no such thread.
-fn calls_of(lists: &CallLists, seat: usize) -> &[Call]
-    ensures { result.now ≡ get_or lists.now seat [] }
-{
-    let lists = lists.as_slice();
-    if seat < lists.len() {
-        lists[seat].as_slice()
-    } else {
-        &[]
-    }
-}
-
 /// A core before the first event, with these limits and so many seats.
-fn seated(alloc: Global, limits: Limits, threads: usize) -> Result<Core, AllocError>
+pub fn seated(alloc: Global, limits: Limits, threads: usize) -> Result<Core, AllocError>
     ensures state { IfOk result (λ core. state_of core ≡ empty limits NODE_LIMIT) }
     ensures seats { IfOk result (λ core. length core.seats ≡ threads) }
 {
@@ -76,27 +64,6 @@ fn seated(alloc: Global, limits: Limits, threads: usize) -> Result<Core, AllocEr
     Ok(core)
 }
 
-fn zeros(alloc: Global, count: usize) -> Result<Vec<usize>, AllocError>
-    ensures { IfOk result (λ numbers. numbers.items ≡ replicate count 0) }
-{
-    let mut numbers = Vec::new(alloc);
-    for _ in 0..count {
-        numbers.push(0)?;
-    }
-    Ok(numbers)
-}
-
-/// No thread is marked.
-fn unmarked(alloc: Global, count: usize) -> Result<Vec<bool>, AllocError>
-    ensures { IfOk result (λ marks. marks.items ≡ replicate count false) }
-{
-    let mut marks = Vec::new(alloc);
-    for _ in 0..count {
-        marks.push(false)?;
-    }
-    Ok(marks)
-}
-
 impl Play {
     /// Before the first event of so many threads, by these limits.
     pub(crate) fn new(alloc: Global, limits: Limits, threads: usize) -> Result<Play, AllocError>
@@ -104,8 +71,8 @@ impl Play {
         ensures seats { (lists : List (List Call)) → length lists ≡ threads → IfOk result (λ play. IsMarked lists play) }
     {
         let core = seated(alloc, limits, threads)?;
-        let begun = zeros(alloc, threads)?;
-        let over = unmarked(alloc, threads)?;
+        let begun = vec![in alloc; 0; threads]?;
+        let over = vec![in alloc; false; threads]?;
         Ok(Play { core, begun, over })
     }
 
@@ -116,7 +83,7 @@ impl Play {
         ensures { result ≡ has_more lists.now (stage_of self.now) seat }
     {
         self.core.under_way(SeatNo::new(seat as u64)).is_some()
-            || self.begun[seat] < calls_of(lists, seat).len()
+            || self.begun[seat] < lists.of(seat).len()
     }
 
     /// The first thread from one on that has; where none has, the number of threads. Threads that are over stay so: a
@@ -174,7 +141,7 @@ impl Play {
                 self.begun[seat] = begun + 1;
                 Ok(())
             }
-            Err(refusal) => Err(refused(refusal)),
+            Err(refusal) => Err(refusal_fault(refusal)),
         }
     }
 
@@ -191,7 +158,7 @@ impl Play {
         ensures fault { IfErr result IsRefusal }
         ensures full { IsErrOf result RunFault.Full → IsRefused lists.now (stage_of self.old) seat }
     {
-        let calls = calls_of(lists, seat);
+        let calls = lists.of(seat);
         let at = self.begun[seat];
         if at >= calls.len() {
             self.over[seat] = true;

@@ -8,10 +8,10 @@ use Rattle.fs_names.specs.Shapes as shapes
 use Rattle.fs_words.proofs.WriteLemmas.{root_word}
 use Rattle.fs_calls.specs.Tree.{Node, Tree}
 use Rattle.fs_calls.specs.Tree as tree
-use Rattle.fs_seq.specs.code.Slots as forest
-use Rattle.fs_seq.specs.code.Slots.{links_of, node_of, links_at, child, walk, spelled, keys_from, with_node, nodes_at, tree_of, IsForest}
-use Rattle.fs_seq.proofs.GraphLemmas.{shorter}
-use Rattle.fs_seq.proofs.Resolving as resolving
+use Rattle.fs_slab.specs.code.Slots as forest
+use Rattle.fs_slab.specs.code.Slots.{links_of, node_of, links_at, child, walk, spelled, keys_from, with_node, nodes_at, tree_of, IsForest}
+use Rattle.fs_slab.proofs.GraphLemmas.{shorter}
+use Rattle.fs_slab.proofs.Resolving as resolving
 use Rattle.fs_nodes.specs.Graphs.{Children}
 use Rattle.fs_nodes.specs.Seen.{Seen, IsReal}
 use Rattle.fs_nodes.specs.Stores.{is_above, names_above, next_entry}

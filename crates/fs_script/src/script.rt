@@ -1,6 +1,6 @@
 //! Scripts: threads with their calls, and a schedule.
 
-ghost use Rattle.std.specs.Prelude.{◌≡◌, ◌↔◌, ◌<◌, ◌≤◌, ◌==◌, [], Some, map, length, slice_get, false, IsTrue, MatchOption, MatchResult};
+ghost use Rattle.std.specs.Prelude.{◌≡◌, ◌↔◌, ◌<◌, ◌≤◌, ◌==◌, [], Some, map, length, get_or, slice_get, false, IsTrue, MatchOption, MatchResult};
 ghost use Rattle.std.specs.List.{list_any};
 ghost use Rattle.std.specs.Str.{bytes_eq};
 ghost use Rattle.fs_script.specs.Script.{seat_named, with_call};
@@ -178,6 +178,17 @@ impl CallLists {
         ensures { map (λ calls. calls.items) result.now ≡ self.now }
     {
         self.lists.as_slice()
+    }
+
+    /// The calls of the thread with a seat; none where there is no such thread.
+    pub fn of(&self, seat: usize) -> &[Call]
+        ensures { result.now ≡ get_or self.now seat [] }
+    {
+        if seat < self.lists.len() {
+            self.lists[seat].as_slice()
+        } else {
+            &[]
+        }
     }
 }
 

@@ -14,7 +14,8 @@ use fs_calls::{Call, Reply};
 use fs_core::{Core, Stepped};
 use fs_names::{CallNo, Path, SeatNo};
 use fs_nodes::NodeNo;
-use fs_record::{Answer, Moment, Told, seated};
+use fs_record::{Answer, Moment, Told};
+use fs_sched::seated;
 use fs_script::{CallLists, Script, ThreadNames};
 use fs_seq::SeqTree;
 use fs_text::{errno_text, write_call, write_reply};
@@ -109,11 +110,6 @@ struct Teller<'a> {
     before: usize,
 }
 
-/// The call at a place of a thread, where there is one.
-fn call_at(lists: &CallLists, seat: usize, at: usize) -> Option<&Call> {
-    lists.as_slice().get(seat)?.as_slice().get(at)
-}
-
 impl<'a> Teller<'a> {
     fn new(alloc: Global, script: &'a Script) -> Result<Teller<'a>, AllocError> {
         let count = script.lists.as_slice().len();
@@ -153,7 +149,7 @@ impl<'a> Teller<'a> {
 
     fn call_of(&self, number: u64) -> Option<&'a Call> {
         let place = self.place_of(number)?;
-        call_at(self.lists, place.seat, place.at)
+        self.lists.of(place.seat).get(place.at)
     }
 
     /// The effect of the call of a number, as far as it is known.
@@ -281,7 +277,7 @@ impl<'a> Teller<'a> {
             return Ok(());
         }
         let at = self.threads[seat].begun;
-        let Some(call) = call_at(self.lists, seat, at) else {
+        let Some(call) = self.lists.of(seat).get(at) else {
             return Ok(());
         };
         if self

@@ -1,26 +1,12 @@
-use Rattle.std.proofs.Common.{◌≤◌, [], length, sym, ap, ◌∙◌, subst}
+use Rattle.std.proofs.Common.{[], length, sym, ap, ◌∙◌, subst}
 use Rattle.std.proofs.lemmas.List.{length-map}
-use Rattle.fs_script.specs.declared.limits.TheConstants.{CALL_LIMIT}
-use Rattle.fs_script.specs.declared.script.Script.{Script}
-use Rattle.fs_sched.specs.Runs.{Stage, start, RunsFrom, StopsFrom, StopsBy, calls_in}
-use Rattle.fs_sched.specs.code.Done.{IsStop}
+use Rattle.fs_sched.specs.Runs.{Stage, start, RunsFrom, StopsFrom}
 use Rattle.fs_sched.specs.code.Stages.{stage_of, IsWhy}
-use Rattle.fs_verdict.specs.declared.fault.RunFault.{RunFault}
-use Rattle.fs_verdict.specs.declared.fault.RunFault.TheVariants as faults
-use Rattle.fs_sched.specs.declared.schedule.Schedule.{Schedule}
-use Rattle.fs_sched.proofs.Filling.{never_fills}
+use Rattle.fs_sched.proofs.Filling.{is_stop}
 use Rattle.fs_sched.proofs.running.play.Goals as goal
 
 pub run-requires : goal.run-requires
 run-requires g c = rw (c.make_room.ensures) (c.in-Ok.ensures.seats c.args.script.now.lists (sym (ap length c.as_slice.ensures) ∙ length-map c.as_slice.result.now (λ calls. calls.items)))
-
-stopped : (schedule : Schedule) (script : Script) (fault : RunFault) → calls_in script.lists ≤ CALL_LIMIT → IsWhy (StopsBy schedule script) fault → IsStop schedule script fault
-stopped schedule script (faults.Input f) few why = absurd why
-stopped schedule script faults.Read few why = absurd why
-stopped schedule script faults.Write few why = absurd why
-stopped schedule script faults.OutOfMemory few why = tt
-stopped schedule script faults.Full few why = absurd (never_fills schedule script few why)
-stopped schedule script (faults.UnderWay c) few why = why
 
 pub returns-in-Ok-run-clause-runs : goal.returns-in-Ok-run-clause-runs
 returns-in-Ok-run-clause-runs g c =
@@ -38,4 +24,4 @@ returns-in-Err-clause-fault g c =
     let why = rw (c.make_room.ensures) at c.in-Err.ensures.why in
     let threads = sym (ap length c.as_slice.ensures) ∙ length-map c.as_slice.result.now (λ calls. calls.items) in
     let first = c.in-Ok.ensures.start ∙ ap (start c.args.script.now.limits) (sym threads) in
-    stopped c.args.schedule c.args.script.now c.in-Err.fault c.requires.few (subst (λ (s : Stage). IsWhy (StopsFrom c.args.schedule c.args.script.now s) c.in-Err.fault) first why)
+    is_stop c.args.schedule c.args.script.now c.in-Err.fault c.requires.few (subst (λ (s : Stage). IsWhy (StopsFrom c.args.schedule c.args.script.now s) c.in-Err.fault) first why)

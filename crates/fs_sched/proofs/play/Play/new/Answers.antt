@@ -4,4 +4,4 @@ use Rattle.fs_sched.proofs.Marks.{unmarked}
 use Rattle.fs_sched.proofs.play.Play.new.Goals as goal
 
 pub returns-clause-seats : goal.returns-clause-seats
-returns-clause-seats c lists same = unmarked lists _ c.args.threads (record { seats = c.in_ok-core.ensures.seats; begun = ap length c.in_ok-begun.ensures ∙ length-replicate c.args.threads 0 }) c.in_ok-over.ensures same
+returns-clause-seats c lists same = unmarked lists _ c.args.threads (record { seats = c.in_ok-core.ensures.seats; begun = ap length (c.in_ok-begun.ensures.items_if_clones_equal (λ y same. same)) ∙ length-replicate c.args.threads 0 }) (c.in_ok-over.ensures.items_if_clones_equal (λ y is. is)) same

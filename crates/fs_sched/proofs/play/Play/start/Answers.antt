@@ -9,13 +9,13 @@ use Rattle.fs_sched.proofs.play.Play.start.Goals as goal
 
 pub returns-in-Ok-clause-event : goal.returns-in-Ok-clause-event
 returns-in-Ok-clause-event c =
-    let less : c.index-at.result.now < length c.calls_of-calls.result.now = omega arith in
+    let less : c.index-at.result.now < length c.of-calls.result.now = omega arith in
     let h : length c.args.self.now.begun.items ≡ length c.args.lists.now = c.requires.seats.seated.begun in
     let within : c.args.seat < length c.args.self.now.begun.items = omega (arith, h) in
     let at : c.index-at.result.now ≡ get_or c.args.self.now.begun.items c.args.seat 0 = c.index-at.ensures ∙ default_same c.args.self.now.begun.items c.args.seat _ 0 within in
     let begins = c.in-Ok.ensures.begins in
     Starts begins.0 c.index-calls-at.result c.requires.free
-    (call_there c.args.lists.now c.calls_of-calls.result.now (stage_of c.args.self.now) c.args.seat c.index-at.result.now c.index-calls-at.result c.calls_of-calls.ensures at less c.index-calls-at.is)
+    (call_there c.args.lists.now c.of-calls.result.now (stage_of c.args.self.now) c.args.seat c.index-at.result.now c.index-calls-at.result c.of-calls.ensures at less c.index-calls-at.is)
     begins.1
     (c.in-Ok.ensures.counted ∙ ap (λ (n : ℕ). slice_set c.args.self.now.begun.items c.args.seat (n + 1)) at)
 
@@ -27,6 +27,6 @@ returns-then-at-calls-clause-seats c =
     let h : length c.args.self.now.begun.items ≡ length c.args.lists.now = c.requires.seats.seated.begun in
     let within : c.args.seat < length c.args.self.now.begun.items = omega (arith, h) in
     let at : c.index-at.result.now ≡ get_or c.args.self.now.begun.items c.args.seat 0 = c.index-at.ensures ∙ default_same c.args.self.now.begun.items c.args.seat _ 0 within in
-    let none = call_not_there c.args.lists.now c.calls_of-calls.result.now (stage_of c.args.self.now) c.args.seat c.index-at.result.now c.calls_of-calls.ensures at c.if-at-calls.true in
+    let none = call_not_there c.args.lists.now c.of-calls.result.now (stage_of c.args.self.now) c.args.seat c.index-at.result.now c.of-calls.ensures at c.if-at-calls.true in
     one_more c.args.lists.now c.args.self.now (record c.args.self.now { over = with_item c.args.self.now.over c.args.seat true }) c.args.seat c.requires.seats
     (record { seats = c.requires.seats.seated.seats; begun = c.requires.seats.seated.begun }) refl refl (none_left c.args.lists.now (stage_of c.args.self.now) c.args.seat c.requires.free none)
