@@ -52,7 +52,14 @@ of_input failure.Write f e = absurd (cc)
 of_input failure.OutOfMemory f e = absurd (cc)
 of_input (failure.Unmade h) f e = ap failure.Unmade (sym e)
 
--- so is a checkpoint while calls are under way
+-- so is `Full`
+pub of_full : (g : Failure DrawFault) → Run run.Full ≡ fault_between g → g ≡ failure.Unmade (Run run.Full)
+of_full failure.Read e = absurd (cc)
+of_full failure.Write e = absurd (cc)
+of_full failure.OutOfMemory e = absurd (cc)
+of_full (failure.Unmade h) e = ap failure.Unmade (sym e)
+
+-- and a checkpoint while calls are under way
 pub of_under_way : (g : Failure DrawFault) (c : ℕ) → Run (run.UnderWay c) ≡ fault_between g → g ≡ failure.Unmade (Run (run.UnderWay c))
 of_under_way failure.Read c e = absurd (cc)
 of_under_way failure.Write c e = absurd (cc)

@@ -7,7 +7,7 @@ use Rattle.fs_sched.specs.Devices.{IsFaultOf}
 use Rattle.fs_sched.specs.Faults.{status_of_fault}
 use Rattle.fs_verdict.specs.declared.fault.RunFault.TheVariants as run
 use Rattle.fs_sched.specs.declared.schedule.Schedule.{Schedule}
-use Rattle.fs_record.specs.Faults.{IsFaultOfRecord}
+use Rattle.fs_sched.specs.Runs.{IsFaultOfRun}
 use Rattle.fs_draw.specs.declared.fault.DrawFault.{DrawFault}
 use Rattle.fs_draw.specs.declared.fault.DrawFault.TheVariants.{Run, NoCall}
 
@@ -25,5 +25,5 @@ fault_between (failure.Unmade f) = f
 
 -- the fault of a picture: why the run of the input is not recorded, that it is no journal, or that no call has the number that is asked for
 abbrev pub IsFaultOfPicture : Schedule → Option ℕ → List ℕ → DrawFault → Type 0
-IsFaultOfPicture schedule call input (Run fault) = IsFaultOfRecord schedule input fault ⊎ IsFaultOf (verdict_of input) fault
+IsFaultOfPicture schedule call input (Run fault) = IsFaultOfRun schedule input fault ⊎ IsFaultOf (verdict_of input) fault
 IsFaultOfPicture schedule call input (NoCall number) = call ≡ Some number

@@ -141,6 +141,7 @@ pub fn draw_input<R: Source, W: Sink>(
     ensures ran { IfOk result (λ well. (text : List ℕ) × IfSome (R.remaining reader.old) (λ input. IsPictureOf schedule input well text) × Appends (W.contents writer.old) (W.contents writer.new) text) }
     ensures end { OnOk result (IsAtEnd (R.remaining reader.new)) }
     ensures input { (f : ScriptFault) → result ≡ Err (DrawFault.Run (RunFault.Input f)) → IfSome (R.remaining reader.old) (λ input. (script_of input ≡ Err f) ⊎ (verdict_of input ≡ Err f)) }
+    ensures full { result ≢ Err (DrawFault.Run RunFault.Full) }
     ensures no_call { (number : ℕ) → result ≡ Err (DrawFault.NoCall number) → call ≡ Some number }
 
     // `UnderWay` comes where the script comes to a checkpoint while calls are under way; then it has no run.

@@ -96,11 +96,15 @@ rounds_end lists old now (ms, a, lead) over = (ms, a, subst (λ (l : List Moment
 
 -- ---- drawn seats
 
+pub seats_more : (t threads i seat : ℕ) (old new : Lcg) → i < DRAW_LIMIT → t ≡ threads → ((k : ℕ) → seats_from t (suc k) old ≡ seat ∷ seats_from t k new)
+    → seats_from threads (DRAW_LIMIT - i) old ≡ seat ∷ seats_from threads (DRAW_LIMIT - (i + 1)) new
+seats_more t threads i seat old new less e next =
+    ap (λ (k : ℕ). seats_from threads k old) (one_less DRAW_LIMIT i less)
+    ∙ subst (λ (u : ℕ). seats_from u (suc (DRAW_LIMIT - (i + 1))) old ≡ seat ∷ seats_from u (DRAW_LIMIT - (i + 1)) new) e (next (DRAW_LIMIT - (i + 1)))
+
 pub draws_more : (t threads i seat : ℕ) (old new : Lcg) → i < DRAW_LIMIT → t ≡ threads → ((k : ℕ) → seats_from t (suc k) old ≡ seat ∷ seats_from t k new)
     → map one_event (seats_from threads (DRAW_LIMIT - i) old) ≡ one_event seat ∷ map one_event (seats_from threads (DRAW_LIMIT - (i + 1)) new)
-draws_more t threads i seat old new less e next =
-    ap (λ (k : ℕ). map one_event (seats_from threads k old)) (one_less DRAW_LIMIT i less)
-    ∙ ap (map one_event) (subst (λ (u : ℕ). seats_from u (suc (DRAW_LIMIT - (i + 1))) old ≡ seat ∷ seats_from u (DRAW_LIMIT - (i + 1)) new) e (next (DRAW_LIMIT - (i + 1))))
+draws_more t threads i seat old new less e next = ap (map one_event) (seats_more t threads i seat old new less e next)
 
 no_draws : (n : ℕ) (g : Lcg) → seats_from n 0 g ≡ []
 unfolding seats_from first_words

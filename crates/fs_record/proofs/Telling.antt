@@ -84,6 +84,13 @@ pub singles_stay : (seats : List ℕ) → given_words (map one_event seats) ≡ 
 singles_stay [] = refl
 singles_stay (seat ∷ seats) = ap (λ (l : List Word). one_event seat ∷ l) (singles_stay seats)
 
+-- what is noted of an event is one
+pub event_noted : (lists : List (List Call)) (old new : Recorder) (seat : ℕ) → Notes lists old (one_event seat ∷ []) new → Event lists (stage_of old) seat (stage_of new)
+event_noted lists old new seat (ms, noted, is, all) =
+    let one : Words lists (stage_of old) (map one_event (seat ∷ [])) (entries_told ms) (stage_of new) = subst (λ (ws : List Word). Words lists (stage_of old) ws (entries_told ms) (stage_of new)) is (words_told lists (stage_of old) (stage_of new) ms all) in
+    let (middle, event, same) = (events_of lists (stage_of old) (stage_of new) (seat ∷ []) (entries_told ms) one).0 in
+    subst (λ (s : Stage). Event lists (stage_of old) seat s) (sym same) event
+
 -- where no thread has anything to do, every event is spent
 pub over_stays : (lists : List (List Call)) (r : Recorder) → IsSeated r (length lists) → IsOver lists (stage_of r) → (seats : List ℕ) → Words lists (stage_of r) (map one_event seats) [] (stage_of r)
 over_stays lists r seated over [] = (refl, refl)
@@ -101,7 +108,7 @@ past_spent lists r seat seated past = (seat_past r.core.seats seat (let e : leng
 
 -- ---- a run
 
-cut_told : (lists : List (List Call)) (old middle : Stage) (words : List Word) (ms : List Moment) → AreMoments lists old ms middle → AreOfWords lists words ms middle → Words lists old words (entries_told ms) middle
+pub cut_told : (lists : List (List Call)) (old middle : Stage) (words : List Word) (ms : List Moment) → AreMoments lists old ms middle → AreOfWords lists words ms middle → Words lists old words (entries_told ms) middle
 cut_told lists old middle words ms all (rest, is, how) =
     subst (λ (ws : List Word). Words lists old ws (entries_told ms) middle) (sym is) (subst (λ (l : List Entry). Words lists old (words_of ms ++ rest) l middle) (append-nil (entries_told ms)) (words_append lists old middle middle (words_of ms) rest (entries_told ms) [] (words_told lists old middle ms all) (go how)))
   where

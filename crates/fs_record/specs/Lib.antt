@@ -1,5 +1,4 @@
 pub mod Answers
-pub mod Faults
 pub mod Gives
 pub mod Laws
 pub mod Recordings

@@ -5,7 +5,7 @@
 //! `laws::told_is_a_run` that is a run of the script by the schedule, as `fs_sched` has them. `recorded` reads the script first.
 //!
 //! Enter at `recorded` or `record`. The definitions are in `specs/`: `Answers` (what the moments of a run are), `Gives` (the words
-//! that a schedule gives), `Recordings`, `Laws` and `Faults`. `specs/code/` ties the code to them, and changes no meaning.
+//! that a schedule gives), `Recordings` and `Laws`. `specs/code/` ties the code to them, and changes no meaning.
 #![tactic(auto)]
 
 pub mod laws;
@@ -13,6 +13,6 @@ mod recorder;
 mod recording;
 mod told;
 
-pub use recorder::{Recording, record, seated};
+pub use recorder::{Recording, record};
 pub use recording::recorded;
 pub use told::{Answer, Moment, Told};

@@ -1,6 +1,6 @@
 //! A run of a script, event by event, with what each was answered.
 
-ghost use Rattle.std.specs.Prelude.{◌≡◌, ◌<◌, ◌≤◌, ◌∷◌, ◌++◌, ◌-◌, ◌^◌, [], ℕ, List, IfOk, OnOk, IfErr, Ok, None, true, length, map, get_or, replicate};
+ghost use Rattle.std.specs.Prelude.{◌≡◌, ◌<◌, ◌≤◌, ◌∷◌, ◌++◌, ◌-◌, ◌^◌, [], ℕ, List, IfOk, OnOk, IfErr, IsErrOf, Ok, None, true, length, map, get_or, replicate};
 ghost use Rattle.std.specs.List.{range_with_len};
 ghost use Rattle.fs_names.specs.declared.limits.TheConstants.{NODE_LIMIT};
 ghost use Rattle.fs_calls.specs.declared.call.Call.{Call};
@@ -8,15 +8,16 @@ ghost use Rattle.fs_core.specs.CoreValues.{state_of};
 ghost use Rattle.fs_machine.specs.States.{empty};
 ghost use Rattle.fs_timeline.specs.declared.entry.Entry.{Entry};
 ghost use Rattle.fs_script.specs.declared.limits.TheConstants.{CALL_LIMIT};
-ghost use Rattle.fs_sched.specs.Runs.{start, has_more, calls_in, StopsAt, StopsInWords, StopsFrom, StopsBy};
+ghost use Rattle.fs_sched.specs.Runs.{start, has_more, calls_in, IsRefused, Stops, StopsInRounds, StopsAt, StopsInWords, StopsFrom};
 ghost use Rattle.fs_sched.specs.Schedules.{drawn_seats, one_event, words_by};
 ghost use Rattle.fs_sched.specs.declared.schedule.TheConstants.{DRAW_LIMIT};
 ghost use Rattle.fs_sched.specs.code.Counts.{AreCapped};
-ghost use Rattle.fs_sched.specs.code.Stages.{IsRefusal};
+ghost use Rattle.fs_sched.specs.code.Done.{IsStop};
+ghost use Rattle.fs_sched.specs.code.Stages.{IsRefusal, IsWhy};
 ghost use Rattle.fs_record.specs.Answers.{AnswersEvent, entries_of, entries_told};
 ghost use Rattle.fs_record.specs.Gives.{single_words, given_words, words_before};
 ghost use Rattle.fs_record.specs.Recordings.{IsRecording};
-ghost use Rattle.fs_record.specs.code.Recorders.{stage_of, IsSeated, AreOver, Notes, NotesCut, NotesToEnd, NotesRun, IsUnrecorded};
+ghost use Rattle.fs_record.specs.code.Recorders.{stage_of, IsSeated, AreOver, Notes, NotesCut, NotesToEnd, NotesRun};
 
 use crate::told::{Answer, Moment, Told};
 use fs_calls::Call;
@@ -24,7 +25,7 @@ use fs_core::Core;
 use fs_names::{Limits, NODE_LIMIT, SeatNo};
 use fs_sched::{
     Counts, DRAW_LIMIT, Divisor, Draws, RunEnd, RunFault, Schedule, checkpoint_fault, counts_of,
-    run_end,
+    refusal_fault, run_end, seated,
 };
 use fs_script::{CallLists, Script, Word};
 use std::alloc::{AllocError, Global};
@@ -45,40 +46,6 @@ pub struct Recording {
     pub end: RunEnd,
 }
 
-/// The calls of a thread; none where there is no such thread.
-fn calls_of(lists: &CallLists, seat: usize) -> &[Call]
-    ensures { result.now ≡ get_or lists.now seat [] }
-{
-    let lists = lists.as_slice();
-    if seat < lists.len() {
-        lists[seat].as_slice()
-    } else {
-        &[]
-    }
-}
-
-/// A core before the first event, with these limits and so many seats.
-pub fn seated(alloc: Global, limits: Limits, threads: usize) -> Result<Core, AllocError>
-    ensures state { IfOk result (λ core. state_of core ≡ empty limits NODE_LIMIT) }
-    ensures seats { IfOk result (λ core. length core.seats ≡ threads) }
-{
-    let mut core = Core::with_limits(alloc, NODE_LIMIT, limits)?;
-    for _ in 0..threads {
-        core.seat()?;
-    }
-    Ok(core)
-}
-
-fn zeros(alloc: Global, count: usize) -> Result<Vec<usize>, AllocError>
-    ensures { IfOk result (λ numbers. numbers.items ≡ replicate count 0) }
-{
-    let mut numbers = Vec::new(alloc);
-    for _ in 0..count {
-        numbers.push(0)?;
-    }
-    Ok(numbers)
-}
-
 impl Recorder {
     /// Before the first event of so many threads, by these limits.
     fn new(alloc: Global, limits: Limits, threads: usize) -> Result<Recorder, AllocError>
@@ -87,7 +54,7 @@ impl Recorder {
         ensures nothing { IfOk result (λ recorder. recorder.moments.items ≡ []) }
     {
         let core = seated(alloc, limits, threads)?;
-        let begun = zeros(alloc, threads)?;
+        let begun = vec![in alloc; 0; threads]?;
         Ok(Recorder {
             core,
             begun,
@@ -102,7 +69,7 @@ impl Recorder {
         ensures { result ≡ has_more lists.now (stage_of self.now) seat }
     {
         self.core.under_way(SeatNo::new(seat as u64)).is_some()
-            || self.begun[seat] < calls_of(lists, seat).len()
+            || self.begun[seat] < lists.of(seat).len()
     }
 
     /// The first thread that has; where none has, the number of threads.
@@ -128,8 +95,9 @@ impl Recorder {
         ensures seats { OnOk result (IsSeated self.new (length lists.now)) }
         ensures same { self.new.moments.items ≡ self.old.moments.items }
         ensures fault { IfErr result IsRefusal }
+        ensures full { IsErrOf result RunFault.Full → IsRefused lists.now (stage_of self.old) seat }
     {
-        let calls = calls_of(lists, seat);
+        let calls = lists.of(seat);
         let at = self.begun[seat];
         if at >= calls.len() {
             return Ok(Answer::Spent);
@@ -139,8 +107,7 @@ impl Recorder {
                 self.begun[seat] = at + 1;
                 Ok(Answer::Begun(number))
             }
-            Err(fs_core::Refusal::Full) => Err(RunFault::Full),
-            Err(_) => Err(RunFault::OutOfMemory),
+            Err(refusal) => Err(refusal_fault(refusal)),
         }
     }
 
@@ -151,6 +118,7 @@ impl Recorder {
         ensures seats { OnOk result (IsSeated self.new (length lists.now)) }
         ensures same { self.new.moments.items ≡ self.old.moments.items }
         ensures fault { IfErr result IsRefusal }
+        ensures full { IsErrOf result RunFault.Full → IsRefused lists.now (stage_of self.old) seat }
     {
         if seat >= self.begun.len() {
             return Ok(Answer::Spent);
@@ -168,6 +136,7 @@ impl Recorder {
         ensures notes { OnOk result (Notes lists.now self.old (one_event seat ∷ []) self.new) }
         ensures seats { OnOk result (IsSeated self.new (length lists.now)) }
         ensures fault { IfErr result IsRefusal }
+        ensures full { IsErrOf result RunFault.Full → IsRefused lists.now (stage_of self.old) seat }
     {
         let answer = self.happen(alloc, lists, seat)?;
         let may_end = answer.may_end();
@@ -189,6 +158,7 @@ impl Recorder {
         ensures notes { OnOk result (Notes lists.now self.old (replicate times (one_event seat)) self.new) }
         ensures seats { OnOk result (IsSeated self.new (length lists.now)) }
         ensures fault { IfErr result IsRefusal }
+        ensures full { IsErrOf result RunFault.Full → Stops lists.now (stage_of self.old) (replicate times seat) }
     {
         for _ in 0..times {
             self.event(alloc, lists, seat)?;
@@ -200,7 +170,7 @@ impl Recorder {
     fn begin_again(&mut self, alloc: Global) -> Result<(), RunFault>
         ensures notes { (lists : List (List Call)) → OnOk result (Notes lists self.old (Word.Checkpoint ∷ []) self.new) }
         ensures seats { (threads : ℕ) → IsSeated self.old threads → OnOk result (IsSeated self.new threads) }
-        ensures why { (lists : List (List Call)) → IfErr result (IsUnrecorded (StopsAt lists (stage_of self.old) Word.Checkpoint)) }
+        ensures why { (lists : List (List Call)) → IfErr result (IsWhy (StopsAt lists (stage_of self.old) Word.Checkpoint)) }
     {
         let entries = match self.core.checkpoint(alloc) {
             Ok(entries) => entries,
@@ -217,7 +187,7 @@ impl Recorder {
         requires { IsSeated self.old (length lists.now) }
         ensures notes { OnOk result (Notes lists.now self.old (single_words word) self.new) }
         ensures seats { OnOk result (IsSeated self.new (length lists.now)) }
-        ensures why { IfErr result (IsUnrecorded (StopsAt lists.now (stage_of self.old) word)) }
+        ensures why { IfErr result (IsWhy (StopsAt lists.now (stage_of self.old) word)) }
     {
         match word {
             Word::Events(seat, times) => self.events(alloc, lists, seat, times),
@@ -231,7 +201,7 @@ impl Recorder {
         requires { IsSeated self.old (length lists.now) }
         ensures notes { OnOk result (Notes lists.now self.old (given_words words.now) self.new) }
         ensures seats { OnOk result (IsSeated self.new (length lists.now)) }
-        ensures why { IfErr result (IsUnrecorded (StopsInWords lists.now (stage_of self.old) words.now)) }
+        ensures why { IfErr result (IsWhy (StopsInWords lists.now (stage_of self.old) words.now)) }
     {
         for word in words {
             self.word(alloc, lists, *word)?;
@@ -245,6 +215,7 @@ impl Recorder {
         ensures notes { OnOk result (NotesCut lists.now self.old (map one_event (drawn_seats seed (length lists.now) DRAW_LIMIT)) self.new) }
         ensures seats { OnOk result (IsSeated self.new (length lists.now)) }
         ensures fault { IfErr result IsRefusal }
+        ensures full { IsErrOf result RunFault.Full → Stops lists.now (stage_of self.old) (drawn_seats seed (length lists.now) DRAW_LIMIT) }
     {
         let threads = self.begun.len();
         if self.first_left(lists) >= threads {
@@ -268,6 +239,7 @@ impl Recorder {
         ensures notes { OnOk result (Notes lists.now self.old (map one_event (range_with_len 0 (length lists.now))) self.new) }
         ensures seats { OnOk result (IsSeated self.new (length lists.now)) }
         ensures fault { IfErr result IsRefusal }
+        ensures full { IsErrOf result RunFault.Full → Stops lists.now (stage_of self.old) (range_with_len 0 (length lists.now)) }
     {
         for seat in 0..self.begun.len() {
             self.event(alloc, lists, seat)?;
@@ -281,6 +253,7 @@ impl Recorder {
         ensures notes { OnOk result (NotesToEnd lists.now self.old self.new) }
         ensures seats { OnOk result (IsSeated self.new (length lists.now)) }
         ensures fault { IfErr result IsRefusal }
+        ensures full { IsErrOf result RunFault.Full → StopsInRounds lists.now (stage_of self.old) }
     {
         'rounds: loop {
             if self.first_left(lists) >= self.begun.len() {
@@ -296,7 +269,7 @@ impl Recorder {
         requires { IsSeated self.old (length script.now.lists) }
         ensures notes { OnOk result (NotesCut script.now.lists self.old (words_before schedule script.now.words (length script.now.lists)) self.new) }
         ensures seats { OnOk result (IsSeated self.new (length script.now.lists)) }
-        ensures why { IfErr result (IsUnrecorded (StopsInWords script.now.lists (stage_of self.old) (words_by schedule script.now.words (length script.now.lists)))) }
+        ensures why { IfErr result (IsWhy (StopsInWords script.now.lists (stage_of self.old) (words_by schedule script.now.words (length script.now.lists)))) }
     {
         match schedule {
             Schedule::Given => self.words(alloc, &script.lists, script.words.as_slice()),
@@ -310,7 +283,7 @@ impl Recorder {
         requires { IsSeated self.old (length script.now.lists) }
         ensures notes { OnOk result (NotesRun schedule script.now self.old self.new) }
         ensures seats { OnOk result (IsSeated self.new (length script.now.lists)) }
-        ensures why { IfErr result (IsUnrecorded (StopsFrom schedule script.now (stage_of self.old))) }
+        ensures why { IfErr result (IsWhy (StopsFrom schedule script.now (stage_of self.old))) }
     {
         self.before(alloc, script, schedule)?;
         if schedule.goes_on(script.words.as_slice()) {
@@ -345,7 +318,7 @@ fn counts_told(moments: &[Moment]) -> Counts
 pub fn record(alloc: Global, script: &Script, schedule: Schedule) -> Result<Recording, RunFault>
     requires few { calls_in script.now.lists ≤ CALL_LIMIT }
     ensures told { IfOk result (IsRecording schedule script.now) }
-    ensures fault { IfErr result (IsUnrecorded (StopsBy schedule script.now)) }
+    ensures fault { IfErr result (IsStop schedule script.now) }
 {
     let Ok(mut recorder) = Recorder::new(alloc, script.limits, script.lists.as_slice().len()) else {
         return Err(RunFault::OutOfMemory);

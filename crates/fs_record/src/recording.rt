@@ -1,7 +1,7 @@
 //! A run of the script that a text has.
 
 ghost use Rattle.std.specs.Prelude.{IfOk, IfErr};
-ghost use Rattle.fs_record.specs.Faults.{IsFaultOfRecord};
+ghost use Rattle.fs_sched.specs.Runs.{IsFaultOfRun};
 ghost use Rattle.fs_record.specs.Recordings.{IsRecorded};
 
 use crate::recorder::{Recording, record};
@@ -16,7 +16,7 @@ pub fn recorded(
     schedule: Schedule,
 ) -> Result<(Script, Recording), RunFault>
     ensures ok { IfOk result (λ made. IsRecorded schedule text.now made.0 made.1) }
-    ensures fault { IfErr result (IsFaultOfRecord schedule text.now) }
+    ensures fault { IfErr result (IsFaultOfRun schedule text.now) }
 {
     let script = match script_in(alloc, text) {
         Ok(script) => script,

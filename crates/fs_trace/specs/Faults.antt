@@ -5,7 +5,7 @@ use Rattle.fs_io.specs.declared.failure.Failure.TheVariants as failure
 use Rattle.fs_sched.specs.Faults.{status_of_fault}
 use Rattle.fs_verdict.specs.declared.fault.RunFault.TheVariants as run
 use Rattle.fs_sched.specs.declared.schedule.Schedule.{Schedule}
-use Rattle.fs_record.specs.Faults.{IsFaultOfRecord}
+use Rattle.fs_sched.specs.Runs.{IsFaultOfRun}
 use Rattle.fs_trace.specs.declared.fault.ScheduleFault.{ScheduleFault}
 use Rattle.fs_trace.specs.declared.fault.ScheduleFault.TheVariants.{Run, TooManyEvents}
 
@@ -23,5 +23,5 @@ fault_between (failure.Unmade f) = f
 
 -- the fault of a schedule that is written: why the run is not recorded, or too many events
 abbrev pub IsFaultOfSchedule : Schedule → List ℕ → ScheduleFault → Type 0
-IsFaultOfSchedule schedule input (Run fault) = IsFaultOfRecord schedule input fault
+IsFaultOfSchedule schedule input (Run fault) = IsFaultOfRun schedule input fault
 IsFaultOfSchedule schedule input TooManyEvents = Unit {0}

@@ -74,6 +74,7 @@ pub fn trace_script<R: Source, W: Sink>(
     ensures ran { IfOk result (λ end. (text : List ℕ) × IfSome (R.remaining reader.old) (λ input. IsTraceOf schedule every input end text) × Appends (W.contents writer.old) (W.contents writer.new) text) }
     ensures end { OnOk result (IsAtEnd (R.remaining reader.new)) }
     ensures input { (f : ScriptFault) → result ≡ Err (RunFault.Input f) → IfSome (R.remaining reader.old) (λ input. script_of input ≡ Err f) }
+    ensures full { result ≢ Err RunFault.Full }
 
     // `UnderWay` comes where the script comes to a checkpoint while calls are under way; then it has no run.
     ensures under_way { (call : ℕ) → result ≡ Err (RunFault.UnderWay call) → IfSome (R.remaining reader.old) (λ input. ReachesStop schedule input (RunFault.UnderWay call)) }
@@ -113,6 +114,7 @@ pub fn schedule_script<R: Source, W: Sink>(
     ensures ran { OnOk result ((text : List ℕ) × IfSome (R.remaining reader.old) (λ input. IsScheduleOf schedule input text) × Appends (W.contents writer.old) (W.contents writer.new) text) }
     ensures end { OnOk result (IsAtEnd (R.remaining reader.new)) }
     ensures input { (f : ScriptFault) → result ≡ Err (ScheduleFault.Run (RunFault.Input f)) → IfSome (R.remaining reader.old) (λ input. script_of input ≡ Err f) }
+    ensures full { result ≢ Err (ScheduleFault.Run RunFault.Full) }
 
     // `UnderWay` comes where the script comes to a checkpoint while calls are under way; then it has no run.
     ensures under_way { (call : ℕ) → result ≡ Err (ScheduleFault.Run (RunFault.UnderWay call)) → IfSome (R.remaining reader.old) (λ input. ReachesStop schedule input (RunFault.UnderWay call)) }

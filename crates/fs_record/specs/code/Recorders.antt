@@ -5,9 +5,6 @@ use Rattle.fs_core.specs.CoreValues.{state_of}
 use Rattle.fs_script.specs.declared.script.Script.{Script}
 use Rattle.fs_script.specs.declared.script.Word.{Word}
 use Rattle.fs_sched.specs.Runs.{Stage, has_more}
-use Rattle.fs_sched.specs.code.Stages.{IsRefusal}
-use Rattle.fs_verdict.specs.declared.fault.RunFault.{RunFault}
-use Rattle.fs_verdict.specs.declared.fault.RunFault.TheVariants.{UnderWay}
 use Rattle.fs_sched.specs.declared.schedule.Schedule.{Schedule}
 use Rattle.fs_record.specs.Answers.{AreMoments, words_of, AreOfWords, AnswersToEnd, TellsFrom}
 use Rattle.fs_record.specs.declared.told.Moment.{Moment}
@@ -41,8 +38,3 @@ NotesToEnd lists old new = (ms : List Moment) × (new.moments.items ≡ old.mome
 -- the same of all moments of a run
 abbrev pub NotesRun : Schedule → Script → Recorder → Recorder → Type 0
 NotesRun schedule script old new = (ms : List Moment) × (new.moments.items ≡ old.moments.items ++ ms) × TellsFrom schedule script (stage_of old) ms (stage_of new)
-
--- why a run is not recorded: a call's refusal, or a checkpoint at which it stops
-abbrev pub IsUnrecorded : (RunFault → Type 0) → RunFault → Type 0
-IsUnrecorded stops (UnderWay c) = stops (UnderWay c)
-IsUnrecorded stops fault = IsRefusal fault

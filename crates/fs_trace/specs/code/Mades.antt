@@ -4,7 +4,7 @@ use Rattle.fs_io.specs.declared.shell.Made.{Made}
 use Rattle.fs_verdict.specs.declared.fault.RunFault.{RunFault}
 use Rattle.fs_sched.specs.declared.running.RunEnd.{RunEnd}
 use Rattle.fs_sched.specs.declared.schedule.Schedule.{Schedule}
-use Rattle.fs_record.specs.Faults.{IsFaultOfRecord}
+use Rattle.fs_sched.specs.Runs.{IsFaultOfRun}
 use Rattle.fs_trace.specs.Faults.{IsFaultOfSchedule}
 use Rattle.fs_trace.specs.Traces.{IsTraceOf, IsScheduleOf}
 use Rattle.fs_trace.specs.declared.fault.ScheduleFault.{ScheduleFault}
@@ -12,7 +12,7 @@ use Rattle.fs_trace.specs.declared.fault.ScheduleFault.{ScheduleFault}
 -- the trace of a run, and how that ended; or why there is none
 pub record MakesTrace (schedule : Schedule) (every : Bool) (input : List ℕ) (result : Result (Made RunEnd) RunFault) : Type 0 where
   pub trace : IfOk result (λ made. IsTraceOf schedule every input made.end made.text.items)
-  pub fault : IfErr result (IsFaultOfRecord schedule input)
+  pub fault : IfErr result (IsFaultOfRun schedule input)
 
 -- the script with the moments of a run as its words; or why there is none
 pub record MakesSchedule (schedule : Schedule) (input : List ℕ) (result : Result (Made (Unit {0})) ScheduleFault) : Type 0 where

@@ -7,7 +7,7 @@ use Rattle.fs_draw.specs.Faults.{IsFaultOfPicture}
 use Rattle.fs_draw.specs.Pictures.{IsPictureOf}
 use Rattle.fs_draw.specs.declared.fault.DrawFault.{DrawFault}
 use Rattle.fs_draw.specs.declared.fault.DrawFault.TheVariants.{Run, NoCall}
-use Rattle.fs_draw.proofs.Reasons.{known_fault, of_input, of_no_call, of_read, of_under_way, of_write, picture_short}
+use Rattle.fs_draw.proofs.Reasons.{known_fault, of_full, of_input, of_no_call, of_read, of_under_way, of_write, picture_short}
 use Rattle.fs_draw.proofs.running.draw_input.Goals as goal
 
 pub returns-clause-ran : goal.returns-clause-ran
@@ -24,6 +24,12 @@ returns-in_err-well-clause-input g c f e =
     let gives = rw e at c.from_residual.ensures in
     let told = c.in_err-well.ensures.unmade (Run (run.Input f)) (ap Err (of_input c.in_err-well.field-0.0 f gives.1)) in
     known_fault _ _ _ f refl told.1 told.2.1.fault
+
+pub returns-in_err-well-clause-full : goal.returns-in_err-well-clause-full
+returns-in_err-well-clause-full g c e =
+    let gives = rw e at c.from_residual.ensures in
+    let told = c.in_err-well.ensures.unmade (Run run.Full) (ap Err (of_full c.in_err-well.field-0.0 gives.1)) in
+    ⊎_elim (λ no. absurd no) (λ no. absurd no) told.2.1.fault
 
 pub returns-in_err-well-clause-under_way : goal.returns-in_err-well-clause-under_way
 returns-in_err-well-clause-under_way g c call e =

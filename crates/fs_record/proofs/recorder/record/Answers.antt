@@ -1,13 +1,19 @@
-use Rattle.std.proofs.Common.{◌≡◌, List, ◌++◌, length, refl, sym, ap, ◌∙◌, subst}
+use Rattle.std.proofs.Common.{◌≡◌, Result, Err, List, ◌++◌, length, refl, sym, ap, ◌∙◌, subst, rules}
+use Rattle.std.specs.Prelude.{IfErr}
 use Rattle.std.proofs.lemmas.List.{length-map}
 use Rattle.fs_timeline.specs.declared.entry.Entry.{Entry}
 use Rattle.fs_core.specs.CoreValues.{state_of}
-use Rattle.fs_sched.specs.Runs.{Stage, start, calls_in}
+use Rattle.fs_sched.specs.Runs.{Stage, start, calls_in, StopsFrom}
 use Rattle.fs_sched.specs.code.Counts.{AreCounts, AreCapped}
+use Rattle.fs_sched.specs.code.Done.{IsStop}
+use Rattle.fs_sched.specs.code.Stages.{IsWhy}
+use Rattle.fs_verdict.specs.declared.fault.RunFault.{RunFault}
 use Rattle.fs_sched.proofs.Done.{uncapped}
+use Rattle.fs_sched.proofs.Filling.{is_stop}
 use Rattle.fs_sched.proofs.Whole.{few_entries}
 use Rattle.fs_record.specs.Answers.{TellsFrom, TellsRun, entries_told}
 use Rattle.fs_record.specs.code.Recorders.{stage_of}
+use Rattle.fs_record.specs.declared.recorder.Recording.{Recording}
 use Rattle.fs_record.specs.declared.told.Moment.{Moment}
 use Rattle.fs_record.proofs.Telling.{run_told}
 use Rattle.fs_record.proofs.recorder.record.Goals as goal
@@ -30,3 +36,13 @@ returns-clause-told c =
     let entries : List Entry = entries_told items ++ timeline in
     let counts : AreCounts c.plus-counts.result entries = uncapped c.plus-counts.result entries (calls_in script.lists) c.requires.few (few_entries schedule script (entries_told items) last (run_told schedule script first last items told)) (c.plus-counts.ensures (entries_told items) timeline before piece) in
     record { last = last; core = refl; tells = told; end = c.run_end.ensures entries counts }
+
+pub returns-in_err-run-clause-fault : goal.returns-in_err-run-clause-fault
+returns-in_err-run-clause-fault c =
+    let script = c.args.script.now in
+    let count : length c.as_slice.result.now ≡ length script.lists = sym (length-map c.as_slice.result.now (λ calls. calls.items)) ∙ ap length c.as_slice.ensures in
+    let begins : stage_of c.in-Ok.recorder ≡ start script.limits (length script.lists) = c.in-Ok.ensures.start ∙ ap (start script.limits) count in
+    let fault = c.in_err-run.field-0.0 in
+    let e : ◌≡◌ {A = Result Recording RunFault} c.from_residual.result (Err fault) = search rules in
+    subst (λ (r : Result Recording RunFault). IfErr r (IsStop c.args.schedule script)) (sym e)
+    (is_stop c.args.schedule script fault c.requires.few (subst (λ (s : Stage). IsWhy (StopsFrom c.args.schedule script s) fault) begins c.in_err-run.ensures.why))

@@ -8,7 +8,7 @@ use Rattle.fs_trace.specs.Faults.{IsFaultOfSchedule}
 use Rattle.fs_trace.specs.Traces.{IsScheduleOf}
 use Rattle.fs_trace.specs.declared.fault.ScheduleFault.{ScheduleFault}
 use Rattle.fs_trace.specs.declared.fault.ScheduleFault.TheVariants.{Run}
-use Rattle.fs_trace.proofs.Between.{of_input, of_under_way, of_write}
+use Rattle.fs_trace.proofs.Between.{of_input, of_full, of_under_way, of_write}
 use Rattle.fs_trace.proofs.running.schedule_script.Goals as goal
 
 pub returns-clause-ran : goal.returns-clause-ran
@@ -25,6 +25,12 @@ returns-in_err-done-clause-input g c f e =
     let gives = rw e at c.from_residual.ensures in
     let told = c.in_err-done.ensures.unmade (Run (run.Input f)) (ap Err (of_input c.in_err-done.field-0.0 f gives.1)) in
     known_script _ _ _ _ refl told.1 told.2.1.fault
+
+pub returns-in_err-done-clause-full : goal.returns-in_err-done-clause-full
+returns-in_err-done-clause-full g c e =
+    let gives = rw e at c.from_residual.ensures in
+    let told = c.in_err-done.ensures.unmade (Run run.Full) (ap Err (of_full c.in_err-done.field-0.0 gives.1)) in
+    absurd told.2.1.fault
 
 pub returns-in_err-done-clause-under_way : goal.returns-in_err-done-clause-under_way
 returns-in_err-done-clause-under_way g c call e =
