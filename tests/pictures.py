@@ -123,11 +123,11 @@ def counts(root):
 
 def crossed(root):
     """The bars that cross the line of a checkpoint in their row."""
-    lines = [re.match(r"M(\d+) (\d+)V(\d+)", group.find(SVG + "path").get("d")) for group in root.iter(SVG + "g") if group.get("class") == "checkpoint"]
+    lines = [re.match(r"M (\d+) (\d+)V (\d+)", group.find(SVG + "path").get("d")) for group in root.iter(SVG + "g") if group.get("class") == "checkpoint"]
     lines = [tuple(map(int, line.groups())) for line in lines]
     bars = [path.get("d") for group in root.iter(SVG + "g") if group.get("class") in ("call", "more") for path in group.iter(SVG + "path")]
     for bar in bars:
-        if found := re.match(r"M(\d+) (\d+)H(\d+)v16", bar):
+        if found := re.match(r"M (\d+) (\d+)H (\d+)v16", bar):
             one, y, other = map(int, found.groups())
             if any(min(one, other) < x < max(one, other) and top < y < bottom for x, top, bottom in lines):
                 yield bar
@@ -254,8 +254,8 @@ class Checkpoints(Case):
         root = self.drawn(MANY_PIECES)
         if not harness.compares:
             return
-        lines = [re.match(r"M(\d+) (\d+)V(\d+)", group.find(SVG + "path").get("d")) for group in root.iter(SVG + "g") if group.get("class") == "checkpoint"]
-        bars = [re.match(r"M(\d+) (\d+)", group.find(SVG + "path").get("d")) for group in root.iter(SVG + "g") if group.get("class") == "call"]
+        lines = [re.match(r"M (\d+) (\d+)V (\d+)", group.find(SVG + "path").get("d")) for group in root.iter(SVG + "g") if group.get("class") == "checkpoint"]
+        bars = [re.match(r"M (\d+) (\d+)", group.find(SVG + "path").get("d")) for group in root.iter(SVG + "g") if group.get("class") == "call"]
         rows = sorted({(int(line[2]), int(line[3])) for line in lines})
         self.same("its rows", len(rows), 2)
         for top, bottom in rows:

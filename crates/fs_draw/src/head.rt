@@ -135,12 +135,12 @@ struct Sign {
 }
 
 const WALKING: Sign = Sign {
-    drawing: b"<path class=\"w\" d=\"M0 0H24v14H0z\"/>",
+    drawing: b"<path class=\"w\" d=\"M 0 0H 24v14H 0z\"/>",
     words: b"before its commit",
 };
 
 const DOT: &[u8] =
-    b"<path class=\"w\" d=\"M0 0H8v14H0z\"/><path class=\"f\" d=\"M8 0H26v14H8z\"/><circle class=\"j\" cx=\"8\" cy=\"7\" r=\"4.5\"/><text class=\"m\" x=\"16\" y=\"11\">3</text>";
+    b"<path class=\"w\" d=\"M 0 0H 8v14H 0z\"/><path class=\"f\" d=\"M 8 0H 26v14H 8z\"/><circle class=\"j\" cx=\"8\" cy=\"7\" r=\"4.5\"/><text class=\"m\" x=\"16\" y=\"11\">3</text>";
 
 const COMMIT: Sign = Sign {
     drawing: DOT,
@@ -154,47 +154,47 @@ const PIECE_COMMIT: Sign = Sign {
 };
 
 const DONE: Sign = Sign {
-    drawing: b"<path class=\"f\" d=\"M0 0H24v14H0z\"/>",
+    drawing: b"<path class=\"f\" d=\"M 0 0H 24v14H 0z\"/>",
     words: b"after its commit",
 };
 
 const ARROWED: Sign = Sign {
-    drawing: b"<path class=\"x\" d=\"M1 7H8\"/><path class=\"y\" d=\"M14 7l-7 -4v8z\"/><circle class=\"y\" cx=\"19\" cy=\"7\" r=\"4.5\"/>",
+    drawing: b"<path class=\"x\" d=\"M 1 7H 8\"/><path class=\"y\" d=\"M 14 7l-7 -4v8z\"/><circle class=\"y\" cx=\"19\" cy=\"7\" r=\"4.5\"/>",
     words: b"commit given by another call",
 };
 
 const HATCHED: Sign = Sign {
-    drawing: b"<path class=\"p\" d=\"M0 0H24v14H0z\"/>",
+    drawing: b"<path class=\"p\" d=\"M 0 0H 24v14H 0z\"/>",
     words: b"given, change not made yet",
 };
 
 const TICK: Sign = Sign {
-    drawing: b"<path class=\"w\" d=\"M0 0H24v14H0z\"/><path class=\"i\" d=\"M5 11v3M10 11v3M19 11v3\"/>",
+    drawing: b"<path class=\"w\" d=\"M 0 0H 24v14H 0z\"/><path class=\"i\" d=\"M 5 11v3M 10 11v3M 19 11v3\"/>",
     words: b"tick: an event of the call",
 };
 
 const HELD: Sign = Sign {
-    drawing: b"<path class=\"h\" d=\"M0 1H24v11H0z\"/><text class=\"n\" x=\"3\" y=\"10\">d</text>",
+    drawing: b"<path class=\"h\" d=\"M 0 1H 24v11H 0z\"/><text class=\"n\" x=\"3\" y=\"10\">d</text>",
     words: b"holds the node named d",
 };
 
 const WAITING: Sign = Sign {
-    drawing: b"<path class=\"w\" d=\"M0 0H24v14H0z\"/><path class=\"u\" d=\"M8 1H24v12H8z\"/>",
+    drawing: b"<path class=\"w\" d=\"M 0 0H 24v14H 0z\"/><path class=\"u\" d=\"M 8 1H 24v12H 8z\"/>",
     words: b"waits; / #3: for /, held by #3",
 };
 
 const UNRETURNED: Sign = Sign {
-    drawing: b"<path class=\"w\" d=\"M16 0H0v14H16\"/><text class=\"o\" x=\"18\" y=\"11\">?</text>",
+    drawing: b"<path class=\"w\" d=\"M 16 0H 0v14H 16\"/><text class=\"o\" x=\"18\" y=\"11\">?</text>",
     words: b"did not return",
 };
 
 const CHECKPOINT: Sign = Sign {
-    drawing: b"<path class=\"j\" d=\"M12 -1V15\"/>",
+    drawing: b"<path class=\"j\" d=\"M 12 -1V 15\"/>",
     words: b"checkpoint: numbers begin again",
 };
 
 const FAULTY: Sign = Sign {
-    drawing: b"<path class=\"r\" d=\"M12 -1V15\"/>",
+    drawing: b"<path class=\"r\" d=\"M 12 -1V 15\"/>",
     words: b"the first fault of the journal",
 };
 

@@ -72,11 +72,11 @@ impl Ink {
         right: u64,
         height: u64,
     ) -> Result<(), AllocError> {
-        self.with(b"M", left)?;
+        self.with(b"M ", left)?;
         self.with(b" ", top)?;
-        self.with(b"H", right)?;
+        self.with(b"H ", right)?;
         self.with(b"v", height)?;
-        self.with(b"H", left)?;
+        self.with(b"H ", left)?;
         self.raw(b"z")
     }
 

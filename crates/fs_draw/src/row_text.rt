@@ -57,9 +57,9 @@ fn write_checkpoints(
         ink.raw(
             b"<g class=\"checkpoint\"><title>the journal begins again here, and the next call is #1</title>",
         )?;
-        ink.with(b"<path class=\"j\" d=\"M", *x)?;
+        ink.with(b"<path class=\"j\" d=\"M ", *x)?;
         ink.with(b" ", add(bands.top, 17))?;
-        ink.with(b"V", bands.bottom)?;
+        ink.with(b"V ", bands.bottom)?;
         ink.raw(b"\"/>")?;
         if words.contains(x) {
             ink.text_at(b"", *x, add(bands.top, 13), CHECKPOINT)?;
@@ -101,14 +101,14 @@ impl<'a> Canvas<'a> {
     ) -> Result<(), AllocError> {
         ink.raw(b"<path class=\"g\" d=\"")?;
         for (x, _) in axis {
-            ink.with(b"M", *x)?;
+            ink.with(b"M ", *x)?;
             ink.with(b" ", add(bands.top, 17))?;
-            ink.with(b"V", bands.bottom)?;
+            ink.with(b"V ", bands.bottom)?;
         }
         for band in &bands.bands {
             if band.shown {
-                ink.with(b"M8 ", band.top)?;
-                ink.with(b"H", less(self.frame.width, 8))?;
+                ink.with(b"M 8 ", band.top)?;
+                ink.with(b"H ", less(self.frame.width, 8))?;
             }
         }
         ink.raw(b"\"/>\n<g class=\"a\">")?;
@@ -224,9 +224,9 @@ impl<'a> Canvas<'a> {
             if fits {
                 ink.text_at(b"v", add(hold.from, 2), add(top, 9), words.as_slice())?;
             }
-            dots.with(b"M", if fits { end } else { hold.from })?;
+            dots.with(b"M ", if fits { end } else { hold.from })?;
             dots.with(b" ", add(top, 6))?;
-            dots.with(b"H", hold.to)?;
+            dots.with(b"H ", hold.to)?;
         }
         if any {
             ink.raw(b"<path class=\"d\" d=\"")?;
@@ -288,9 +288,9 @@ impl<'a> Canvas<'a> {
             Some(place) => add(place.x, 12),
             None => self.frame.left,
         };
-        ink.with(b"<path class=\"r\" d=\"M", x)?;
+        ink.with(b"<path class=\"r\" d=\"M ", x)?;
         ink.with(b" ", add(bands.top, 2))?;
-        ink.with(b"V", bands.bottom)?;
+        ink.with(b"V ", bands.bottom)?;
         ink.raw(b"\"/><g class=\"b\"><text class=\"e\"")?;
         let right = add(x, small_width(fault.words.len().saturating_add(4)));
         if right > self.frame.right {
@@ -348,12 +348,12 @@ fn write_bar(
     if open_left && open_right {
         ink.raw(b" N\" d=\"")?;
         ink.rectangle(bar.from, top, bar.to, BAR_HEIGHT)?;
-        ink.with(b"\"/><path class=\"i\" d=\"M", bar.from)?;
+        ink.with(b"\"/><path class=\"i\" d=\"M ", bar.from)?;
         ink.with(b" ", top)?;
-        ink.with(b"H", bar.to)?;
-        ink.with(b"M", bar.from)?;
+        ink.with(b"H ", bar.to)?;
+        ink.with(b"M ", bar.from)?;
         ink.with(b" ", add(top, BAR_HEIGHT))?;
-        ink.with(b"H", bar.to)?;
+        ink.with(b"H ", bar.to)?;
         return ink.raw(b"\"/>");
     }
     ink.raw(b"\" d=\"")?;
@@ -362,11 +362,11 @@ fn write_bar(
     } else {
         (bar.from, bar.to)
     };
-    ink.with(b"M", from)?;
+    ink.with(b"M ", from)?;
     ink.with(b" ", top)?;
-    ink.with(b"H", to)?;
+    ink.with(b"H ", to)?;
     ink.with(b"v", BAR_HEIGHT)?;
-    ink.with(b"H", from)?;
+    ink.with(b"H ", from)?;
     ink.raw(if open_left || open_right {
         b"\"/>"
     } else {
@@ -402,7 +402,7 @@ fn write_ticks(piece: &Piece, top: u64, ink: &mut Ink) -> Result<(), AllocError>
     }
     ink.raw(b"<path class=\"i\" d=\"")?;
     for x in &piece.ticks {
-        ink.with(b"M", *x)?;
+        ink.with(b"M ", *x)?;
         ink.with(b" ", add(top, less(BAR_HEIGHT, 3)))?;
         ink.raw(b"v3")?;
     }
@@ -430,10 +430,10 @@ fn write_arrow(arrow: Arrow, bands: &Bands, ink: &mut Ink) -> Result<(), AllocEr
     };
     let (start, dot) = (from.middle(), to.middle());
     let up = dot < start;
-    ink.with(b"<path class=\"x\" d=\"M", arrow.x)?;
+    ink.with(b"<path class=\"x\" d=\"M ", arrow.x)?;
     ink.with(b" ", start)?;
-    ink.with(b"V", if up { add(dot, 12) } else { less(dot, 12) })?;
-    ink.with(b"\"/><path class=\"y\" d=\"M", arrow.x)?;
+    ink.with(b"V ", if up { add(dot, 12) } else { less(dot, 12) })?;
+    ink.with(b"\"/><path class=\"y\" d=\"M ", arrow.x)?;
     ink.with(b" ", if up { add(dot, 6) } else { less(dot, 6) })?;
     ink.raw(if up {
         b"l-4 7h8z\"/>"
