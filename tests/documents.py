@@ -543,6 +543,32 @@ class Believed(Sentences):
         self.agrees("the crates with glue", sorted(spans(listed)), sorted({path.relative_to(CRATES).parts[0] for path in inside}))
 
 
+    @staticmethod
+    def size(paths):
+        """How many definitions, files and lines there are, but for pages that only hand on or name others."""
+        texts = {path: [line for line in path.read_text().splitlines() if is_counted(line)] for path in paths}
+        texts = {path: lines for path, lines in texts.items() if not all(line.startswith("pub mod") for line in lines)}
+        modules = (".".join(path.relative_to(CRATES).with_suffix("").parts) for path in texts)
+        definitions = sum(len(set(Definitions.file(module)[0].values())) for module in modules)
+        return definitions, len(texts), sum(map(len, texts.values()))
+
+    def test_sizes(self):
+        """What need not be read is about as long as the page says: each number is right within a twentieth."""
+        specs, proofs, bodies = (list(CRATES.glob(pattern)) for pattern in ("*fs*/specs/**/*.antt", "*fs*/proofs/**/*.antt", "*fs*/src/**/*.rt"))
+        lines = [sum(len(path.read_text().splitlines()) for path in paths) for paths in (proofs, bodies)]
+        rows = (
+            ("definitions", r"All `specs/` together are some ([\d,]+) definitions of ([\d,]+) files, ([\d,]+) lines", self.size(specs)),
+            ("glue", r"of its crate: some ([\d,]+) definitions of ([\d,]+) files, ([\d,]+) lines", self.size(path for path in specs if "code" in path.parts)),
+            ("proofs", r"All of `proofs/`: some ([\d,]+) files, ([\d,]+) lines", (len(proofs), lines[0])),
+            ("bodies", r"The bodies of functions: some ([\d,]+) lines of ([\d,]+) files", (lines[1], len(bodies))),
+        )
+        self.each(((name, name, *row) for name, *row in rows), self.look_at_size)
+
+    def look_at_size(self, name, pattern, found):
+        shown = tuple(map(number, re.search(pattern, BELIEVE.read_text()).groups()))
+        self.agrees(name, shown, tuple(one if abs(one - due) <= due / 20 else due for one, due in zip(shown, found)))
+
+
 class Changed(Sentences):
     """What docs/CHANGING.md counts: the files that name a call as a constructor, outside comments and imports, tests and examples."""
 
@@ -625,6 +651,15 @@ class Listed(Page):
         lines = (line.split(":") for line in (ROOT / "crates.txt").read_text().splitlines() if not line.startswith("#"))
         named = {crate.split()[0]: below.split() for crate, below in lines}
         return {crate: [one for one in below if one in named] for crate, below in named.items() if re.match("fs_|atomfs", crate)}
+
+    def test_libraries(self):
+        """Each crate names the libraries that crates.txt lists for it."""
+        for line in (ROOT / "crates.txt").read_text().splitlines():
+            crate, _, libraries = line.partition(":")
+            if not line.startswith("#"):
+                files = [path for path in (CRATES / crate.split()[0]).rglob("*") if path.suffix in (".rt", ".antt") and "out" not in path.parts]
+                words = set(re.findall(r"\w+", "\n".join(path.read_text() for path in files)))
+                self.agrees(crate, [name for name in libraries.split() if name not in words], [])
 
     def test_picture_of_the_crates(self):
         """Each crate of the product is in the picture, on a line above all those on which it stands."""
