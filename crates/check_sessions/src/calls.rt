@@ -8,6 +8,7 @@ use fs_share::{Answer, Closed};
 use fs_timeline::{Entry, Verdict};
 use std::alloc::Global;
 
+/// The path that a text is; none where it is none, or there is no memory.
 pub fn path(alloc: Global, text: &[u8]) -> Option<Path> {
     Path::parse(alloc, text).ok()
 }
@@ -32,10 +33,12 @@ pub fn is_lawful(alloc: Global, entries: &[Entry]) -> Option<bool> {
     Some(matches!(check(alloc, entries).ok()?, Verdict::Lawful))
 }
 
+/// Where the Commit of a call stands among entries, if it does.
 pub fn commit_place(entries: &[Entry], call: CallNo) -> Option<usize> {
     entries.iter().position(|entry| matches!(entry, Entry::Commit(number) if *number == call))
 }
 
+/// Where the Return of a call stands among entries, if it does.
 pub fn return_place(entries: &[Entry], call: CallNo) -> Option<usize> {
     entries.iter().position(|entry| matches!(entry, Entry::Return(number, _) if *number == call))
 }

@@ -13,11 +13,11 @@ ghost use Rattle.fs_sched.specs.Schedules.{drawn_seats, one_event, words_by};
 ghost use Rattle.fs_sched.specs.declared.schedule.TheConstants.{DRAW_LIMIT};
 ghost use Rattle.fs_sched.specs.code.Counts.{AreCapped};
 ghost use Rattle.fs_sched.specs.code.Done.{IsStop};
-ghost use Rattle.fs_sched.specs.code.Stages.{IsRefusal, IsWhy};
+ghost use Rattle.fs_sched.specs.code.Stages.{AreOver, IsRefusal, IsWhy};
 ghost use Rattle.fs_record.specs.Answers.{AnswersEvent, entries_of, entries_told};
 ghost use Rattle.fs_record.specs.Gives.{single_words, given_words, words_before};
 ghost use Rattle.fs_record.specs.Recordings.{IsRecording};
-ghost use Rattle.fs_record.specs.code.Recorders.{stage_of, IsSeated, AreOver, Notes, NotesCut, NotesToEnd, NotesRun};
+ghost use Rattle.fs_record.specs.code.Recorders.{stage_of, IsSeated, Notes, NotesCut, NotesToEnd, NotesRun};
 
 use crate::told::{Answer, Moment, Told};
 use fs_calls::Call;

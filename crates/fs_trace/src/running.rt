@@ -99,8 +99,8 @@ pub fn trace_script<R: Source, W: Sink>(
 }
 
 /// Reads a script to its end, runs it by a schedule, and writes the script again, up to its line `schedule` byte for byte, with
-/// the events and checkpoints of the run as its words. A run of that by its own words has the same text. It is made before its first byte is
-/// written.
+/// the events and checkpoints of the run as its words. A run of that by its own words has the same text. It is made before its
+/// first byte is written.
 pub fn schedule_script<R: Source, W: Sink>(
     alloc: Global,
     reader: &mut R,

@@ -1,10 +1,10 @@
 -- Where the recorder of a run stands, and what it has noted.
-use Rattle.std.specs.Prelude.{ℕ, ◌≡◌, ◌<◌, false, List, ◌++◌, length}
+use Rattle.std.specs.Prelude.{ℕ, ◌≡◌, List, ◌++◌, length}
 use Rattle.fs_calls.specs.declared.call.Call.{Call}
 use Rattle.fs_core.specs.CoreValues.{state_of}
 use Rattle.fs_script.specs.declared.script.Script.{Script}
 use Rattle.fs_script.specs.declared.script.Word.{Word}
-use Rattle.fs_sched.specs.Runs.{Stage, has_more}
+use Rattle.fs_sched.specs.Runs.{Stage}
 use Rattle.fs_sched.specs.declared.schedule.Schedule.{Schedule}
 use Rattle.fs_record.specs.Answers.{AreMoments, words_of, AreOfWords, AnswersToEnd, TellsFrom}
 use Rattle.fs_record.specs.declared.told.Moment.{Moment}
@@ -18,10 +18,6 @@ stage_of r = record { state = state_of r.core; begun = r.begun.items }
 pub record IsSeated (r : Recorder) (threads : ℕ) : Type 0 where
   pub seats : length r.core.seats ≡ threads
   pub begun : length r.begun.items ≡ threads
-
--- the threads before this one have nothing left to do
-abbrev pub AreOver : List (List Call) → Stage → ℕ → Type 0
-AreOver lists s from = (seat : ℕ) → seat < from → has_more lists s seat ≡ false
 
 -- moments of these words have come, and were noted
 abbrev pub Notes : List (List Call) → Recorder → List Word → Recorder → Type 0

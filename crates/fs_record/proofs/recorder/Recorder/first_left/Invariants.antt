@@ -1,4 +1,5 @@
-use Rattle.fs_record.specs.code.Recorders.{stage_of, AreOver}
+use Rattle.fs_sched.specs.code.Stages.{AreOver}
+use Rattle.fs_record.specs.code.Recorders.{stage_of}
 use Rattle.fs_record.proofs.recorder.Recorder.first_left.Given as goal
 
 -- no thread so far has more
