@@ -1,8 +1,9 @@
 //! A tree as a list of its entries.
 
-ghost use Rattle.std.specs.Prelude.{◌≡◌, ◌++◌, ◌∷◌, [], Some, IfOk, OnOk, map, reverse};
+ghost use Rattle.std.specs.Prelude.{◌≡◌, ◌++◌, ◌∷◌, [], Some, true, IfOk, OnOk, map, reverse};
+ghost use Rattle.std.specs.List.{list_all};
 ghost use Rattle.slab.specs.Slab.{ContainsKey};
-ghost use Rattle.fs_seq.specs.Rows.{row_of};
+ghost use Rattle.fs_seq.specs.Rows.{row_of, is_plain};
 ghost use Rattle.fs_slab.specs.code.Nodes.{graph, pairs, place};
 ghost use Rattle.fs_slab.specs.code.Slots.{IsForest, node_at, node_of, with_node, links_at, tree_of};
 ghost use Rattle.fs_seq.specs.code.Walks.{entries_below};
@@ -74,7 +75,8 @@ fn push_entries(
 
 /// The row of a node.
 fn row_at(alloc: Global, key: Vec<Name>, node: &Node) -> Result<Row, AllocError>
-    ensures { IfOk result (λ row. with_node key.items (node_of (Some (place node.now))) [] ≡ row_of row ∷ []) }
+    ensures row { IfOk result (λ row. with_node key.items (node_of (Some (place node.now))) [] ≡ row_of row ∷ []) }
+    ensures plain { IfOk result (λ row. is_plain row ≡ true) }
 {
     match node {
         Node::Dir(_) => Ok(Row {
@@ -101,6 +103,7 @@ fn visit(
     requires { ContainsKey nodes.now at.1 }
     ensures ahead { OnOk result (ahead.new.items ≡ ahead.old.items ++ reverse (entries_below at.0 (links_at (graph nodes.now) at.1))) }
     ensures rows { OnOk result (map row_of rows.new.items ≡ map row_of rows.old.items ++ with_node at.0 (node_at (graph nodes.now) at.1) []) }
+    ensures plain { OnOk result (list_all is_plain rows.old.items ≡ true → list_all is_plain rows.new.items ≡ true) }
 {
     let node = &nodes[at.node];
     push_entries(alloc, &at.key, node.links(), ahead)?;
@@ -113,7 +116,8 @@ fn visit(
 /// their names.
 pub fn rows(alloc: Global, nodes: &Slab<Node>) -> Result<Vec<Row>, AllocError>
     requires { IsForest (graph nodes.now) }
-    ensures { IfOk result (λ rows. map row_of rows.items ≡ tree_of (graph nodes.now)) }
+    ensures tree { IfOk result (λ rows. map row_of rows.items ≡ tree_of (graph nodes.now)) }
+    ensures plain { IfOk result (λ rows. list_all is_plain rows.items ≡ true) }
 {
     let mut rows = Vec::with_capacity(alloc, nodes.len())?;
     let mut ahead = Vec::new(alloc);

@@ -1,12 +1,13 @@
 //! The sequential tree: a value of its own for one thread.
 
-ghost use Rattle.std.specs.Prelude.{◌≡◌, ℕ, None, Some, Err, map, IfOk, OnOk, OnErr, IsTrue};
+ghost use Rattle.std.specs.Prelude.{◌≡◌, ℕ, true, None, Some, Err, map, IfOk, OnOk, OnErr, IsTrue};
 ghost use Rattle.fs_names.specs.Limits.{file_limit};
 ghost use Rattle.fs_calls.specs.Starts.{root_start};
 ghost use Rattle.fs_calls.specs.Outcomes.{reply_at, called};
 ghost use Rattle.fs_seq.specs.Memory.{needs_memory};
 ghost use Rattle.fs_seq.specs.Looks.{is_look};
-ghost use Rattle.fs_seq.specs.Rows.{misfit, row_of};
+ghost use Rattle.fs_seq.specs.Rows.{misfit, row_of, is_plain};
+ghost use Rattle.std.specs.List.{list_all};
 
 use crate::from_rows::{self, NotTree};
 use crate::rows::{self, Row};
@@ -79,7 +80,8 @@ impl SeqTree {
     /// The entries of the tree, in the order of its text: each directory is followed at once by its entries, in byte order
     /// of their names.
     pub fn rows(&self, alloc: Global) -> Result<Vec<Row>, AllocError>
-        ensures { IfOk result (λ rows. map row_of rows.items ≡ self.now.tree) }
+        ensures tree { IfOk result (λ rows. map row_of rows.items ≡ self.now.tree) }
+        ensures plain { IfOk result (λ rows. list_all is_plain rows.items ≡ true) }
     {
         rows::rows(alloc, &self.nodes)
     }

@@ -1,5 +1,6 @@
-use Rattle.std.proofs.Common.{◌≡◌, ◌++◌, length, map}
-use Rattle.fs_seq.specs.Rows.{row_of}
+use Rattle.std.proofs.Common.{◌≡◌, ◌++◌, length, map, true}
+use Rattle.std.specs.List.{list_all}
+use Rattle.fs_seq.specs.Rows.{row_of, is_plain}
 use Rattle.fs_slab.specs.code.Nodes.{graph}
 use Rattle.fs_slab.specs.code.Slots.{keys_from, nodes_at}
 use Rattle.fs_seq.specs.code.Walks.{pending}
@@ -10,6 +11,7 @@ use Rattle.fs_seq.proofs.rows.rows.Given as goal
 abbrev pub invariant-loop-at : goal.invariant-loop-at
 invariant-loop-at l = record {
   leads : Leads (graph l.nodes) l.ahead.items;
+  plain : list_all is_plain l.rows.items ≡ true;
   rows : map row_of l.rows.items ++ nodes_at (graph l.nodes) (pending (graph l.nodes) l.ahead.items) ≡ nodes_at (graph l.nodes) (keys_from (length (graph l.nodes)) (graph l.nodes) 0);
 }
 
