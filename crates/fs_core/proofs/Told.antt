@@ -1,5 +1,5 @@
 -- Replies of placed calls stay, and of the waiting calls the deepest wait for calls that go on.
-use Rattle.std.proofs.Common.{◌≡◌, ℕ, ◌+◌, ◌≤◌, true, List, [], ◌∷◌, ◌++◌, Some, length, length-append, refl, ap, ◌∙◌, arith, inl, inr}
+use Rattle.std.proofs.Common.{◌≡◌, ℕ, ◌+◌, ◌≤◌, true, List, [], ◌∷◌, ◌++◌, Option, Some, length, length-append, refl, sym, ap, ◌∙◌, arith, inl, inr}
 use Rattle.fs_names.specs.Keys.{Key}
 use Rattle.fs_names.specs.Parts.{HasNames}
 use Rattle.fs_calls.specs.Starts.{Start}
@@ -14,13 +14,14 @@ use Rattle.fs_machine.specs.declared.answers.Stepped.{Stepped}
 use Rattle.fs_machine.specs.declared.answers.Stepped.TheVariants.{Idle, Took, Busy, LetGo, Helped, Committed, CarriedOut, Returned}
 use Rattle.fs_laws.specs.Invariants.{Invariant}
 use Rattle.fs_laws.specs.Progress.{WaitsFor, HoldsAbove}
+use Rattle.fs_laws.proofs.calls.NextMoves.{takes_another}
 use Rattle.fs_laws.proofs.graphs.Walks.{at_from}
 use Rattle.fs_laws.proofs.journal.PlacesOfPlaced.{places_are_told}
 use Rattle.fs_laws.proofs.journal.ViewOfTimeline.{step_start, linearizes}
 use Rattle.fs_laws.proofs.states.Agreement.{Holder, run_accounts}
 use Rattle.fs_laws.proofs.states.Headline.{run_keeps}
 use Rattle.fs_laws.proofs.states.Waiters.{Does, AtNode, Waiting, does_step, waits_above}
-use Rattle.fs_core.specs.Told.{RepliesStay, StandsAt, CanGoOn, DeepestWaitsForOneThatGoesOn}
+use Rattle.fs_core.specs.Told.{RepliesStay, NamesAnother, StandsAt, CanGoOn, DeepestWaitsForOneThatGoesOn}
 
 -- the same timeline, or one more entry
 kept : (start : Start) (c : ℕ) (es new : List Entry) → new ≡ es → due start c new ≡ due start c es
@@ -45,6 +46,11 @@ by_step s t seat c (Returned r) law placed (d, op, moves, finished, same) = more
 pub replies_stay : (s : State) → Run s → RepliesStay s
 replies_stay s run c i seat op answer new is placed step =
     ap (λ (t : Start). due t c new.timeline) (step_start s seat answer new step) ∙ by_step s new seat c answer (linearizes s run).lawful (places_are_told s run c i op is placed).committed step
+
+pub names_another : (s : State) → Run s → NamesAnother s
+names_another s run seat n d new (c, op, moves, held, same) on =
+    let both : ◌≡◌ {A = Option ℕ} (Some c) (Some d) = sym moves.0 ∙ on in
+    let own : c ≡ d = cc in takes_another s c op n run moves.1 moves.2 (held ∙ ap (λ (x : ℕ). Some x) (sym own))
 
 -- of two calls that wait, the first for the second, the second stands deeper
 deeper : (s : State) → Run s → (c d e depth : ℕ) (op q : Record) → WaitsFor s c d op → WaitsFor s d e q → StandsAt s op depth → (more : ℕ) × (depth + 1 ≤ more) × StandsAt s q more

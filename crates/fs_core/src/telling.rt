@@ -21,7 +21,7 @@ ghost use Rattle.fs_numbers.specs.Numbers.{NumbersAreKept};
 ghost use Rattle.fs_numbers.specs.Agreement.{PartsAgree};
 ghost use Rattle.fs_numbers.specs.Holdings.{HoldsFour};
 ghost use Rattle.fs_core.specs.CoreValues.{state_of};
-ghost use Rattle.fs_core.specs.Told.{RepliesStay, DeepestWaitsForOneThatGoesOn};
+ghost use Rattle.fs_core.specs.Told.{RepliesStay, NamesAnother, DeepestWaitsForOneThatGoesOn};
 
 use crate::machine::Core;
 
@@ -44,13 +44,15 @@ impl Core {
         self.told();
     }
 
-    /// Of progress: each seat has a step, which the state determines; who waits for a waiting call stands above it, and of
-    /// the waiting calls each that stands deepest waits for one that can go on; where a call is under way, some seat's step
-    /// lets one go on; each such step takes from a bound on the steps that are left, to which a begin adds what its names
-    /// ask. A call that runs alone replies and changes as the sequential tree says.
+    /// Of progress: each seat has a step, which the state determines; a call that finds its node held is told of another
+    /// call; who waits for a waiting call stands above it, and of the waiting calls each that stands deepest waits for one
+    /// that can go on; where a call is under way, some seat's step lets one go on; each such step takes from a bound on the
+    /// steps that are left, to which a begin adds what its names ask. A call that runs alone replies and changes as the
+    /// sequential tree says.
     pub fn told_of_progress(&self)
         ensures steps { (seat : ℕ) → HasStep (state_of self.now) seat }
         ensures determined { IsDetermined (state_of self.now) }
+        ensures names_another { NamesAnother (state_of self.now) }
         ensures waiters_above { WaitsBelow (state_of self.now) }
         ensures deepest_goes_on { DeepestWaitsForOneThatGoesOn (state_of self.now) }
         ensures never_stuck { IsNeverStuck (state_of self.now) }

@@ -2,7 +2,7 @@ use Rattle.fs_machine.proofs.StepsAreDetermined.{one_step}
 use Rattle.fs_laws.proofs.states.OneCall.{meets_tree}
 use Rattle.fs_laws.proofs.states.StepsTakeWork.{takes_work, adds_work}
 use Rattle.fs_laws.proofs.states.Waiters.{has_step, never_stuck, waits_above}
-use Rattle.fs_core.proofs.Told.{deepest_waits}
+use Rattle.fs_core.proofs.Told.{deepest_waits, names_another}
 use Rattle.fs_core.proofs.machine.Core.told_of_progress.Goals as goal
 
 pub returns-clause-steps : goal.returns-clause-steps
@@ -28,3 +28,6 @@ returns-clause-alone c = λ first new seat call_no call reply. meets_tree _ firs
 
 pub returns-clause-deepest_goes_on : goal.returns-clause-deepest_goes_on
 returns-clause-deepest_goes_on c = deepest_waits _ c.told.ensures.run
+
+pub returns-clause-names_another : goal.returns-clause-names_another
+returns-clause-names_another c = names_another _ c.told.ensures.run
