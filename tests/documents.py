@@ -5,6 +5,7 @@ A row is what a page says. It is compared with what the program answers, a store
 import collections
 import functools
 import os
+import pathlib
 import re
 import shutil
 import subprocess
@@ -13,6 +14,7 @@ import unittest
 import harness
 import model
 from harness import DATA, ROOT, Case, Outcome, run
+from promised import promises
 
 README, EXAMPLES, DOCS = ROOT / "README.md", ROOT / "examples" / "README.md", ROOT / "docs"
 FORMATS, SPECIFICATION, BELIEVE, CHANGING, EMBEDDING, SPEED = (
@@ -161,9 +163,23 @@ class Pages(Page):
     def test_links(self):
         self.each(by_path(PAGES), self.look_at_links)
 
+    @staticmethod
+    def anchors(page):
+        """The places of a page to which a link may lead: its headings."""
+        headings = re.findall(r"^#+ (.*)", prose(page), re.M)
+        return {re.sub(r"[^\w -]", "", heading.lower()).replace(" ", "-") for heading in headings}
+
     def look_at_links(self, page):
-        links = [link.split("#")[0] for link in re.findall(r"\]\(([^)]+)\)", prose(page))]
-        self.same(page.name, [link for link in links if not (page.parent / link).exists()], [])
+        """Each but those into the net leads to a file or a folder that is there, and to a heading of it where it names one."""
+        lost = []
+        for link in re.findall(r"\]\(([^)\s]+)\)", prose(page)):
+            if "://" in link:
+                continue
+            path, _, anchor = link.partition("#")
+            at = page.parent / path if path else page
+            if not at.exists() or (anchor and anchor not in self.anchors(at)):
+                lost.append(link)
+        self.same(page.name, lost, [])
 
     def test_paths(self):
         self.each(by_path(PAGES), self.look_at_paths)
@@ -172,15 +188,6 @@ class Pages(Page):
         words = [word.removeprefix("../").rstrip("/") for span in spans(prose(page)) for word in span.split(" ")]
         paths = [word for word in words if self.A_PATH.fullmatch(word) and not self.ELSEWHERE.fullmatch(word)]
         self.same(page.name, [path for path in paths if not self.ends() & {path, f"{path}.antt"}], [])
-
-    def test_parts(self):
-        """A page that lists its parts lists all of them, each with a link."""
-        self.each(by_path((DOCS / "GUARANTEES.md", DOCS / "DECISIONS.md")), self.look_at_parts)
-
-    def look_at_parts(self, page):
-        head, *parts = re.split(r"^## (.*)\n", page.read_text(), flags=re.M)
-        anchors = [(title, re.sub(r"[^\w -]", "", title.lower()).replace(" ", "-")) for title in parts[::2]]
-        self.agrees(page.name, re.findall(r"\[([^]]+)\]\(#([^)]+)\)", head), anchors)
 
     def test_length_of_readme(self):
         words = len(README.read_text().split())
@@ -629,21 +636,70 @@ class Limits(Page):
         self.agrees(limit, sorted(set(self.listed(cell))), sorted(set(self.naming(limit))))
 
 
-class Listed(Page):
-    """What tables of pages list is what the sources have."""
+class Guarantees(Page):
+    """What docs/GUARANTEES.md says carries a promise, or refuses a wrong body, is there."""
+
+    PAGE = DOCS / "GUARANTEES.md"
+    # At most so many wrong bodies in all crates, and in one.
+    MOST_EDITS, MOST_OF_A_CRATE = 180, 18
+
+    def test_promises(self):
+        """Each crate of the product has a row, with functions and clauses of it."""
+        rows = table(self.PAGE, "Crate", "Main promise", "Carried by")
+        self.agrees("its crates, in order", [crate for row in rows for crate in spans(row[0])], promises.product())
+        self.each(((row[0], spans(row[0])[0], spans(row[2])) for row in rows), self.look_at_crate)
+
+    def look_at_crate(self, crate, words):
+        of = {}
+        for function in promises.public(CRATES / crate):
+            of[function.name] = of[f"{pathlib.Path(function.file).stem}::{function.name}"] = [clause.name for clause in function.ensures]
+        groups = []
+        for word in words:
+            if word in of or not groups:
+                groups.append((word, []))
+            else:
+                groups[-1][1].append(word)
+        for function, clauses in groups:
+            self.same(f"the clauses of {function}", [clause for clause in clauses or ["only"] if clause not in of.get(function, ())], [])
 
     def test_wrong_bodies(self):
-        """Each edit has a place in the table of docs/GUARANTEES.md, behind the name of its crate."""
-        shown, crate = [], None
-        for _, refused in table(DOCS / "GUARANTEES.md", "A body that", "Refused in"):
-            for name in spans(refused):
-                crate = name if (CRATES / name).is_dir() else crate
-                shown += [] if name == crate else [f"{crate} {name}"]
-        edits = [f"{path.parts[-3]} {path.stem}" for path in CRATES.glob("*/must-fail/*.edit")]
-        self.agrees("the table of wrong bodies", sorted(shown), sorted(edits))
-        most = max(collections.Counter(edit.split(" ")[0] for edit in edits).values())
-        budget = int(re.search(r"at most (\d+) in a crate", (DOCS / "DECISIONS.md").read_text())[1])
-        self.same("the most edits of a crate", max(most, budget), budget)
+        """Each has an edit in its crate, a function of a check that is called, or a test in Python, behind the name of the crate or file."""
+        rows = table(self.PAGE, "A body that", "Is refused by")
+        self.same("how many there are", len(rows), 29)
+        self.each(((body, spans(refused)) for body, refused in rows), self.look_at_body)
+
+    def look_at_body(self, names):
+        place, missing, named = None, [], 0
+        for name in names:
+            if (CRATES / name).is_dir() or (ROOT / name).is_file():
+                place = name
+            else:
+                named += 1
+                missing += [] if self.is_there(place, name) else [f"{place} {name}"]
+        self.same("what is not there", missing, [])
+        self.same("whether one is named", named > 0, True)
+
+    @staticmethod
+    def is_there(place, name):
+        if place.endswith(".py"):
+            loader = unittest.TestLoader()
+            found = loader.loadTestsFromName(f"{pathlib.Path(place).stem}.{name}")
+            return not loader.errors and found.countTestCases() == 1
+        if "::" in name:
+            texts = {path.stem: path.read_text() for path in (CRATES / place / "src").rglob("*.rt")}
+            module, function = name.split("::")
+            named = sum(len(re.findall(rf"^(?! *//).*\b{function}\b", text, re.M)) for text in texts.values())
+            return re.search(rf"\bfn {function}\b", texts.get(module, "")) is not None and named > 1
+        return (CRATES / place / "must-fail" / f"{name}.edit").exists()
+
+    def test_budget(self):
+        edits = collections.Counter(path.parts[-3] for path in CRATES.glob("*/must-fail/*.edit"))
+        self.same("the edits of all crates", max(edits.total(), self.MOST_EDITS), self.MOST_EDITS)
+        self.same("those of a crate", max(*edits.values(), self.MOST_OF_A_CRATE), self.MOST_OF_A_CRATE)
+
+
+class Listed(Page):
+    """What tables of pages list is what the sources have."""
 
     @staticmethod
     def product():
@@ -743,11 +799,8 @@ class Numbers(Sentences):
     def test_counts(self):
         """How many there are of what pages count."""
         inputs = [path for path in (DATA / "worked").rglob("*") if path.suffix in (".script", ".journal")]
-        edits = len(list(CRATES.glob("*/must-fail/*.edit")))
         rows = (
             (EXAMPLES, f"`tests/data/worked` has {len(inputs)} more scripts, journals and broken texts"),
-            (DOCS / "GUARANTEES.md", f"The gate gives the prover {edits} wrong bodies"),
-            (DOCS / "DECISIONS.md", f"{edits} stand in `must-fail/`"),
             (DOCS / "OBSERVERS.md", f"There are places for {constants('fs_observe/src/publisher.rt')['READER_PLACES']} observers"),
         )
         self.each(((page.stem, page, sentence) for page, sentence in rows), self.says)

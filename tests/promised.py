@@ -170,5 +170,28 @@ class Promised(Case):
         self.same("fs_none", (none.returncode, none.stdout, none.stderr.splitlines()[-1]), (2, "", "tests/promises: error: there is no crate fs_none; crates.txt lists them"))
 
 
+class Types(Case):
+    """What types alone promise."""
+
+    # What a call has that may wait for others.
+    RUNTIME = re.compile(r"\brt: &")
+
+    @staticmethod
+    def head(crate, function):
+        """A function up to its clauses, or to its body."""
+        lines = (ROOT / "crates" / crate / function.file).read_text().splitlines()[function.line - 1 :]
+        return re.split(r"\b(?:requires|ensures)\b|\{", "\n".join(lines))[0]
+
+    def waiting(self, crate, owner):
+        """The calls of a type that take the runtime."""
+        listed = [function for function in promises.public(ROOT / "crates" / crate) if function.name.startswith(f"{owner}::")]
+        return [function.name for function in listed if self.RUNTIME.search(self.head(crate, function))]
+
+    def test_observers_wait_for_nobody(self):
+        """To wait for a lock a call takes the runtime: a session's calls do, and none of an observer's does."""
+        self.same("an observer", self.waiting("fs_observe", "Observer"), [])
+        self.same("a session", self.waiting("fs_share", "Session"), ["Session::call", "Session::call_told"])
+
+
 if __name__ == "__main__":
     unittest.main()
