@@ -17,8 +17,8 @@ from harness import DATA, ROOT, Case, Outcome, run
 from promised import promises
 
 README, EXAMPLES, DOCS = ROOT / "README.md", ROOT / "examples" / "README.md", ROOT / "docs"
-FORMATS, SPECIFICATION, BELIEVE, CHANGING, EMBEDDING, SPEED = (
-    DOCS / f"{name}.md" for name in ("FORMATS", "SPECIFICATION", "BELIEVE", "CHANGING", "EMBEDDING", "SPEED")
+FORMATS, SPECIFICATION, BELIEVE, CHANGING, EMBEDDING, SPEED, THREADS = (
+    DOCS / f"{name}.md" for name in ("FORMATS", "SPECIFICATION", "BELIEVE", "CHANGING", "EMBEDDING", "SPEED", "THREADS")
 )
 PAGES = README, EXAMPLES, *sorted(DOCS.glob("*.md"))
 CRATES = ROOT / "crates"
@@ -216,12 +216,13 @@ class Shown(Page):
 
     def test_excerpts(self):
         """Each block in Rust stands in the source to which the page leads before it."""
-        self.each(by_path((DOCS / "THREADS.md", DOCS / "OBSERVERS.md")), self.look_at_excerpt)
+        found = re.findall(r"\]\((\S+\.rt)\)((?:(?!^```).)*?)^```rust\n(.*?)^```$", THREADS.read_text(), re.M | re.S)
+        self.agrees("the examples in Rust with a link before them", [shown for _, _, shown in found], blocks(THREADS, "rust"))
+        self.each(((link, link, shown) for link, _, shown in found), self.look_at_excerpt)
 
-    def look_at_excerpt(self, page):
-        link, shown = re.search(r"\]\((\S+\.rt)\).*?^```rust\n(.*?)^```$", page.read_text(), re.M | re.S).groups()
-        lines = [line.strip() for line in (page.parent / link).read_text().splitlines()]
-        self.same(page.name, [line for line in shown.splitlines() if line.strip() not in lines], [])
+    def look_at_excerpt(self, link, shown):
+        lines = [line.strip() for line in (DOCS / link).read_text().splitlines()]
+        self.same(link, [line for line in shown.splitlines() if line.strip() not in lines], [])
 
 
 class Faults(Page):
@@ -801,7 +802,7 @@ class Numbers(Sentences):
         inputs = [path for path in (DATA / "worked").rglob("*") if path.suffix in (".script", ".journal")]
         rows = (
             (EXAMPLES, f"`tests/data/worked` has {len(inputs)} more scripts, journals and broken texts"),
-            (DOCS / "OBSERVERS.md", f"There are places for {constants('fs_observe/src/publisher.rt')['READER_PLACES']} observers"),
+            (THREADS, f"There are places for {constants('fs_observe/src/publisher.rt')['READER_PLACES']} observers"),
         )
         self.each(((page.stem, page, sentence) for page, sentence in rows), self.says)
 
