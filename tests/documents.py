@@ -20,7 +20,9 @@ README, EXAMPLES, DOCS = ROOT / "README.md", ROOT / "examples" / "README.md", RO
 FORMATS, SPECIFICATION, BELIEVE, CHANGING, EMBEDDING, SPEED, THREADS = (
     DOCS / f"{name}.md" for name in ("FORMATS", "SPECIFICATION", "BELIEVE", "CHANGING", "EMBEDDING", "SPEED", "THREADS")
 )
-PAGES = README, EXAMPLES, *sorted(DOCS.glob("*.md"))
+# The pages that the packages show.
+PACKAGES = {language: ROOT / "bindings" / language / "README.md" for language in ("python", "rust")}
+PAGES = README, EXAMPLES, *PACKAGES.values(), *sorted(DOCS.glob("*.md"))
 CRATES = ROOT / "crates"
 HELPED = DATA / "worked" / "runs" / "helped_mkdir"
 # What `atomfs schedule --robin` writes of it.
@@ -207,11 +209,11 @@ class Shown(Page):
         self.agrees(page.name, re.sub(r" +<- .*", "", text), HELPED.with_suffix(".text").read_text())
 
     def test_examples_of_readme(self):
-        """Those in C, Python and Rust are those of docs/EMBEDDING.md, which are run; the last is the end of the crate `example_call`."""
+        """That in C is that of docs/EMBEDDING.md, and those in Python and Rust are those of the packages; all are run. The last is the end of the crate `example_call`."""
         (rattle,) = blocks(README, "rust")
-        self.agrees("in Rust", blocks(README, "rs"), blocks(EMBEDDING, "rust"))
-        for language in ("c", "python"):
-            self.agrees(f"in {language}", blocks(README, language), blocks(EMBEDDING, language))
+        self.agrees("in Rust", blocks(README, "rs"), blocks(PACKAGES["rust"], "rust"))
+        self.agrees("in C", blocks(README, "c"), blocks(EMBEDDING, "c"))
+        self.agrees("in Python", blocks(README, "python"), blocks(PACKAGES["python"], "python"))
         self.agrees("in Rattle", rattle, source("example_call/src/main.rt")[-len(rattle) :])
 
     def test_excerpts(self):

@@ -1,5 +1,5 @@
 """The library for C as it is built: its typed calls, and calls that break its rules as far as it answers them (typed.c), its header, what it exports
-and what is packed; the programs of examples/embed in C, Rust and Python, and the examples of docs/EMBEDDING.md.
+and what is packed; the programs of examples/embed in C, Rust and Python, and the examples of docs/EMBEDDING.md and of the packages' pages.
 
 With LIBATOMFS the programs of this folder take another library: its shared object, beside which the archive stands.
 """
@@ -30,8 +30,8 @@ c_sanitized: lawful, 11 calls returned
 rust: lawful, 410 calls returned
 python: lawful, 11 calls returned
 example_c: as docs/EMBEDDING.md says
-example_rust: as docs/EMBEDDING.md says
-example_python: as docs/EMBEDDING.md says
+example_rust: as bindings/rust/README.md says
+example_python: as bindings/python/README.md says
 readme_c: as README.md says
 readme_rust: as README.md says
 readme_python: as README.md says

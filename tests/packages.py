@@ -15,7 +15,7 @@ import tempfile
 import unittest
 
 import harness
-from documents import EMBEDDING, blocks, spans, table
+from documents import PACKAGES, blocks, spans, table
 from harness import ROOT, Case
 
 BINDINGS, EMBED, CRATES = ROOT / "bindings", ROOT / "embed", ROOT / "crates"
@@ -163,12 +163,12 @@ class ForPython(Installed):
         (wheel,) = (self.prefix / "share" / "atomfs").glob("*.whl")
         installed = self.installed(found, "by_wheel", wheel)
         self.ends([installed, "-c", f"import atomfs; assert atomfs.__version__ == {VERSION!r}; assert atomfs.library_version() == {VERSION!r}"])
-        (example,) = blocks(BINDINGS / "python" / "README.md", "python")
-        self.same("the example of its page", done([installed, "-c", example], self.folder), (0, "b'hello' lawful\n"))
+        (example,) = blocks(PACKAGES["python"], "python")
+        self.same("the example of its page", done([installed, "-c", example], self.folder), (0, "hello\nlawful\n"))
         told = self.passes(installed)
-        listed = [name for tests, _ in table(EMBEDDING, "Test of the suite", "Needs") for name in spans(tests)]
+        listed = [name for tests, _ in table(PACKAGES["python"], "Test of the suite", "Needs") for name in spans(tests)]
         skipped = re.findall(r"^(test_\w+) .*\.\.\. skipped ", told, re.M)
-        self.same("the tests that docs/EMBEDDING.md lists as left out", sorted(listed), sorted(skipped))
+        self.same("the tests that its page lists as left out", sorted(listed), sorted(skipped))
 
     def test_sources(self):
         """The package is built and installed from its sources, offline."""
