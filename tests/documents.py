@@ -1,6 +1,9 @@
 """What README and the pages of docs/ and examples/ show: each example, command, path and number that can be compared with what it speaks of.
 
 A row is what a page says. It is compared with what the program answers, a stored run, a source of the repository, or a count by the page's own rule.
+
+`python3 tests/documents.py --names CALL` prints the files that a further call like this one touches, and `--limit NAME` those that a change of a limit
+touches.
 """
 import collections
 import functools
@@ -9,6 +12,7 @@ import pathlib
 import re
 import shutil
 import subprocess
+import sys
 import unittest
 
 import harness
@@ -227,19 +231,46 @@ class Shown(Page):
         self.same(link, [line for line in shown.splitlines() if line.strip() not in lines], [])
 
 
-class Faults(Page):
-    """What docs/FORMATS.md says to write instead: the refused line has the fault, and with the other one the text is accepted."""
+# What `atomfs explain` is to print of each word, in a file of its name.
+EXPLAINED = DATA / "explained"
 
-    HEAD = "Fault", "Line", "Refused", "Write instead", "Because"
+
+class Faults(Page):
+    """What `atomfs explain` says to write instead: the refused line has the fault, and with the other one the text is accepted."""
+
+    # The texts of which one line is replaced, and what reads them.
+    TEXTS = {
+        "script": ("run", ["atomfs 1", "thread t", "stat /a", "schedule", "t*9 finish"]),
+        "journal": ("check", ["atomfs-journal 1", "begin 1 0 readdir /", "commit 1", "return 1 names"]),
+        "start": ("check", ["atomfs-journal 2", "start", "dir /", "dir /a", "file /a/f 6869", "entries", "begin 1 0 readdir /", "commit 1", "return 1 names a"]),
+    }
+    # The line that each row of a word replaces, in their order.
+    LINES = {
+        **{"BadHeader": (1, 1), "BadLine": (2, 3, 3, 3, 2, 3), "BadThread": (2, 2), "ThreadTwice": (3,), "NotAbsolute": (3, 2), "Nul": (3,)},
+        **{"NameTooLong": (3,), "TooManyNames": (3,), "Dot": (3,), "TrailingSlash": (3,), "BadNumber": (3, 3, 3), "BadHex": (3, 3, 4)},
+        **{"NoSchedule": (4,), "BadWord": (5, 5, 5), "TooLarge": (5,), "BadReply": (4, 4), "BadStart": (2, 3, 4, 5, 6)},
+    }
     # The program writes another message in its place.
     OF_NO_TEXT = "OutOfMemory"
+    ROW = re.compile(r"In a (\w+), for {1,6}(.*)\nwrite {15}(.*)\nbecause {13}.+\n")
+
+    @staticmethod
+    def named():
+        """The faults that the sources name: of words, and of paths."""
+        kinds, paths = (re.findall(r'#\[error\("([A-Z]\w+)', source(name)) for name in ("fs_words/src/fault.rt", "fs_names/src/fault.rt"))
+        return kinds, [path for path in paths if path != Faults.OF_NO_TEXT]
 
     def rows(self):
-        """Of each table the command that reads its text."""
-        texts = zip(("run", "check", "check"), blocks(FORMATS)[2:5], tables(FORMATS, *self.HEAD), strict=True)
-        for command, text, rows in texts:
-            for fault, line, refused, instead, _ in rows:
-                yield f"{command} {line} {refused}", command, text.splitlines(), int(line), spans(fault)[0], spans(refused), spans(instead)
+        """Of each row the command that reads its text."""
+        _, paths = self.named()
+        for word, numbers in self.LINES.items():
+            _, *rows = (EXPLAINED / word).read_text().split("\n\n")
+            for number, row in zip(numbers, rows, strict=True):
+                kind, refused, instead = self.ROW.fullmatch(f"{row.rstrip()}\n").groups()
+                command, lines = self.TEXTS["start" if word == "BadStart" else kind]
+                fault = f"BadPath {word}" if word in paths else word
+                refused = [] if refused.startswith("nothing") else [refused]
+                yield f"{command} {number} {' '.join(refused)}", command, lines, number, fault, refused, [instead]
 
     @staticmethod
     def with_line(lines, number, line):
@@ -262,40 +293,38 @@ class Faults(Page):
 
     def test_each_fault_has_a_row(self):
         """The faults that the sources name, with those of paths, are those of the page; and each has a row."""
-        kinds, paths = (re.findall(r'#\[error\("([A-Z]\w+)', source(name)) for name in ("fs_words/src/fault.rt", "fs_names/src/fault.rt"))
-        paths.remove(self.OF_NO_TEXT)
+        kinds, paths = self.named()
         means = {spans(fault)[0]: spans(meaning) for fault, meaning, _ in table(FORMATS, "Fault", "Means", "Line")}
         self.agrees("the table of faults", sorted(means), sorted([*kinds, *(f"BadPath {path}" for path in paths)]))
         self.agrees("the faults of paths", sorted(means["BadPath"]), sorted(paths))
         checks = [spans(fault)[0] for _, fault in table(SPECIFICATION, "Check", "Fault")]
         self.agrees("the checks of paths", sorted(checks), sorted(paths))
-        kinds = {*kinds, *(f"BadPath {path}" for path in paths)} - {"BadPath", self.OF_NO_TEXT}
-        self.agrees("the faults with a row", sorted({fault for _, _, _, _, fault, *_ in self.rows()}), sorted(kinds))
+        self.same("the faults with a row", sorted(self.LINES), sorted({*kinds, *paths} - {"BadPath", self.OF_NO_TEXT}))
+        others = {path.name: path.read_text().count("\n\n") for path in EXPLAINED.iterdir() if path.name not in self.LINES}
+        self.same("the texts without a row that have one", [name for name, rows in others.items() if rows], [])
 
 
 def explanations():
-    """What `atomfs explain` is to print of each word: what the fault means, and the rows of what to write instead."""
-    means = {spans(fault)[0]: meaning for fault, meaning, _ in table(FORMATS, "Fault", "Means", "Line")}
-    means |= {spans(kind)[0]: wrong for _, kind, wrong in table(SPECIFICATION, "Number", "Kind", "What is wrong")}
-    texts = {fault: f"{fault.split(' ')[-1]}: {meaning}\n" for fault, meaning in means.items()}
-    for kind, rows in zip(("script", "journal", "journal"), tables(FORMATS, *Faults.HEAD), strict=True):
-        for fault, _, refused, instead, because in rows:
-            refused, instead = ("".join(spans(cell)) or cell for cell in (refused, instead))
-            lines = (f"In a {kind}, for", refused), ("write", instead), ("because", because)
-            texts[spans(fault)[0]] += "\n" + "".join(f"{label:20}{said}\n" for label, said in lines)
-    return {fault.split(" ")[-1]: text.encode() for fault, text in texts.items()}
+    """What `atomfs explain` is to print of each word."""
+    return {path.name: path.read_bytes() for path in EXPLAINED.iterdir()}
 
 
 class Explained(Page):
-    """What `atomfs explain` prints of each fault is what the tables of docs/FORMATS.md and docs/SPECIFICATION.md say."""
+    """What `atomfs explain` prints of each fault is what is stored, and means what the tables of docs/FORMATS.md and docs/SPECIFICATION.md say."""
 
     def test_each_kind(self):
-        self.each(((word, word) for word in explanations()), self.look)
+        self.each(((word, word) for word in sorted(explanations())), self.look)
         listed = re.search(r"\[possible values: (.*)\]", (DATA / "help" / "explain").read_text())[1]
         self.agrees("the words that have a text", sorted(explanations()), sorted(listed.split(", ")))
 
     def look(self, word):
         self.same(f"atomfs explain {word}", run(b"", "explain", word), Outcome(0, explanations()[word]))
+
+    def test_meanings(self):
+        means = {spans(fault)[0].split(" ")[-1]: meaning for fault, meaning, _ in table(FORMATS, "Fault", "Means", "Line")}
+        means |= {spans(kind)[0]: wrong for _, kind, wrong in table(SPECIFICATION, "Number", "Kind", "What is wrong")}
+        shown = {word: text.decode().splitlines()[0] for word, text in explanations().items()}
+        self.agrees("what the words mean", {word: f"{word}: {meaning}" for word, meaning in means.items()}, shown)
 
     def test_two_words(self):
         """As a message has them."""
@@ -360,7 +389,7 @@ class Commands(Page):
         return [first, *(f"{first.split(' --')[0]} {span}" if span.startswith("--") else span for span in more)]
 
     def test_of_the_program(self):
-        rows = {README: table(README, "Command", "Does"), FORMATS: table(FORMATS, "Command", "Does", "Standard output")}
+        rows = {README: table(README, "Command", "Does"), FORMATS: table(FORMATS, "Command", "Writes")}
         shown = {page: [filled(command).removeprefix("atomfs ") for row in rows[page] for command in self.shown(row[0])] for page in rows}
         self.each(((f"{page.stem} {words}", words) for page in shown for words in shown[page]), self.look)
         self.agrees("the commands of FORMATS", sorted(shown[FORMATS]), sorted(self.due()))
@@ -545,13 +574,10 @@ class Believed(Sentences):
         self.says(BELIEVE, f"`fs_memory/src/memory.rt` has {sum(map(is_counted, lines))} lines")
 
     def test_glue(self):
-        """Nothing outside the folders `specs/code` uses what is inside, and the page names their crates."""
+        """Nothing outside the folders `specs/code` uses what is inside."""
         files = set(CRATES.glob("*fs*/specs/**/*.antt"))
         inside = {path for path in files if "code" in path.parts}
         self.same("what uses glue", [str(path) for path in files - inside if ".specs.code." in path.read_text()], [])
-        listed = re.search(r"Glue is what stands in .* lines, in (.*?)\. No", BELIEVE.read_text())[1]
-        self.agrees("the crates with glue", sorted(spans(listed)), sorted({path.relative_to(CRATES).parts[0] for path in inside}))
-
 
     @staticmethod
     def size(paths):
@@ -579,64 +605,140 @@ class Believed(Sentences):
         self.agrees(name, shown, tuple(one if abs(one - due) <= due / 20 else due for one, due in zip(shown, found)))
 
 
-class Changed(Sentences):
-    """What docs/CHANGING.md counts: the files that name a call as a constructor, outside comments and imports, tests and examples."""
+# What is no code of a file: its comments, and what it imports.
+NO_CODE = {".rt": r"//.*|^\s*(pub )?(ghost )?use [^;]*;", ".antt": r"--.*|^(pub )?use .*"}
 
-    NO_CODE = {".rt": r"//.*|^\s*(pub )?(ghost )?use [^;]*;", ".antt": r"--.*|^(pub )?use .*"}
 
-    @classmethod
-    def files(cls, call):
-        """The files by their part of a crate."""
-        found = collections.defaultdict(list)
-        for path in (path for crate in CRATES.glob("*fs*") for part in ("src", "specs", "proofs") for path in (crate / part).rglob("*.*t")):
-            crate, part, *rest = path.relative_to(CRATES).parts
-            is_example = re.match(r"(tests|examples|Examples)\b", rest[0])
-            if not is_example and re.search(rf"\b{call}\b", re.sub(cls.NO_CODE[path.suffix], "", path.read_text(), flags=re.M)):
-                found[part].append(crate)
-        return found
+@functools.cache
+def text_at(path):
+    return path.read_text(errors="replace")
+
+
+@functools.cache
+def code_at(path):
+    return re.sub(NO_CODE[path.suffix], "", text_at(path), flags=re.M)
+
+
+def product(*parts):
+    """The files of the product's crates in these folders."""
+    return [path for crate in CRATES.glob("*fs*") for part in parts for path in (crate / part).rglob("*.*t")]
+
+
+def is_example(path):
+    return re.match(r"(tests|examples|Examples)\b", path.relative_to(CRATES).parts[2])
+
+
+def beside():
+    """The files beside the product that a change of it may touch: programs that are none of it, tests, benches, and what stands on the library for C."""
+    crates = [path for crate in CRATES.iterdir() if "fs" not in crate.name for path in (crate / "src").rglob("*.rt")]
+    folders = "tests/*.*", "tests/data/texts/*", "tests/data/transcripts/*", "bench/*", "embed/*", "examples/embed/*", "bindings/*/*.md", "bindings/*/*/**/*"
+    files = (path for pattern in folders for path in ROOT.glob(pattern) if path.is_file() and path.suffix not in (".pyc", ".so") and "target" not in path.parts)
+    return [*crates, *files]
+
+
+def calls():
+    """The calls by their words, with their names as constructors."""
+    return {name.lower(): name for name in re.findall(r"^    (\w+)\(", body_of("fs_calls/src/call.rt", "Call"), re.M)}
+
+
+@functools.cache
+def naming_call(call):
+    """The files that a further call like this one touches: those that name it as a constructor, and beside the product those that have its word."""
+    name = calls()[call]
+    parts = {"source": "src", "definitions": "specs", "proofs": "proofs"}
+    found = {part: [path for path in product(folder) if not is_example(path) and re.search(rf"\b{name}\b", code_at(path))] for part, folder in parts.items()}
+    has_word = re.compile(rf"\b{name}\b|[\"']{call}[ \"']|\b(def |fn |atomfs_){call}\b|CALL_{call.upper()}\b")
+    return found | {"beside the product": [path for path in beside() if has_word.search(text_at(path))]}
+
+
+def limits():
+    """The limits by their constants, and those of names and files, which are two numbers each."""
+    files = "fs_names/src/limits.rt", "fs_words/src/limits.rt", "fs_script/src/limits.rt", "fs_sched/src/schedule.rt", "fs_sched/src/seeding.rt"
+    found = {name: [value] for file in files for name, value in constants(file).items()}
+    values = [int(value) for value in re.findall(r"Limits::V[12] => ([\d_]+)", source("fs_names/src/limits.rt"))]
+    return found | {"name_limit": values[:2], "file_limit": values[2:]}
+
+
+@functools.cache
+def naming_limit(limit):
+    """The files that a change of a limit touches: those that name it, and those where its number is written out."""
+    found = {"named": [path for path in product("src", "specs") if re.search(rf"\b{limit}\b", code_at(path))]}
+    pages = [page for page in PAGES if page not in PACKAGES.values()]
+    files = [*product("src", "specs", "proofs"), *beside(), *pages, *EXPLAINED.iterdir()]
+    for value in limits()[limit]:
+        written = "|".join(sorted({f"{value}", f"{value:_}", f"{value:,}"}))
+        pattern = re.compile(rf"(?<![\w^.,-])(?<!\^ )({written})(?![\w^]|[.,]\d)")
+        found[f"{value:,} written out"] = [path for path in files if pattern.search(text_at(path))]
+    return found
+
+
+def printed(found):
+    """Lists of files under their heads."""
+    return "".join(f"{head}: {len(paths)} files\n" + "".join(f"  {path.relative_to(ROOT)}\n" for path in sorted(paths)) for head, paths in found.items())
+
+
+class Touched(Sentences):
+    """What --names and --limit print: the files that a change of a call or of a limit touches, found in the sources."""
+
+    # Where calls and limits stand that no compiler and no prover points to.
+    HAVE = (
+        *(("rename", file) for file in ("crates/fs_calls/src/table.rt", "crates/fs_calls/specs/Rows.antt", "crates/fs_machine/specs/Moves.antt", "tests/model.py", "embed/atomfs.h")),
+        *(("PATH_LIMIT", file) for file in ("crates/fs_walk/src/walk.rt", "crates/fs_names/proofs/ReadingLemmas.antt", "tests/data/explained/TooManyNames")),
+        *(("ENTRY_LIMIT", file) for file in ("crates/fs_calls/src/ranges.rt", "crates/fs_calls/specs/Examples.antt", "crates/fs_seq/proofs/Spots.antt", "tests/data/transcripts/trees")),
+        *(("NODE_LIMIT", file) for file in ("crates/fs_nodes/src/store.rt", "crates/fs_laws/specs/Events.antt", "embed/atomfs.h", "docs/SPECIFICATION.md")),
+        *(("TEXT_LIMIT", file) for file in ("crates/fs_io/specs/Devices.antt", "crates/fs_words/proofs/ReadLemmas.antt", "docs/FORMATS.md", "tests/data/explained/TooLarge")),
+        *(("file_limit", file) for file in ("crates/fs_names/specs/Limits.antt", "crates/fs_calls/specs/Examples.antt", "tests/data/transcripts/trees", "embed/atomfs.h")),
+    )
+
+    def test_known_places(self):
+        self.each(((f"{what} {file}", what, file) for what, file in self.HAVE), self.look)
+
+    def look(self, what, file):
+        found = naming_call(what) if what in calls() else naming_limit(what)
+        self.same(f"{file} is touched by a change of {what}", ROOT / file in {path for paths in found.values() for path in paths}, True)
 
     def test_counts(self):
-        rows = table(CHANGING, "The twelfth call looks at", "Like", "Source", "Definitions", "Proofs", "Together")
-        self.each(((looks_at, spans(like)[0].title(), list(map(int, counts))) for looks_at, like, *counts in rows), self.look)
+        """How many files of the product name a call of each form."""
+        node, entry, pair = (sum(len(naming_call(call)[part]) for part in ("source", "definitions", "proofs")) for call in ("truncate", "rmdir", "rename"))
+        self.says(CHANGING, f"a node touches {node} files of the product (`truncate`), an entry {entry} (`rmdir`), a pair {pair} (`rename`)")
 
-    def look(self, call, shown):
-        found = self.files(call)
-        counts = [len(found[part]) for part in ("src", "specs", "proofs")]
-        self.agrees(call, shown, [*counts, sum(counts)])
+    def test_every_call(self):
+        """docs/CHANGING.md lists the sources that have a case for each call."""
+        found = set.intersection(*(set(naming_call(call)["source"]) for call in calls()))
+        listed = re.search(r"has a case in each of ([^.]*(?:\.rt[^.]*)*)\.\s", CHANGING.read_text())[1]
+        shown, folder = [], ""
+        for span in spans(listed):
+            folder = span if span.endswith("/") else folder
+            shown += [] if span.endswith("/") else [span if "/" in span else f"{folder}{span}"]
+        self.agrees("the sources with a case for each call", sorted(shown), sorted(str(path.relative_to(CRATES)) for path in found))
 
-    def test_proofs_of_a_pair(self):
-        proofs = self.files("Rename")["proofs"]
-        of_laws, of_ops = proofs.count("fs_laws"), proofs.count("fs_ops")
-        self.says(CHANGING, f"{of_laws} of the {len(proofs)} proof files are in `fs_laws`, {of_ops} in `fs_ops`")
+    def test_code_alone(self):
+        """A comment and an import name nothing, nor does an example."""
+        texts = "//! Call::Rename\n", "use fs_calls::{\n    Call,\n    Rename,\n};\n", "let call = Call::Rename(a, b); // so\n"
+        self.agrees("what is code", [re.sub(NO_CODE[".rt"], "", text, flags=re.M).count("Rename") for text in texts], [0, 0, 1])
+        texts = "-- Rename\n", "use Rattle.fs_calls.{Rename}\n", "reserves (Rename p q) = false -- so\n"
+        self.agrees("what is defined", [re.sub(NO_CODE[".antt"], "", text, flags=re.M).count("Rename") for text in texts], [0, 0, 1])
+        files = [path for call in calls() for part in ("source", "definitions", "proofs") for path in naming_call(call)[part]]
+        self.agrees("examples", [path for path in files if path.stem.lower() == "examples"], [])
 
+    def test_commands(self):
+        """Those that the pages name, and words that are none."""
+        commands = Commands.of_a_shell(r"python3 tests/documents\.py --\w+ \w+")
+        self.same("commands", len(commands) >= 2, True)
+        self.each(commands, self.look_at_command)
+        self.each((("--names", "--names", "renam", calls()), ("--limit", "--limit", "NODES", limits())), self.look_at_refusal)
 
-class Limits(Page):
-    """The files that name a limit, as docs/CHANGING.md has them: outside comments, proofs, and where it is defined and handed on."""
+    def asked(self, *words):
+        done = subprocess.run(["python3", "tests/documents.py", *words], cwd=ROOT, capture_output=True, text=True, timeout=harness.MOST_SECONDS)
+        return Outcome(done.returncode, done.stdout, done.stderr)
 
-    @staticmethod
-    def naming(limit):
-        """The files that name a limit, as pairs of a crate and a file."""
-        for path in (path for crate in CRATES.glob("*fs*") for part in ("src", "specs") for path in (crate / part).rglob("*.*t")):
-            code = re.sub(r"(//|--).*", "", path.read_text())
-            if path.name not in ("limits.rt", "lib.rt") and re.search(rf"\b{limit}\b", code):
-                yield path.relative_to(CRATES).parts[0], path.stem
+    def look_at_command(self, command):
+        _, _, option, word = command.split(" ")
+        found = naming_call(word) if option == "--names" else naming_limit(word)
+        self.same(command, self.asked(option, word), Outcome(0, printed(found), ""))
 
-    @staticmethod
-    def listed(cell):
-        """The same of a cell, where each file stands behind its crate."""
-        crate = ""
-        for word in spans(cell):
-            parts = word.rstrip("/").split("/")
-            crate, rest = (parts[0], parts[1:]) if (CRATES / parts[0]).is_dir() else (crate, parts)
-            if rest and rest[-1] not in ("src", "specs", "code"):
-                yield crate, rest[-1].partition(".")[0]
-
-    def test_limits(self):
-        rows = table(CHANGING, "Limit", "Constant", "Where it is named", "Where its number is written out")
-        self.each(((spans(name)[0], spans(name)[0], cell) for _, name, cell, _ in rows if re.match("`[A-Z]", name)), self.look)
-
-    def look(self, limit, cell):
-        self.agrees(limit, sorted(set(self.listed(cell))), sorted(set(self.naming(limit))))
+    def look_at_refusal(self, option, word, known):
+        self.same(f"{option} {word}", self.asked(option, word), Outcome(2, "", f"{word} is none of {', '.join(known)}\n"))
 
 
 class Guarantees(Page):
@@ -728,19 +830,11 @@ class Listed(Page):
         below = [f"{crate} on {one}" for crate, named in self.product().items() for one in named if lines[one] <= lines[crate]]
         self.agrees("what stands on a crate that is not below it", [], below)
 
-    def test_architecture(self):
-        """The crates of the product, and which each stands on, but those that follow from the rest."""
-        named = self.product()
-        rows = table(DOCS / "ARCHITECTURE.md", "Crate", "What it owns", "What the layer above may know of it", "Stands on")
-        self.agrees("its crates, in order", [spans(row[0])[0] for row in rows], list(named))
-        reached = {}
-        for crate, below in named.items():
-            reached[crate] = set(below).union(*(reached[one] for one in below))
-        self.each(((crate, crate, set(spans(row[-1])), reached) for crate, row in zip(named, rows, strict=True)), self.look_at_crate)
-
-    def look_at_crate(self, crate, shown, reached):
-        follows = set().union(*(reached[one] for one in reached[crate]))
-        self.agrees(crate, shown, reached[crate] - follows)
+    def test_laws(self):
+        """docs/MACHINE.md has each law of the machine and of its runs, by the name of the function that states it."""
+        laws = [name for crate in ("fs_machine", "fs_laws", "fs_numbers") for name in re.findall(r"^pub fn (\w+)\(", source(f"{crate}/src/laws.rt"), re.M)]
+        shown = [name for names, _ in table(DOCS / "MACHINE.md", "Law", "Says") for name in spans(names)]
+        self.agrees("the laws", sorted(shown), sorted(laws))
 
     def test_numbers_of_errors(self):
         """The numbers of errors, and of the kinds of a verdict."""
@@ -750,9 +844,14 @@ class Listed(Page):
         kinds = [(int(value), spans(kind)[0]) for value, kind, _ in table(SPECIFICATION, "Number", "Kind", "What is wrong")]
         self.agrees("kinds", kinds, variants("fs_timeline/src/verdict.rt", "FaultKind"))
 
-    def test_exit_statuses(self):
-        shown = [row[0] for row in table(FORMATS, "Exit status", "Means", "Standard error")]
-        self.agrees("the exit statuses", shown, re.findall(r"^  (\d)  ", (DATA / "help" / "atomfs").read_text(), re.M))
+    def test_messages(self):
+        """The statuses at which something is told, and each message that the sources have."""
+        said = re.search(r"^Messages go to .*", FORMATS.read_text(), re.M)[0]
+        statuses = re.findall(r"^  (\d)  ", (DATA / "help" / "atomfs").read_text(), re.M)
+        self.agrees("the statuses", re.findall(r"\b(\d): ", said), [status for status in statuses if status != "0"])
+        sources = "".join(source(f"{crate}/src/fault.rt") for crate in ("fs_verdict", "fs_threads", "fs_trace", "fs_draw"))
+        messages = [re.sub(r"\{\w*\}", "N", message) for message in re.findall(r'#\[error\("([^"]*\w \w[^"]*|full)"', sources)]
+        self.agrees("the messages", sorted(set(spans(said)) - {"atomfs: ", "line N: KIND"}), sorted(messages))
 
     def test_library(self):
         """The functions of embed/atomfs.h, and its statuses after which something has changed."""
@@ -790,7 +889,6 @@ class Numbers(Sentences):
             f"The {scripts['THREAD_LIMIT'] + 1:,}th thread, the {scripts['CALL_LIMIT'] + 1:,}th call and the {events + 1:,}st given event",
             f"`THREAD*NUMBER` (1 to {events:,} events)",
             f"with a number outside 1 to {events:,}",
-            f"at most {events:,} events are given",
             f"a limit is exceeded: {texts['TEXT_LIMIT']:,} bytes of a text, {scripts['THREAD_LIMIT']} threads, {scripts['CALL_LIMIT']:,} calls or {events:,} given",
             f"then at most {scripts['THREAD_NAME_LIMIT'] - 1} of `a` to `z`",
             f"or {draws['DRAW_LIMIT']:,} are drawn",
@@ -798,6 +896,7 @@ class Numbers(Sentences):
             f"at most {2**64 - 1:,} | `BadNumber`",
         )
         self.each(((sentence, FORMATS, sentence) for sentence in sentences), self.says)
+        self.says(EXPLAINED / "TooLarge", f"at most {events:,} events are given")
 
     def test_counts(self):
         """How many there are of what pages count."""
@@ -818,5 +917,17 @@ class Numbers(Sentences):
         self.says(README, f"Two threads make {throughput['2']} times as many")
 
 
+def main(option, word):
+    """Prints the files that a further call like the named one touches (--names CALL), or a change of a limit (--limit NAME)."""
+    known, naming = (calls(), naming_call) if option == "--names" else (limits(), naming_limit)
+    if word not in known:
+        print(f"{word} is none of {', '.join(known)}", file=sys.stderr)
+        sys.exit(2)
+    print(printed(naming(word)), end="")
+
+
 if __name__ == "__main__":
-    unittest.main()
+    if len(sys.argv) == 3 and sys.argv[1] in ("--names", "--limit"):
+        main(*sys.argv[1:])
+    else:
+        unittest.main()
