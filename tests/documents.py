@@ -24,9 +24,7 @@ README, EXAMPLES, DOCS = ROOT / "README.md", ROOT / "examples" / "README.md", RO
 FORMATS, SPECIFICATION, BELIEVE, CHANGING, EMBEDDING, SPEED, THREADS = (
     DOCS / f"{name}.md" for name in ("FORMATS", "SPECIFICATION", "BELIEVE", "CHANGING", "EMBEDDING", "SPEED", "THREADS")
 )
-# The pages that the packages show.
-PACKAGES = {language: ROOT / "bindings" / language / "README.md" for language in ("python", "rust")}
-PAGES = README, EXAMPLES, *PACKAGES.values(), *sorted(DOCS.glob("*.md"))
+PAGES = README, EXAMPLES, *sorted(DOCS.glob("*.md"))
 CRATES = ROOT / "crates"
 HELPED = DATA / "worked" / "runs" / "helped_mkdir"
 # What `atomfs schedule --robin` writes of it.
@@ -108,6 +106,10 @@ def filled(pattern):
 
 def text_of(*lines):
     return "".join(f"{line}\n" for line in lines).encode()
+
+
+# The pages that the packages show.
+PACKAGES = {language: ROOT / "bindings" / language / "README.md" for language in ("python", "rust")}
 
 
 class Page(Case):
@@ -663,8 +665,7 @@ def limits():
 def naming_limit(limit):
     """The files that a change of a limit touches: those that name it, and those where its number is written out."""
     found = {"named": [path for path in product("src", "specs") if re.search(rf"\b{limit}\b", code_at(path))]}
-    pages = [page for page in PAGES if page not in PACKAGES.values()]
-    files = [*product("src", "specs", "proofs"), *beside(), *pages, *EXPLAINED.iterdir()]
+    files = dict.fromkeys([*product("src", "specs", "proofs"), *beside(), *PAGES, *EXPLAINED.iterdir()])
     for value in limits()[limit]:
         written = "|".join(sorted({f"{value}", f"{value:_}", f"{value:,}"}))
         pattern = re.compile(rf"(?<![\w^.,-])(?<!\^ )({written})(?![\w^]|[.,]\d)")
