@@ -124,23 +124,6 @@ class Page(Case):
         self.alike(subject, ("the page says", page), ("it is", found))
 
 
-class FromASeed(Page):
-    """docs/FORMATS.md leads from a seed to a picture: what each command prints."""
-
-    SCRIPT = (ROOT / "examples" / "moved_ancestor.script").read_bytes()
-
-    def test_each_command(self):
-        section = FORMATS.read_text().split("## From a failing seed to a picture\n")[1]
-        seeds, lines, _, words, commits = re.findall(r"^```\n(.*?)^```$", section, re.M | re.S)
-        asked = seeds.split(" < ")[0].removeprefix("atomfs ").split(" ")
-        self.same(seeds, run(self.SCRIPT, *asked), Outcome(0, lines.encode()))
-        blocks = self.SCRIPT.split(b"\nschedule\n")[0]
-        kept = blocks + b"\nschedule\n" + words.encode()
-        self.same("the schedule of seed 7", run(self.SCRIPT, "schedule", "--seed", "7"), Outcome(0, kept))
-        told = run(kept, "trace").output.decode().splitlines()
-        self.same("the first commits", [line for line in told if re.search("(commits,|helps) ", line)][: len(commits.splitlines())], commits.splitlines())
-
-
 class Sentences(Page):
     def says(self, page, sentence):
         """A page has a sentence with these numbers, or with others in their place."""
