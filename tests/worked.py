@@ -3,16 +3,23 @@
 runs/ has scripts. NAME.script writes NAME.text by its own schedule, and then ends with the status of NAME.status; by round robin it writes
 NAME.robin.text, and by the threads that are drawn from 7 NAME.drawn.text, where these are others. journals/ has journals: the verdict on NAME.journal
 is NAME.verdict, and the status that of NAME.status. faults/ has texts that are neither: NAME.message is what is told of each, and NAME.status is 3.
-A status that no file has is 0. The scripts and journals of examples/ are looked at too.
+A status that no file has is 0. The scripts and journals of examples/ are looked at too, and the commands that the files of examples/tour/ show, of which
+tests/data/tour/ has what each writes.
 """
+import os
 import pathlib
 import re
+import subprocess
+import tempfile
+import typing
 import unittest
 
 import grammar
+import harness
 from harness import DATA, ROOT, Case, Outcome, atomfs, library, run, told
 
 RUNS, JOURNALS, FAULTS, EXAMPLES = (*(DATA / "worked" / folder for folder in ("runs", "journals", "faults")), ROOT / "examples")
+TOUR = EXAMPLES / "tour"
 # How many inputs a folder has, and what stands behind the name of one.
 FOLDERS = (
     ("runs", RUNS, 47, ("script", "text", "robin.text", "drawn.text", "status")),
@@ -101,14 +108,14 @@ class OfTheProgram(Case):
 
     def test_a_hundred_drawn_runs(self):
         words, wanted = drawn(1, 100)
-        self.all_end((example, words, script, wanted) for example, script in examples(EXAMPLES, "script"))
+        self.all_end((example, words, script, wanted) for folder in (EXAMPLES, TOUR) for example, script in examples(folder, "script"))
         helped = RUNS / "helped_rename"
         self.all_end([(helped, words, beside(helped, "script"), wanted)])
 
     def test_threads(self):
         self.all_end(
             (example, THREADS, script, Outcome(0, b"lawful calls %d\n" % calls(script)))
-            for folder in (RUNS, EXAMPLES)
+            for folder in (RUNS, EXAMPLES, TOUR)
             for example, script in examples(folder, "script")
         )
 
@@ -175,6 +182,142 @@ class Beginnings(Case):
         refused = [at for at in range(end + 1) if isinstance(told(library().run, self.SCRIPT[:at]), tuple)]
         self.same(self.SCRIPT, refused, list(range(end)))
         self.same(self.SCRIPT[:end], library().run(self.SCRIPT[:end]), b"atomfs-journal 1\ntree\ndir /\nbegun 0 committed 0 returned 0\n")
+
+
+class Command(typing.NamedTuple):
+    """A command of the tour: the words behind `examples/run`, the file that it reads, and the one that it writes."""
+
+    words: tuple[str, ...]
+    reads: str
+    writes: str
+
+
+def shown(path):
+    """The commands that a file of the tour shows, in order."""
+    for line in re.findall(r"^#? +examples/run (.+)$", path.read_text(), re.M):
+        words, reads, writes = re.fullmatch(r"([^<>]+?)(?: < (\S+))?(?: > (\S+))?", line).groups("")
+        yield Command(tuple(words.split(" ")), reads, writes)
+
+
+def without_comments(text):
+    return [line for line in text.splitlines() if line and not line.startswith("#")]
+
+
+class Tour(Case):
+    """examples/tour/: each command that its files show, what it writes, and what its page says to look for."""
+
+    STEPS = "1_one_call.script", "2_race.script", "3_helping_rename.script", "4_both_won.journal", "5_kept_seed.script", "6_race.py"
+    # Stored elsewhere: what comes of the calls of the third step.
+    HELPED = {"trace": DATA / "traces" / "helped_mkdir.trace", "draw": ROOT / "docs" / "helped_mkdir.svg"}
+    # What the sixth step writes, and the commands behind it read.
+    JOURNAL = "tour.journal"
+
+    def commands(self):
+        """Each command as a row, but for those that read what the sixth step writes."""
+        for step in self.STEPS:
+            for command in shown(TOUR / step):
+                if command.reads != self.JOURNAL:
+                    yield f"{step} {' '.join(command.words)}", step, command
+
+    @staticmethod
+    def given(command):
+        return (ROOT / command.reads).read_bytes() if command.reads else b""
+
+    def stored(self, command):
+        """Where what a command writes is kept, if it is."""
+        reads = pathlib.Path(command.reads).name
+        if reads == self.STEPS[2]:
+            return self.HELPED[command.words[0]]
+        return DATA / "tour" / f"{reads.split('.')[0]}.{'_'.join(word.lstrip('-') for word in command.words)}"
+
+    def test_steps(self):
+        """Each file is a step, and each that the program reads ends with the command that draws it."""
+        self.same("examples/tour", sorted(path.name for path in TOUR.iterdir()), sorted((*self.STEPS, "README.md")))
+        for step in self.STEPS:
+            reads = self.JOURNAL if step.endswith(".py") else f"examples/tour/{step}"
+            self.same(f"the last command of {step}", list(shown(TOUR / step))[-1], Command(("draw",), reads, "tour.svg"))
+
+    def test_what_they_write(self):
+        self.each(self.commands(), self.look)
+
+    def look(self, step, command):
+        came = run(self.given(command), *command.words)
+        is_wrong = step.endswith(".journal") and command.words[0] in ("check", "draw")
+        self.same(f"{step}: {command}", came.status, int(is_wrong and harness.compares))
+        if command.words[0] == "explain":
+            self.same(f"{step}: {command}", came.output.split(b":")[0], command.words[1].encode() if harness.compares else b"")
+        elif command.words[0] == "draw" and not self.stored(command).exists():
+            self.look_at_picture(step, command, came.output.decode())
+        else:
+            self.same(f"{step}: {command}", came.output, self.stored(command).read_bytes())
+
+    def look_at_picture(self, step, command, picture):
+        """It has each call of the journal, with its reply; and the reply that was due in place of a wrong one."""
+        text = self.given(command).decode()
+        text = text if step.endswith(".journal") else run(text.encode(), "run").output.decode()
+        calls = dict(re.findall(r"^begin (\d+) \d+ (.*)$", text, re.M))
+        replies = dict(re.findall(r"^return (\d+) (.*)$", text, re.M))
+        told = re.findall(r"<title>(#.*)$", picture, re.M)
+        self.same(f"the calls in the picture of {step}", sorted(told), [f"#{call} {calls[call]} &#8594; {replies[call]}" for call in calls])
+        due = re.findall(r"^due: (.*?)</title>", picture, re.M)
+        self.same(f"what is due in the picture of {step}", due, ["failed EEXIST"] if step.endswith(".journal") and harness.compares else [])
+
+    def test_what_to_look_for(self):
+        """Each step has a row in the page, and what that says is a line that one of its commands writes."""
+        page = (TOUR / "README.md").read_text()
+        rows = re.findall(r"^\| \[(.*?)\]\((.*?)\) \| .* \| (.*?) \|$", page, re.M)
+        self.same("the rows of the page", [row[:2] for row in rows], [(step, step) for step in self.STEPS])
+        self.each(((step, step, re.findall("`([^`]+)`", cell)) for step, _, cell in rows[:-1]), self.look_for)
+        first, answer = re.findall(r"^```\n(.*?)^```$", page, re.M | re.S)
+        self.same("the command of the page", first, f"examples/run trace < examples/tour/{self.STEPS[0]}\n")
+        self.same("what it answers", answer, (DATA / "tour" / "1_one_call.trace").read_text())
+
+    def look_for(self, step, lines):
+        stored = [self.stored(command) for _, of, command in self.commands() if of == step]
+        written = [line for path in stored if path.exists() and path.suffix != ".svg" for line in path.read_text().splitlines()]
+        own = without_comments((TOUR / step).read_text())
+        self.same(step, [line for line in lines if line not in (*written, *own)], [])
+
+    def test_third_step(self):
+        """It is the worked example, with comments."""
+        helped = (RUNS / "helped_mkdir.script").read_text()
+        self.same(self.STEPS[2], without_comments((TOUR / self.STEPS[2]).read_text()), helped.splitlines())
+
+    def test_kept_seed(self):
+        """The fifth step is what its first command writes of the second, with other comments."""
+        ((_, step, command),) = (row for row in self.commands() if row[2].words[0] == "schedule")
+        written = self.stored(command).read_text()
+        self.same(step, without_comments((TOUR / step).read_text()), without_comments(written))
+
+    def test_as_typed(self):
+        """Each command as a reader types it, where the program is built."""
+        harness.takes_a_process()
+        if "ATOMFS" in os.environ:
+            self.skipTest("examples/run runs the program that is built here, and another one is looked at")
+        harness.program()
+        with tempfile.TemporaryDirectory(prefix="atomfs-") as folder:
+            pathlib.Path(folder, "examples").symlink_to(EXAMPLES)
+            self.each(((name, folder, command) for name, _, command in self.commands()), self.look_as_typed)
+
+    def look_as_typed(self, folder, command):
+        reads, writes = (f" {sign} {name}" if name else "" for sign, name in (("<", command.reads), (">", command.writes)))
+        typed = f"examples/run {' '.join(command.words)}{reads}{writes}"
+        done = subprocess.run(["bash", "-c", typed], cwd=folder, stdin=subprocess.DEVNULL, capture_output=True, timeout=harness.MOST_SECONDS)
+        written = pathlib.Path(folder, command.writes).read_bytes() if command.writes else done.stdout
+        due = run(self.given(command), *command.words)
+        self.same(typed, (done.returncode, written), (due.status, due.output))
+
+    def test_in_python(self):
+        """The sixth step: one of the two wins each race, and the journal that it writes is lawful."""
+        harness.library()
+        variables = {"PYTHONPATH": str(ROOT / "bindings" / "python" / "src"), "ATOMFS_LIBRARY": harness.library_at(), "PYTHONDONTWRITEBYTECODE": "1"}
+        words = ["python3", f"examples/tour/{self.STEPS[5]}"]
+        done = subprocess.run(words, cwd=ROOT, env=os.environ | variables, capture_output=True, text=True, timeout=harness.MOST_SECONDS)
+        told = re.sub("^(seed [0-9]): (ann|bob) won, lawful$", r"\1", done.stderr, flags=re.M)
+        self.same(" ".join(words), (done.returncode, told), (0, "".join(f"seed {seed}\n" for seed in range(10))))
+        self.same("what it writes", run(done.stdout.encode(), "check"), LAWFUL)
+        self.same("what it writes", sorted(re.findall(r"^return \d (.*)$", done.stdout, re.M)), ["failed EEXIST", "ok"])
+        self.same("what the page says", "bob won, lawful" in done.stderr, True)
 
 
 if __name__ == "__main__":
