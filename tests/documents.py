@@ -21,16 +21,16 @@ from harness import DATA, ROOT, Case, Outcome, run
 from promised import promises
 
 README, EXAMPLES, DOCS = ROOT / "README.md", ROOT / "examples" / "README.md", ROOT / "docs"
-FORMATS, SPECIFICATION, BELIEVE, CHANGING, EMBEDDING, SPEED, THREADS = (
-    DOCS / f"{name}.md" for name in ("FORMATS", "SPECIFICATION", "BELIEVE", "CHANGING", "EMBEDDING", "SPEED", "THREADS")
+FORMATS, SPECIFICATION, BELIEVE, CHANGING, CHOOSING, EMBEDDING, SPEED, THREADS = (
+    DOCS / f"{name}.md" for name in ("FORMATS", "SPECIFICATION", "BELIEVE", "CHANGING", "CHOOSING", "EMBEDDING", "SPEED", "THREADS")
 )
-PAGES = README, EXAMPLES, *sorted(DOCS.glob("*.md"))
+PAGES = README, EXAMPLES, ROOT / "examples" / "tour" / "README.md", *sorted(DOCS.glob("*.md"))
 CRATES = ROOT / "crates"
 HELPED = DATA / "worked" / "runs" / "helped_mkdir"
 # What `atomfs schedule --robin` writes of it.
 BY_ROBIN = b"atomfs 1\nthread m\nmkdir /a\nmkdir /a/d\nmkdir /a/d/x\nthread r\nrename /a /b\nschedule\nm r m r m r m r m r m r m r m*8\n"
-# README is read in a quarter of an hour.
-MOST_WORDS = 1_700
+# README is read in five minutes.
+MOST_WORDS = 900
 
 
 def by_path(pages):
@@ -189,21 +189,28 @@ class Shown(Page):
     """The examples of pages are files that are run elsewhere, or parts of them."""
 
     def test_worked_example(self):
-        """Its script, and its run text without the arrows."""
+        """Its script, and its run text; README has lines of its trace in the place of that."""
         self.each(by_path((README, FORMATS)), self.look_at_worked_example)
 
     def look_at_worked_example(self, page):
         script, text, *_ = blocks(page)
         self.agrees(page.name, script, HELPED.with_suffix(".script").read_text())
-        self.agrees(page.name, re.sub(r" +<- .*", "", text), HELPED.with_suffix(".text").read_text())
+        trace = (DATA / "traces" / "helped_mkdir.trace").read_text()
+        due = re.search(rf"^{re.escape(text)}", trace, re.M) if page == README else None
+        self.agrees(page.name, text, due[0] if due else HELPED.with_suffix(".text").read_text())
 
     def test_examples_of_readme(self):
-        """That in C is that of docs/EMBEDDING.md, and those in Python and Rust are those of the packages; all are run. The last is the end of the crate `example_call`."""
-        (rattle,) = blocks(README, "rust")
-        self.agrees("in Rust", blocks(README, "rs"), blocks(PACKAGES["rust"], "rust"))
-        self.agrees("in C", blocks(README, "c"), blocks(EMBEDDING, "c"))
-        self.agrees("in Python", blocks(README, "python"), blocks(PACKAGES["python"], "python"))
-        self.agrees("in Rattle", rattle, source("example_call/src/main.rt")[-len(rattle) :])
+        """Before each stands what it prints. examples/embed/run runs it, and compares."""
+        runs = (ROOT / "examples" / "embed" / "run").read_text()
+        for language in ("python", "c"):
+            said = re.findall(rf"it prints `(.*)`:\n\n```{language}\n", README.read_text())
+            self.agrees(f"in {language}", said, re.findall(rf'^prints readme_{language} README\.md "(.*?)" ', runs, re.M))
+
+    def test_archive_of_readme(self):
+        """The archive that README unpacks is the one that embed/build makes."""
+        version = re.search('#define ATOMFS_VERSION "(.*)"', (ROOT / "embed" / "atomfs.h").read_text())[1]
+        named = set(re.findall(r"atomfs-[\d.]*\d-[\w-]+", README.read_text()))
+        self.agrees("the archive", sorted(named), [f"atomfs-{version}-x86_64-linux"])
 
     def test_excerpts(self):
         """Each block in Rust stands in the source to which the page leads before it."""
@@ -374,10 +381,12 @@ class Commands(Page):
         return [first, *(f"{first.split(' --')[0]} {span}" if span.startswith("--") else span for span in more)]
 
     def test_of_the_program(self):
-        rows = {README: table(README, "Command", "Does"), FORMATS: table(FORMATS, "Command", "Writes")}
-        shown = {page: [filled(command).removeprefix("atomfs ") for row in rows[page] for command in self.shown(row[0])] for page in rows}
-        self.each(((f"{page.stem} {words}", words) for page in shown for words in shown[page]), self.look)
-        self.agrees("the commands of FORMATS", sorted(shown[FORMATS]), sorted(self.due()))
+        rows = table(FORMATS, "Command", "Writes")
+        shown = [filled(command).removeprefix("atomfs ") for row in rows for command in self.shown(row[0])]
+        self.each(((words, words) for words in shown), self.look)
+        self.agrees("the commands of FORMATS", sorted(shown), sorted(self.due()))
+        _, *named = spans(re.search("^The program .*", README.read_text(), re.M)[0])
+        self.agrees("the commands of README", sorted(named), sorted({words.split(" ")[0] for words in shown if words[0] != "-"} - {"help"}))
 
     def look(self, words):
         given = HELPED.with_suffix(".text" if words == "check" else ".script").read_bytes()
@@ -859,8 +868,10 @@ class Numbers(Sentences):
         found = [int(value) for value in re.findall(r"Limits::V[12] => ([\d_]+)", source)]
         self.agrees("the two sets of limits", [name, longer, file, larger], found)
         entries, names = limits["ENTRY_LIMIT"], limits["PATH_LIMIT"]
-        self.says(README, f"A name has at most {name} bytes and a file {file:,}, behind a first line `atomfs 2` {longer} and {larger:,}")
-        self.says(README, f"a directory has {entries} entries, a path {names} names")
+        nodes = limits["NODE_LIMIT"]
+        self.says(README, f"names of {longer} bytes, files of {larger:,}, {entries} entries in a directory, paths of {names} names, {nodes:,} nodes")
+        self.says(README, f"Scripts `atomfs 1` and `atomfs_open` have names of {name} bytes and files of {file:,}")
+        self.says(CHOOSING, f"{entries} entries in a directory, {larger:,} bytes in a file, {longer} in a name")
         header = (ROOT / "embed" / "atomfs.h").read_text()
         self.agrees("embed/atomfs.h", number(re.search("#define ATOMFS_NODE_LIMIT (.*)", header)[1]), limits["NODE_LIMIT"])
 
@@ -892,13 +903,14 @@ class Numbers(Sentences):
         self.each(((page.stem, page, sentence) for page, sentence in rows), self.says)
 
     def test_ratios(self):
-        """README's ratios are the middle of those of docs/SPEED.md."""
+        """README's ratios are those of docs/SPEED.md: of times the least and the most, of instructions the middle."""
         rows = {(spans(job)[0], measure): ratios for job, measure, *ratios in table(SPEED, "Job", "Measure", "Few names", "A tree that grows")}
         ran, checked = (sum(map(float, rows[f"atomfs {command}", "instructions"])) / 2 for command in ("run", "check"))
-        self.says(README, f"`atomfs run` takes {ran:.1f} times its instructions, and `atomfs check` {checked:.1f} times")
+        times = [sorted(re.findall(r"[\d.]+", " ".join(rows[f"atomfs {command}", "time"]))) for command in ("run", "check")]
+        long, checks = (f"{least} to {most}" for least, *_, most in times)
+        self.says(README, f"`atomfs run` takes {long} times as long at {ran:.1f} times the instructions, `atomfs check` {checks} at {checked:.1f}")
         throughput = dict(table(SPEED, "Threads", "Throughput"))
-        self.says(README, f"one thread makes {throughput['1']} times as many")
-        self.says(README, f"Two threads make {throughput['2']} times as many")
+        self.says(README, f"two make {throughput['2']} times as many calls as that tree behind a mutex, four {throughput['4']}")
 
 
 def main(option, word):

@@ -33,7 +33,6 @@ example_c: as docs/EMBEDDING.md says
 example_rust: as bindings/rust/README.md says
 example_python: as bindings/python/README.md says
 readme_c: as README.md says
-readme_rust: as README.md says
 readme_python: as README.md says
 """
 
