@@ -9,6 +9,7 @@ HIGH = [1] * 14 + [2] * 4 + [3] * 2
 MOVING = {"rename": 40, "mkdir": 16, "mknod": 10, "stat": 6, "write": 6, "unlink": 5, "rmdir": 5, "readdir": 4, "read": 4, "truncate": 4}
 EXCHANGING = {**MOVING, "rename": 8, "exchange": 32}
 CROWDED = {"mkdir": 22, "rename": 16, "exchange": 6, "mknod": 10, "write": 9, "stat": 8, "readdir": 7, "rmdir": 6, "read": 6, "unlink": 5, "truncate": 5}
+HELPED = {"rename": 28, "exchange": 12, "write": 20, "truncate": 10, "unlink": 14, "above": 8, "mknod": 4, "rmdir": 4}
 # The directories of a tree for moving calls, those above before those below. The last ones, /b and those below it, are mostly left out.
 DIRECTORIES = "/a /a/a /a/b /a/a/a /a/a/b /a/b/a /a/b/b /b /b/a /b/b /b/a/a /b/a/b /b/b/a /b/b/b".split()
 OUTSIDE_B = 7
@@ -81,6 +82,36 @@ def exchanging(draw):
     """A thread that makes all directories, and two to six threads of three to eight calls that use them, many of which are exchanges."""
     made = [f"mkdir {directory}" for directory in DIRECTORIES] + [f"mknod {path(names(draw, 4))}" for _ in range(4)]
     return [made, *([moving_call(draw, EXCHANGING) for _ in range(draw.randint(3, 8))] for _ in range(draw.randint(2, 6)))]
+
+
+def helped_call(draw):
+    """A rename or an exchange of what stands high, or a call on a file below, or a rename of that to a directory above it."""
+    chosen = kind(draw, HELPED)
+    if chosen in ("rename", "exchange"):
+        return rename(draw) if chosen == "rename" else exchange(draw)
+    directory = draw.choice(DIRECTORIES)
+    match chosen:
+        case "rmdir":
+            return f"rmdir {directory}"
+        case "above":
+            return f"rename {directory}/c {directory}"
+        case "write":
+            return f"write {directory}/c {draw.randrange(4)} {draw.randbytes(draw.randint(1, 3)).hex()}"
+        case "truncate":
+            return f"truncate {directory}/c {draw.randrange(4)}"
+        case _:
+            return f"{chosen} {directory}/c"
+
+
+def helped(draw):
+    """A thread that makes all directories and a file in each, two to six threads of three to eight calls, many of which move what others have on their
+    ways; and a schedule in which the first thread is done before the others begin."""
+    made = [f"mkdir {directory}" for directory in DIRECTORIES] + [f"mknod {directory}/c" for directory in DIRECTORIES]
+    threads = [made, *([helped_call(draw) for _ in range(draw.randint(3, 8))] for _ in range(draw.randint(2, 6)))]
+    # A begin, a commit, a return, and for each name of the path a take and a let go.
+    events = sum(3 + 2 * call.count("/") for call in made)
+    words = [f"t{draw.randrange(1, len(threads))}" for _ in range(draw.randint(50, 250))]
+    return threads, " ".join([f"t0*{events}", *words, "finish"])
 
 
 def narrow_call(draw):

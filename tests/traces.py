@@ -5,6 +5,7 @@ paths beside the tree that the library has then. Which events are told is worked
 numbers of calls begin again, and those of events go on.
 """
 import ctypes
+import os
 import random
 import re
 import unittest
@@ -12,6 +13,7 @@ import unittest
 import drawn
 import events
 import harness
+import model
 from harness import DATA, Case, Outcome, atomfs, library, run
 from worked import EXAMPLES, RUNS, examples
 
@@ -19,6 +21,8 @@ TRACES = DATA / "traces"
 # Drawn runs whose schedule is written and run, and drawn runs whose events are compared with the library's.
 SEEDS = 1_000
 DRAWN = 60
+# Drawn runs whose places are looked at on the tree of the tests.
+REPLAYED = 150
 # Drawn runs in pieces of which the same is compared.
 DRAWN_PIECES = 40
 PATH = r"/(?:[!-\$&-.0-~]|%[0-9A-F]{2}|/)*"
@@ -51,6 +55,24 @@ MET = (
 )
 # Two calls are under way, and others have not begun.
 CUT = b"atomfs 1\nthread m\nmkdir /a\nmkdir /a/d\nthread r\nmknod /x\nstat /a\nthread w\nmkdir /q\nschedule\nm*4 r*3\n"
+
+# What is told of a call that is helped while its file or a directory above that moves, and where it stands.
+HELPED = (
+    (b"atomfs 1\nthread w\nmknod /f\nwrite /f 0 68\nthread r\nrename /f /b\nschedule\nw*9 r*6 finish\n", ("helps w#2, commits it at /f", "carries out, changes /b")),
+    (b"atomfs 1\nthread w\nmknod /f\ntruncate /f 1\nthread r\nrename /f /b\nschedule\nw*9 r*6 finish\n", ("helps w#2, commits it at /f", "carries out, changes /b")),
+    (
+        b"atomfs 1\nthread w\nmkdir /a\nmknod /a/f\nwrite /a/f 0 68\nthread r\nrename /a /b\nschedule\nw*18 r*6 finish\n",
+        ("helps w#3, commits it at /a/f", "carries out, changes /b/f"),
+    ),
+    (
+        b"atomfs 1\nthread w\nmkdir /a\nmknod /a/f\nunlink /a/f\nthread r\nrename /a /b\nschedule\nw*17 r*3 finish\n",
+        ("helps w#3, commits it at /a", "carries out, removes /a/f"),
+    ),
+    (
+        b"atomfs 1\nthread w\nmkdir /a\nmkdir /a/d\nmknod /a/d/x\nrename /a/d/x /a/d\nthread r\nrename /a /b\nschedule\nw*26 r*3 finish\n",
+        ("helps w#4, commits it at /a", "carries out, fails EISDIR"),
+    ),
+)
 
 
 class Event:
@@ -377,6 +399,201 @@ class OnTheLibrary(Case):
         """Scripts whose own schedule is drawn, with checkpoints where no call is under way."""
         tree_library = library()
         self.each(((f"script_{number}", in_pieces(tree_library, number)) for number in range(DRAWN_PIECES)), self.look)
+
+
+def parts(words):
+    """The paths of a call: of one that has one path, that path twice."""
+    return (words[1], words[2]) if words[0] in ("rename", "exchange") else (words[1], words[1])
+
+
+def steps(path):
+    """The names of a path, as they are written."""
+    return [name for name in path.split("/") if name]
+
+
+def target_len(words):
+    """How many names lead to the node of a call, to the directory of its entry, or to the common directory of its two entries."""
+    first, second = map(steps, parts(words))
+    if words[0] in ("stat", "readdir", "read", "write", "truncate"):
+        return len(first)
+    return len(os.path.commonprefix([first[:-1], second[:-1]]))
+
+
+class Held:
+    """A node that a call holds: under which path it was taken, and where it is now; nowhere once it is removed."""
+
+    def __init__(self, path):
+        self.taken, self.now = path, path
+
+
+class Way:
+    """A call under way: its words, how many nodes it took, and those that it holds, by their places among these."""
+
+    def __init__(self, words):
+        self.words, self.took, self.held = words, 0, {}
+
+    def position(self):
+        """Where it stands: its walk takes one node for each name of the way to its target, the root first, and all that it takes behind that is no walk."""
+        return max((place for place in self.held if place <= target_len(self.words)), default=None)
+
+
+class Replay:
+    """A trace of every event, played on two trees of the tests: one has the calls in the order of their commits, and of the other each line says what it
+    changes, and where."""
+
+    def __init__(self, version):
+        self.version = version
+        self.ways, self.due, self.placed = {}, {}, set()
+        self.committed, self.now = model.Tree(version), model.Tree(version)
+
+    def here(self, path):
+        return model.path_of(path) in self.now.nodes
+
+    def all_held(self):
+        return [held for way in self.ways.values() for held in way.held.values()]
+
+    def holding(self, way, path):
+        """The places of the nodes that a call holds and that are here now."""
+        return [place for place, held in way.held.items() if held.now == path]
+
+    def commit(self, call):
+        self.due[call] = self.committed.apply(self.ways[call].words)
+        self.placed.add(call)
+
+    def change(self, call, effect):
+        """What is wrong with the words by which a call makes its change, if anything is."""
+        way, words = self.ways[call], effect.split(" ")
+        self.placed.discard(call)
+        stands = way.held[way.position()].now if way.held else None
+        last = [steps(path)[-1:] for path in parts(way.words)]
+        match words:
+            case ["adds" | "removes", path]:
+                wanted, paths = {"adds": ("mkdir", "mknod"), "removes": ("unlink", "rmdir")}[words[0]], [path]
+                if steps(path) != [*steps(stands), *last[0]]:
+                    return f"the call stands at {stands}"
+            case ["changes", path] if path != "nothing":
+                wanted, paths = ("write", "truncate"), [path]
+                if path != stands:
+                    return f"the call stands at {stands}"
+            case ["moves", one, "to" | "over" as how, other] | ["exchanges", one, "with" as how, other]:
+                wanted, paths = ("rename" if words[0] == "moves" else "exchange",), [one, other]
+                if [steps(path)[-1:] for path in paths] != last or not all(self.holding(way, above(path)) for path in paths):
+                    return "the call holds other directories"
+                if how in ("to", "over") and (how == "over") != self.here(other):
+                    return "it moves over what is there, and to what is not"
+            case _:
+                reply = self.due[call]
+                wanted = f"fails {reply.removeprefix('failed ')}" if reply.startswith("failed ") else effect
+                return None if effect == wanted else f"the reply that is due is {reply}"
+        if way.words[0] not in wanted:
+            return f"the call is {' '.join(way.words)}"
+        reply = self.now.apply([way.words[0], *paths, *way.words[1 + len(paths) :]])
+        self.carry(words)
+        return None if reply == self.due[call] else f"the tree replies {reply}, and {self.due[call]} is due"
+
+    def carry(self, words):
+        """The nodes that are held go where a change takes them."""
+        for held in self.all_held():
+            if held.now is None:
+                continue
+            match words:
+                case ["removes", path] if held.now == path:
+                    held.now = None
+                case ["moves", _, "over", path] if held.now == path:
+                    held.now = None
+                case ["moves", one, _, other]:
+                    held.now = moved(held.now, one, other)
+                case ["exchanges", one, _, other]:
+                    held.now = moved(moved(moved(held.now, one, "%"), other, one), "%", other)
+
+    def wrong(self, event):
+        """What is wrong with an event, if anything is."""
+        call, way, says = event.call, self.ways.get(event.call), event.says
+        match event.did:
+            case "begun":
+                self.ways[call] = Way(says[0].split(" "))
+            case "took":
+                if not self.here(says[0]) or any(held.now == says[0] for held in self.all_held()):
+                    return "no node that is free is there"
+                way.held[way.took], way.took = Held(says[0]), way.took + 1
+            case "busy":
+                if not self.holding(self.ways[int(says[2])], says[0]):
+                    return f"call {says[2]} holds no node there"
+            case "let go":
+                path, removed, taken = says
+                now, taken = (None, path) if removed else (path, taken or path)
+                places = [place for place, held in way.held.items() if (held.now, held.taken) == (now, taken)]
+                if not places:
+                    return f"it holds {[(held.now, held.taken) for held in way.held.values()]}"
+                del way.held[places[0]]
+            case "helped":
+                other = self.ways[int(says[1])]
+                if other.held[other.position()].now != says[2]:
+                    return f"call {says[1]} stands at {other.held[other.position()].now}"
+                self.commit(int(says[1]))
+            case "committed":
+                self.commit(call)
+                return self.change(call, says[0])
+            case "carried out":
+                return self.change(call, says[0])
+            case "returned":
+                if says[0] != self.due[call] or way.held:
+                    return f"{self.due[call]} is due, and it holds {list(way.held)}"
+                del self.ways[call]
+        return None
+
+    def follow(self, told):
+        """The first line that says what is not so, and why."""
+        for event in told.moments:
+            if event == CHECKPOINT:
+                self.ways, self.due = {}, {}
+            elif wrong := self.wrong(event):
+                return f"{event.line}: {wrong}"
+            elif not self.placed and self.now.nodes != self.committed.nodes:
+                return f"{event.line}: the tree is another than that of the commits"
+        tree = "\n".join(self.now.text())
+        return None if told.end.startswith(f"{tree}\nbegun ") else f"the tree at the end is\n{tree}"
+
+
+def above(path):
+    """The path of the directory of an entry."""
+    return path[: path.rindex("/")] or "/"
+
+
+class OnTheModel(Case):
+    """Each node that a line names is where the line says when its event has happened: on a tree that each line changes as it says, and that is, where no
+    call is placed that has not made its change, the tree of the commits."""
+
+    def look(self, script, *schedule):
+        ran = run(script, *words("--every"), *schedule)
+        if harness.compares:
+            replay = Replay(int(script.startswith(b"atomfs 2")) + 1)
+            self.same(script.decode(errors="backslashreplace"), replay.follow(Trace(ran.output)), None)
+
+    def test_worked_scripts(self):
+        rows = [
+            (f"{path.name}_{'_'.join(schedule)}", script, *schedule)
+            for folder in (RUNS, EXAMPLES)
+            for path, script in examples(folder, "script")
+            for schedule in ((), ("--robin",), ("--seed", "7"))
+        ]
+        self.each(rows, self.look)
+
+    def test_drawn_scripts(self):
+        """Of the second half many calls are helped while a file or a directory on their ways moves."""
+        rows = [(f"script_{number}", script_of(number), "--seed", str(number)) for number in range(REPLAYED // 2)]
+        rows += [(f"helped_{number}", drawn.script(*drawn.helped(random.Random(number))).encode()) for number in range(REPLAYED // 2)]
+        self.each(rows, self.look)
+
+    def test_helped_calls(self):
+        """A file that is written or cut while it moves, alone and below a directory; a call that took its victim; and a call whose source head stands where
+        its destination is."""
+        for script, lines in HELPED:
+            told = run(script, *words())
+            if harness.compares:
+                said = [line.split(" ", 2)[2] for line in told.output.decode().splitlines() if " helps " in line or " carries out, " in line]
+                self.same(script.decode(), said, list(lines))
+            self.look(script)
 
 
 class Schedules(Case):

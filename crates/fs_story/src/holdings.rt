@@ -1,6 +1,13 @@
 //! The nodes that a call holds, and where they stand on its paths.
 
+ghost use Rattle.std.specs.Prelude.{◌≡◌, ℕ, length};
+ghost use Rattle.fs_calls.specs.code.Targets.{form_of};
+ghost use Rattle.fs_names.specs.Keys.{parent_of};
+ghost use Rattle.fs_names.specs.Parts.{common};
+ghost use Rattle.fs_machine.specs.Moves.{target};
+
 use crate::paths::{add_names, name_in, path_of};
+use fs_calls::{Call, Target};
 use fs_names::{Name, Path};
 use fs_nodes::{NodeNo, Store};
 use std::alloc::{AllocError, Global};
@@ -94,17 +101,42 @@ fn deeper(best: Option<Deep>, other: Deep) -> Option<Deep> {
     }
 }
 
-/// The depth of a node that stands on both paths of its call.
-fn depth_on_both(held: &Held) -> Option<usize> {
-    let _second = held.second?;
-    held.first
+/// How many names the parents of two paths have in common.
+fn common_len(path: &Path, other: &Path) -> usize
+    ensures { result ≡ length (common (parent_of path.now) (parent_of other.now)) }
+{
+    path.common(other)
+        .min(path.parent_len())
+        .min(other.parent_len())
 }
 
-/// The node where a call stands: the last of its walk, or the common directory of its two heads.
-pub(crate) fn position(held: &[Held]) -> Option<NodeNo> {
+/// How many names lead to the target of a call: to the node itself, to the directory of its entry, or to the common directory of
+/// its two entries.
+fn target_len(aim: Target<'_>) -> usize
+    ensures { (most : ℕ) → result ≡ length (target (form_of most aim.entry)) }
+{
+    match aim {
+        Target::Node(_, path) => path.len(),
+        Target::Entry(_, path) => path.parent_len(),
+        Target::Pair(_, path, other) => common_len(path, other),
+    }
+}
+
+/// The depth of a node of its call's walk. A victim stands behind the target to which the walk leads, and so do the two heads.
+fn depth_on_walk(held: &Held, target_len: usize) -> Option<usize> {
+    let _second = held.second?;
+    match held.first {
+        Some(depth) if depth <= target_len => Some(depth),
+        _ => None,
+    }
+}
+
+/// The position of a call: the deepest node of its walk that it holds. From its target on that is the target.
+pub(crate) fn position(held: &[Held], call: &Call) -> Option<NodeNo> {
+    let target_len = target_len(call.target());
     let mut deepest: Option<Deep> = None;
     for one in held {
-        if let Some(depth) = depth_on_both(one) {
+        if let Some(depth) = depth_on_walk(one, target_len) {
             deepest = deeper(
                 deepest,
                 Deep {
@@ -143,7 +175,8 @@ fn nearest_above(held: &[Held], path: &Path, is_second: bool) -> Option<Deep> {
     nearest
 }
 
-/// What one of a call's paths means now, as a word: the entry of its last name in the directory that the call holds.
+/// What one of a call's paths means now, as a word: the entry of its last name in the directory that the call holds. No bytes where
+/// it holds none on the way.
 pub(crate) fn meaning(
     alloc: Global,
     store: &Store,
@@ -156,6 +189,5 @@ pub(crate) fn meaning(
             return add_names(alloc, word, path, above.depth);
         }
     }
-    let root = Vec::from_slice(alloc, b"/")?;
-    add_names(alloc, root, path, 0)
+    Ok(Vec::new(alloc))
 }

@@ -224,6 +224,19 @@ impl<'a> Teller<'a> {
         line.extend_from_slice(word.as_slice())
     }
 
+    /// The path of the position of a thread's call.
+    fn push_position(
+        &self,
+        seat: usize,
+        call: &Call,
+        line: &mut Vec<u8>,
+    ) -> Result<(), AllocError> {
+        match position(self.held(seat), call) {
+            Some(node) => self.push_path(node, line),
+            None => Ok(()),
+        }
+    }
+
     /// A word, and what the first path of a call means now.
     fn push_one(
         &self,
@@ -258,7 +271,10 @@ impl<'a> Teller<'a> {
         match self.effect(number) {
             Effect::Adds => self.push_one(seat, b"adds ", call, line),
             Effect::Removes => self.push_one(seat, b"removes ", call, line),
-            Effect::Changes => self.push_one(seat, b"changes ", call, line),
+            Effect::Changes => {
+                line.extend_from_slice(b"changes ")?;
+                self.push_position(seat, call, line)
+            }
             Effect::Moves => self.push_both(seat, (b"moves ", b" to "), call, line),
             Effect::MovesOver => self.push_both(seat, (b"moves ", b" over "), call, line),
             Effect::Exchanges => self.push_both(seat, (b"exchanges ", b" with "), call, line),
@@ -396,12 +412,9 @@ impl<'a> Teller<'a> {
         line.extend_from_slice(b" helps ")?;
         self.push_who(helped.get(), line)?;
         line.extend_from_slice(b", commits it at ")?;
-        let Some(place) = self.place_of(helped.get()) else {
-            return Ok(());
-        };
-        match position(self.held(place.seat)) {
-            Some(node) => self.push_path(node, line),
-            None => Ok(()),
+        match (self.place_of(helped.get()), self.call_of(helped.get())) {
+            (Some(place), Some(call)) => self.push_position(place.seat, call, line),
+            _ => Ok(()),
         }
     }
 
