@@ -7,6 +7,7 @@ import json
 import pathlib
 import random
 import re
+import resource
 import shutil
 import subprocess
 import tempfile
@@ -22,6 +23,8 @@ from worked import EXAMPLES, JOURNALS, RUNS, examples
 PICTURES = DATA / "pictures"
 SVG = "{http://www.w3.org/2000/svg}"
 CHROMIUM = shutil.which("chromium")
+# So many seats a journal has of which each is drawn, in at most some seconds.
+SEATS = 64_000
 # Names with the signs of XML, with bytes that are escaped, and longer ones than a label or a box has room for.
 ODD = (
     b"atomfs 1\nthread aaaaaaaaaaaaaaaa\nmkdir /%3Cb%3E&%22'\nmkdir /<b>&\"'\nmkdir /" + b"%FF" * 32 + b"\nrename /" + b"%FF" * 32 + b" /]]>\nmknod /]]>/a,b\n"
@@ -282,6 +285,25 @@ class Checkpoints(Case):
             came = run(given, "draw")
             if harness.compares:
                 self.same(given.decode(), (came.status, came.output.count(b'class="call"'), re.findall(r", due (\w+)", came.output.decode())), (status, 3, due))
+
+
+class ManySeats(Case):
+    """The picture of a journal takes time in proportion to its seats: of each seat one call that did not return, one that did, and half of the calls on one
+    seat while the others are under way."""
+
+    def drawn(self, given):
+        before = resource.getrusage(resource.RUSAGE_CHILDREN).ru_utime
+        came = run("\n".join(("atomfs-journal 1", *given, "")).encode(), "draw")
+        self.same(f"{len(given)} entries", (came.status, came.message), (0, b""))
+        self.assertLess(resource.getrusage(resource.RUSAGE_CHILDREN).ru_utime - before, 4)
+
+    def test_time(self):
+        harness.takes_a_process()
+        begins = [f"begin {call} {call} stat /" for call in range(1, SEATS + 1)]
+        ends = [f"commit {call}\nreturn {call} stat dir 0" for call in range(1, SEATS + 1)]
+        on_one = [f"begin {call} 0 stat /\n{ends[call - 1]}" for call in range(SEATS // 2 + 1, SEATS + 1)]
+        shapes = ("begun", begins), ("returned", [f"{begin}\n{end}" for begin, end in zip(begins, ends)]), ("on one", [*begins[: SEATS // 2], *on_one])
+        self.each(shapes, self.drawn)
 
 
 class Rendered(Case):

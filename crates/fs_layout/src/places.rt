@@ -37,7 +37,8 @@ struct Lane {
     taken: Vec<Taken>,
 }
 
-/// The places so far: the row, and what stands last in it, if anything does; and the places of checkpoints.
+/// The places so far: the row, what stands last in it, if anything does, and where the last of its labels ends; and the places of
+/// checkpoints.
 #[derive(Drop)]
 struct Placing {
     frame: Frame,
@@ -46,6 +47,7 @@ struct Placing {
     lanes: Vec<Lane>,
     row: usize,
     x: Option<u64>,
+    labels_end: u64,
     checkpoints: Vec<Place>,
 }
 
@@ -131,6 +133,7 @@ impl Placing {
             lanes,
             row: 0,
             x: None,
+            labels_end: 0,
             checkpoints: Vec::new(alloc),
         })
     }
@@ -166,12 +169,14 @@ impl Placing {
     fn turn(&mut self, alloc: Global, scene: &Scene) -> Result<(), AllocError> {
         self.row = self.row.saturating_add(1);
         self.x = None;
+        self.labels_end = 0;
         for lane in self.lanes.iter_mut() {
             let label = match lane.current {
                 Some(card) => repeated_width(alloc, scene, card)?,
                 None => 0,
             };
             lane.turn(self.frame.left, label);
+            self.labels_end = self.labels_end.max(lane.label_end);
         }
         Ok(())
     }
@@ -181,11 +186,7 @@ impl Placing {
         let Some(before) = self.x else {
             return add(self.frame.left, 10);
         };
-        let mut reach = before;
-        for lane in &self.lanes {
-            reach = reach.max(lane.label_end);
-        }
-        add(reach, CHECKPOINT_ROOM)
+        add(before.max(self.labels_end), CHECKPOINT_ROOM)
     }
 
     /// A checkpoint stands in this row, or in a new one where it does not fit.
@@ -240,6 +241,7 @@ impl Placing {
             What::Begin => {
                 one.current = Some(mark.card);
                 one.label_end = add(x, label);
+                self.labels_end = self.labels_end.max(one.label_end);
                 one.taken.clear();
             }
             What::Take(node) => one.taken.push(Taken {
