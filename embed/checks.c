@@ -8,6 +8,7 @@
 #define PROVED(name) proved_atomfs_##name
 
 uint8_t PROVED(open)(atomfs *, size_t);
+uint8_t PROVED(open_with)(atomfs *, size_t, uint8_t);
 uint8_t PROVED(close)(atomfs *);
 uint8_t PROVED(seat)(atomfs *, uint64_t *);
 uint8_t PROVED(mkdir)(atomfs *, uint64_t, const char *, size_t, uint64_t *);

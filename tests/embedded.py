@@ -22,6 +22,9 @@ LANGUAGES = (
     ("C11", ("cc", "-std=c11", "-x", "c")),
     ("C++17", ("c++", "-std=c++17", "-x", "c++")),
 )
+# The parts of the library that are written in C, and what compiles them: what a later compiler refuses is an error already.
+SOURCES = "checks.c", "heap.c"
+COMPILERS = [(name, standard) for name in ("gcc", "clang") for standard in ("c99", "c11")]
 # What examples/embed/run says of each program, in order.
 SAID = """\
 c: lawful, 11 calls returned
@@ -95,6 +98,17 @@ class Built(harness.Case):
 
     def test_header(self):
         self.each(((name, compiler) for name, compiler in LANGUAGES), self.header)
+
+    def source(self, compiler, standard):
+        if shutil.which(compiler) is None:
+            self.skipTest(f"{compiler} is not on the path")
+        for name in SOURCES:
+            words = (compiler, f"-std={standard}", *STRICT, "-fsyntax-only", HEADER.parent / name)
+            self.same(f"{name} by {compiler} in {standard}", said(*words), "status 0")
+
+    def test_sources(self):
+        """Each function that the sources call is declared, by every compiler that is here."""
+        self.each(((f"{compiler} {standard}", compiler, standard) for compiler, standard in COMPILERS), self.source)
 
     def exported(self, path, *words):
         found = subprocess.run(("nm", "--defined-only", *words, path), capture_output=True, text=True, check=True).stdout

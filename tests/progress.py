@@ -7,7 +7,7 @@ import re
 import subprocess
 import unittest
 
-from harness import DATA, MOST_SECONDS, Case, program, run
+from harness import DATA, MOST_SECONDS, Case, program, run, takes_a_process
 
 PROGRESS = DATA / "progress"
 # A rename of what is not there, 60 names deep, which holds the root until it has found that out.
@@ -63,6 +63,9 @@ def numbers(told):
 
 
 class Progress(Case):
+    def setUp(self):
+        takes_a_process()
+
     def test_terminal(self):
         for name, given, words in ROWS:
             with self.subTest(name):
