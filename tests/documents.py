@@ -394,7 +394,7 @@ class Commands(Page):
 
     def test_of_examples(self):
         """What examples/README.md says that each command prints."""
-        kinds = ("atomfs check < (.*)", self.look_at_journal), ("examples/run (.*)", self.look_at_script), ("cd (.*) && rt run", self.look_at_crate)
+        kinds = ("examples/run check < (.*)", self.look_at_journal), (r"examples/run (\S*)", self.look_at_script), ("cd (.*) && rt run", self.look_at_crate)
         rows = ((spans(runs)[0], prints) for _, _, runs, prints in table(EXAMPLES, "File", "Shows", "Run", "Prints"))
         found = [(command, look, named[1], prints) for command, prints in rows for kind, look in kinds if (named := re.fullmatch(kind, command))]
         self.each(found, lambda look, named, prints: look(named, prints))

@@ -1,12 +1,16 @@
-"""The program where nothing is proved: all that tests ask of it, and what it answers.
+"""The program where nothing is proved: built of the sources as they stand, kept beside them, and what it answers to all that tests ask.
 
-`rt try` takes about a minute to build the program, and then runs it once. So the program gets a `main` of this file, which answers one request after
-the other. A request is the words of a command line and an input; it goes to the function to which the real `main` hands the arguments of the process,
-standard input and standard output.
+`rt try` takes about a minute to build a program, and then runs it once. So the program gets a few lines of this file at the head of its `main`. By the
+word `--keep-in` it leaves itself in a folder, from which it starts at once as long as its sources are the same. By `--answer-each` it answers one
+request after the other. A request is the words of a command line and an input; it goes to the function to which the real `main` hands the arguments of
+the process, standard input and standard output. By other words it does what it always does.
 
 Tests run twice: first they only ask, and then they look at the answers. So what a test asks may not depend on an answer.
 """
 import contextlib
+import functools
+import hashlib
+import os
 import pathlib
 import re
 import shutil
@@ -17,16 +21,64 @@ import unittest
 import harness
 from harness import ROOT, Outcome
 
-# The program stops at a fault of memory or of arithmetic, and is then built once more for the requests behind that one: at most so often in all.
-MOST_BUILDS = 3
-MOST_SECONDS = 200
+# Where the programs are kept, each in a folder that is named by its crate and by the sum of its sources; and how many of a crate.
+KEPT = ROOT / "dist" / "unproved"
+MOST_KEPT = 3
+# The program stops at a fault of memory or of arithmetic, and is started anew for the requests behind that one: at most so often in all.
+MOST_STARTS = 3
+MOST_SECONDS = 300
 # Longer inputs would take most of these seconds, since the unproved program looks for such faults at each access.
 MOST_BYTES = 2**16
 # Standard input is a line with the path of the file for the answers, and then the requests. A request is a line with the number of bytes of its input
 # and its words, a tab before each, and then the input. An answer is a line with the status and the numbers of bytes of output and of errors, and then
 # these bytes.
 HEADER = re.compile(rb"(\d+) (\d+) (\d+)\n")
-MAIN = r"""
+MAIN = "fn main(rt: HostRuntime) -> ExitCode {\n"
+KEEPS = """\
+    if kept::keep(&rt).is_some() {
+        return ExitCode::from(0);
+    }
+"""
+ANSWERS = """\
+    if kept::is_asked(&rt, "--answer-each").is_some() {
+        return ExitCode::from(if answer_each(&rt, &rt).is_some() { 0 } else { 1 });
+    }
+"""
+# The module `kept` of a program. The words by which the process was started say how it is started again.
+KEPT_MODULE = r"""
+use std::convert::AsStr;
+use std::fs::File;
+use std::io::{Read, Write};
+
+/// What stands behind the word in the words of the process, if that is the first of them.
+pub fn is_asked(rt: &HostRuntime, word: &str) -> Option<(String, Option<String>)> {
+    let words: Result<Vec<String>, _> = std::env::args(rt).ok()?.collect(rt.alloc());
+    let mut words = words.ok()?.into_iter();
+    let program = words.next()?;
+    if words.next()?.as_str() == word {
+        Some((program, words.next()))
+    } else {
+        None
+    }
+}
+
+fn copy(rt: &HostRuntime, from: &str, to: &str) -> Option<()> {
+    let mut bytes = Vec::new(rt.alloc());
+    File::open(rt, from).ok()?.read_to_end(&mut bytes).ok()?;
+    File::create(rt, to).ok()?.write_all(bytes.as_slice()).ok()
+}
+
+/// Leaves the program and the words that started it in the folder of its second word.
+pub fn keep(rt: &HostRuntime) -> Option<()> {
+    let (program, folder) = is_asked(rt, "--keep-in")?;
+    let mut path = folder?;
+    path.push_str("/program").ok()?;
+    copy(rt, program.as_str(), path.as_str())?;
+    path.push_str(".words").ok()?;
+    copy(rt, "/proc/self/cmdline", path.as_str())
+}
+"""
+ANSWERING = r"""
 use std::fs::File;
 
 /// The text up to the next line feed, which is taken off with it.
@@ -61,22 +113,107 @@ fn answer_each<T: Threads + Wait + Clock + Sync>(rt: &HostRuntime, threads: &T) 
     Some(())
 }
 
-fn main(rt: HostRuntime) -> ExitCode {
-    ExitCode::from(if answer_each(&rt, &rt).is_some() { 0 } else { 1 })
-}
 """
 
 
-def copy_sources(folder):
-    """Copies what the program is built of, with the other `main`."""
+@functools.cache
+def libraries():
+    """What each crate of the repository stands on."""
+    lines = (line.split("#")[0].partition(":") for line in (ROOT / "crates.txt").read_text().splitlines())
+    return {name.split()[0]: rest.split() for name, colon, rest in lines if colon}
+
+
+def stands_on(crate):
+    """A crate and all crates of the repository below it."""
+    found, left = set(), [crate]
+    while left:
+        name = left.pop()
+        if name in libraries() and name not in found:
+            found.add(name)
+            left += libraries()[name]
+    return sorted(found)
+
+
+def sources(crate):
+    """The files of which the program of a crate is built."""
+    return sorted(path for name in stands_on(crate) for path in (ROOT / "crates" / name / "src").rglob("*") if path.is_file())
+
+
+def sum_of(crate):
+    """The sum of all of which the unproved program of a crate is built."""
+    files = (pathlib.Path(__file__), ROOT / "crates.txt", *sources(crate))
+    text = "".join(f"{hashlib.sha256(path.read_bytes()).hexdigest()} {path.relative_to(ROOT)}\n" for path in files)
+    return hashlib.sha256(text.encode()).hexdigest()[:16]
+
+
+def copy_sources(crate, folder):
+    """Copies what a program is built of, with more at the head of its `main`."""
     shutil.copy(ROOT / "crates.txt", folder)
     for source in (ROOT / "crates").glob("*/src"):
         shutil.copytree(source, folder / source.relative_to(ROOT))
-    main = folder / "crates" / "atomfs" / "src" / "main.rt"
-    kept, found, _ = main.read_text().partition("fn main(")
+    main = folder / "crates" / crate / "src" / "main.rt"
+    before, found, body = main.read_text().partition(MAIN)
     if not found:
-        raise SystemExit("tests/unproved.py: crates/atomfs/src/main.rt has no `fn main(` that could be replaced")
-    main.write_text(kept + MAIN)
+        raise SystemExit(f"tests/unproved.py: crates/{crate}/src/main.rt has no line `{MAIN.strip()}`")
+    answers = "fn status_of_args<" in before
+    main.write_text(before + (ANSWERING if answers else "") + MAIN + KEEPS + (ANSWERS if answers else "") + body + "\nmod kept;\n")
+    main.with_name("kept.rt").write_text(KEPT_MODULE)
+
+
+def build(crate, into):
+    """Builds the program of a crate, which leaves itself in a folder, and answers what `rt try` told where it did not."""
+    with tempfile.TemporaryDirectory(prefix="atomfs-") as folder:
+        copy_sources(crate, pathlib.Path(folder))
+        # The compiled program alone is to answer, so the interpreter of `rt try` does one step.
+        words = ("rt", "try", "--steps", "1", "--seconds", str(MOST_SECONDS), "--", "--keep-in", into)
+        done = subprocess.run(words, cwd=f"{folder}/crates/{crate}", stdin=subprocess.DEVNULL, capture_output=True)
+    program, words = pathlib.Path(into, "program"), pathlib.Path(into, "program.words")
+    if not words.exists():
+        raise SystemExit(f"tests/unproved.py: the program is not built unproved\n{done.stderr.decode(errors='replace')[-4_000:]}")
+    program.chmod(0o755)
+
+
+def keep(crate, folder):
+    """Builds the program of a crate into a folder, and removes those that have been kept for longest."""
+    KEPT.mkdir(parents=True, exist_ok=True)
+    made = tempfile.mkdtemp(prefix="made-", dir=KEPT)
+    try:
+        build(crate, made)
+        # Another process may have built the same meanwhile.
+        with contextlib.suppress(OSError):
+            os.rename(made, folder)
+    finally:
+        shutil.rmtree(made, ignore_errors=True)
+    for older in sorted(KEPT.glob(f"{crate}-*"), key=lambda kept: kept.stat().st_mtime)[:-MOST_KEPT]:
+        shutil.rmtree(older, ignore_errors=True)
+
+
+def words_of(folder):
+    """The words that start the program that is kept in a folder, if one is and what loads it is still there."""
+    with contextlib.suppress(FileNotFoundError):
+        *loader, _ = (folder / "program.words").read_bytes().split(b"\0--keep-in\0")[0].decode().split("\0")
+        if all(map(os.path.exists, loader[:1])):
+            # Help and usage errors name the program as it was called.
+            return [*loader, *(("--argv0", "atomfs") if loader else ()), str(folder / "program")]
+    return None
+
+
+def folder_of(crate):
+    return KEPT / f"{crate}-{sum_of(crate)}"
+
+
+def is_kept(crate):
+    """Whether the unproved program of a crate starts at once."""
+    return words_of(folder_of(crate)) is not None
+
+
+def started(crate):
+    """The words that start the unproved program of a crate, which is built where it is not kept."""
+    folder = folder_of(crate)
+    if not words_of(folder):
+        shutil.rmtree(folder, ignore_errors=True)
+        keep(crate, folder)
+    return words_of(folder)
 
 
 def encoded(requests):
@@ -95,16 +232,12 @@ def decoded(answers):
 
 
 def asked(requests):
-    """The answers to requests up to the first at which the program stopped, and what `rt try` told."""
+    """The answers to requests up to the first at which the program stopped, and what it told."""
     with tempfile.TemporaryDirectory(prefix="atomfs-") as folder:
-        folder = pathlib.Path(folder)
-        copy_sources(folder)
-        answers = folder / "answers"
-        # The compiled program alone is to answer, so the interpreter of `rt try` does one step.
-        words = ("rt", "try", "--steps", "1", "--seconds", str(MOST_SECONDS))
-        done = subprocess.run(words, cwd=folder / "crates" / "atomfs", input=f"{answers}\n".encode() + encoded(requests), capture_output=True)
-        if not answers.exists():
-            raise SystemExit(f"tests/unproved.py: the program is not built unproved\n{done.stderr.decode(errors='replace')[-4_000:]}")
+        answers = pathlib.Path(folder, "answers")
+        answers.touch()
+        words = (*started("atomfs"), "--answer-each")
+        done = subprocess.run(words, input=f"{answers}\n".encode() + encoded(requests), capture_output=True, timeout=MOST_SECONDS)
         return list(decoded(answers.read_bytes())), done.stderr
 
 
@@ -146,7 +279,7 @@ class Batch:
         with in_place_of_the_program(self.record, compares=False):
             for module in modules:
                 run(module)
-        for _ in range(MOST_BUILDS):
+        for _ in range(MOST_STARTS):
             self.ask([request for request, outcome in self.answered.items() if outcome is None])
 
     def ask(self, requests):

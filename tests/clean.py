@@ -1,0 +1,129 @@
+"""A clone in which nothing is built: the tests that need no proof pass there, and the commands of examples/README.md and of docs/FORMATS.md run as they
+stand. Only what compiles the unproved program is another there: standin.py.
+"""
+import contextlib
+import os
+import pathlib
+import re
+import shutil
+import subprocess
+import tempfile
+import unittest
+
+import harness
+import model
+from documents import EXAMPLES, FORMATS, prose, spans, table
+from harness import ROOT, Case
+
+# What is built, and what a clone of files alone does not have.
+NO_SOURCES = ".git", "out", "dist", "target", "__pycache__", "*.egg-info", "Cargo.lock"
+MOST_SECONDS = 600
+
+
+class Clean(Case):
+    @classmethod
+    def setUpClass(cls):
+        harness.takes_a_process()
+        cls.folder = pathlib.Path(cls.enterClassContext(tempfile.TemporaryDirectory(prefix="atomfs-")))
+        cls.clone, tools = cls.folder / "clone", cls.folder / "tools"
+        shutil.copytree(ROOT, cls.clone, ignore=shutil.ignore_patterns(*NO_SOURCES), symlinks=True)
+        tools.mkdir()
+        (tools / "rt").symlink_to(ROOT / "tests" / "standin.py")
+        cls.compiled = cls.folder / "compiled"
+        cls.compiled.touch()
+        own = {name: value for name, value in os.environ.items() if name not in ("ATOMFS", "LIBATOMFS", "ROW", "CI")}
+        stand_in = {"PROVED": os.path.abspath(harness.program()), "COMPILED": str(cls.compiled), "RT": shutil.which("rt") or "/bin/false"}
+        cls.environment = own | stand_in | {"PATH": f"{tools}:{own['PATH']}"}
+
+    def typed(self, command):
+        """What comes of a command that is typed at the top of the clone."""
+        given = {"cwd": self.clone, "env": self.environment, "stdin": subprocess.DEVNULL, "timeout": MOST_SECONDS}
+        return subprocess.run(("bash", "-c", command), capture_output=True, text=True, **given)
+
+    def succeeds(self, command):
+        """What a command writes that is to end with status 0."""
+        done = self.typed(command)
+        self.same(command, (done.returncode, done.stderr if done.returncode else ""), (0, ""))
+        return done.stdout
+
+    def test_quick(self):
+        """`tests/run --quick` passes, and has looked at no program that is built."""
+        done = self.typed("tests/run --quick")
+        passed, failed = re.fullmatch(r"(\d+) passed, (\d+) failed", done.stdout.splitlines()[-1]).groups()
+        self.same("tests/run --quick", (int(failed), done.returncode, done.stderr if int(failed) else ""), (0, 0, ""))
+        self.assertGreater(int(passed), 2_000)
+        self.assertFalse([path for path in self.clone.glob("crates/*/out")])
+
+    def test_examples(self):
+        """The rows of examples/README.md that need no proof."""
+        rows = ((spans(runs)[0], prints) for _, _, runs, prints in table(EXAMPLES, "File", "Shows", "Run", "Prints"))
+        found = [(command, command, prints) for command, prints in rows if command.startswith("examples/run ")]
+        self.assertGreater(len(found), 3)
+        self.each(found, self.example)
+
+    def example(self, command, prints):
+        done, status = self.typed(command), re.search(r"status (\d)", prints)
+        self.same(command, done.returncode, int(status[1]) if status else 0)
+        if " check " in command:
+            self.same(command, done.stdout, f"{spans(prints)[0]}\n")
+        else:
+            self.same(command, model.replayed(done.stdout), None)
+
+    def test_prose_of_examples(self):
+        """The commands between the rows."""
+        text = "\n".join(line for line in prose(EXAMPLES).splitlines() if not line.startswith("|"))
+        commands = [span for span in spans(text) if re.fullmatch(r"examples/run \w+ .*< examples/\S+|examples/run --help", span)]
+        self.assertGreater(len(commands), 1)
+        self.each(((command, command) for command in commands), self.succeeds)
+
+    def test_from_a_seed_to_a_picture(self):
+        """docs/FORMATS.md, one command after the other: the later ones read what the earlier ones wrote."""
+        section = FORMATS.read_text().split("## From a failing seed to a picture\n")[1]
+        seeds, lines, schedule, words, commits = re.findall(r"^```\n(.*?)^```$", section, re.M | re.S)
+        trace, draw = (span for span in spans(section) if span.startswith("examples/run "))
+        self.same(seeds, self.succeeds(seeds), lines)
+        self.same(schedule, self.succeeds(schedule), "")
+        self.same("kept.script", (self.clone / "kept.script").read_text().split("\nschedule\n")[1], words)
+        self.assertLessEqual(set(commits.splitlines()), set(self.succeeds(trace).splitlines()))
+        self.same(draw, self.succeeds(draw), "")
+        self.assertTrue((self.clone / "kept.svg").read_text().startswith("<svg "))
+
+    def test_each_word(self):
+        """`examples/run` takes every command that the program has."""
+        words = re.findall(r"^  (\w+) ", self.succeeds("examples/run help").split("Commands:\n")[1].split("\n\n")[0], re.M)
+        self.assertIn("trace", words)
+        self.each(((word, word) for word in words if word != "help"), self.word)
+
+    def word(self, word):
+        self.assertIn(f"Usage: atomfs {word}", self.succeeds(f"examples/run {word} --help"))
+
+    def test_moved_ancestor(self):
+        """The example shows what its row says: the file is written below the directory that has moved."""
+        text = self.succeeds("examples/run examples/moved_ancestor.script")
+        (write,) = re.findall(r"^begin (\d+) .* write /work/today/notes", text, re.M)
+        (rename,) = re.findall(r"^begin (\d+) .* rename /work /done", text, re.M)
+        entries = text.splitlines()
+        places = [entries.index(entry) for entry in (f"commit {write}", f"commit {rename}", f"return {rename} ok", f"return {write} wrote 5")]
+        self.same("the order of the entries", places, sorted(places))
+        self.assertIn("file /done/first/notes 6e6f746573", entries)
+
+    def test_kept(self):
+        """The unproved program is compiled once for the same sources, and anew where one has changed."""
+        for _ in range(2):
+            self.succeeds("examples/run examples/one_name.script")
+            self.succeeds("examples/run seeds --seed 1 --runs 2 < examples/one_name.script")
+        before = self.compiled.read_text().splitlines()
+        self.same("what was compiled", sorted(before), ["atomfs", "atomfs_run"])
+        source = self.clone / "crates" / "fs_sched" / "src" / "lib.rt"
+        text = source.read_text()
+        with contextlib.ExitStack() as after:
+            after.callback(source.write_text, text)
+            source.write_text(f"{text}// Changed.\n")
+            self.succeeds("examples/run examples/one_name.script")
+        self.same("what is compiled behind a change", self.compiled.read_text().splitlines()[len(before) :], ["atomfs_run"])
+        self.succeeds("examples/run examples/one_name.script")
+        self.same("what is compiled as it was before", len(self.compiled.read_text().splitlines()), len(before) + 1)
+
+
+if __name__ == "__main__":
+    unittest.main()
