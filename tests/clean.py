@@ -10,6 +10,7 @@ import subprocess
 import tempfile
 import unittest
 
+import costs
 import harness
 import model
 from documents import EXAMPLES, FORMATS, prose, spans, table
@@ -52,6 +53,9 @@ class Clean(Case):
         passed, failed = re.fullmatch(r"(\d+) passed, (\d+) failed", done.stdout.splitlines()[-1]).groups()
         self.same("tests/run --quick", (int(failed), done.returncode, done.stderr if int(failed) else ""), (0, 0, ""))
         self.assertGreater(int(passed), 2_000)
+        parts = re.findall(r"^tests/run: +[\d.]+ s +[\d.]+ processor-seconds tests/(\w+)\.py$", done.stderr, re.M)
+        self.assertLessEqual({"documents", "worked", "progress", "clean"}, set(parts))
+        self.assertRegex(done.stderr, r"(?m)^tests/run: in all +[\d.]+ processor-minutes$")
         self.assertFalse([path for path in self.clone.glob("crates/*/out")])
 
     def test_examples(self):
@@ -123,6 +127,53 @@ class Clean(Case):
         self.same("what is compiled behind a change", self.compiled.read_text().splitlines()[len(before) :], ["atomfs_run"])
         self.succeeds("examples/run examples/one_name.script")
         self.same("what is compiled as it was before", len(self.compiled.read_text().splitlines()), len(before) + 1)
+
+
+class Costs(Case):
+    """What `tests/run` says at its end of the processors that its parts took."""
+
+    KEPT = "done in this run: 4 of the 20 proofs (of crates and of their tests) and 1 of the 9 must-fail edits"
+    TOO_MUCH = f"these are more than the {costs.MOST_MINUTES} processor-minutes that all tests may take from nothing: docs/CHANGING.md says what to do"
+    LESS = f"what earlier runs kept is not counted; from nothing it may be {costs.MOST_MINUTES} processor-minutes"
+
+    @staticmethod
+    def parts(*processors):
+        kinds = costs.PROOFS, costs.LIBRARY, costs.TESTS, costs.TESTS
+        return [costs.Part(f"part {number}", kind, 10.0, taken) for number, (kind, taken) in enumerate(zip(kinds, processors))]
+
+    def test_told(self):
+        self.each((
+            ("from nothing", (14_000.0, 300.0, 60.0, 40.0), costs.FROM_NOTHING, "240.0", None),
+            ("too much from nothing", (14_000.0, 300.0, 60.0, 46.0), costs.FROM_NOTHING, "240.1", self.TOO_MUCH),
+            ("too much, and some kept", (15_000.0, 300.0, 60.0, 40.0), self.KEPT, "256.7", self.TOO_MUCH),
+            ("some kept", (600.0, 300.0, 60.0, 40.0), self.KEPT, "16.7", self.LESS),
+        ), self.look)
+
+    def look(self, processors, work, minutes, last):
+        lines = list(costs.told(self.parts(*processors), work))
+        sums = [" ".join(line.split()) for line in lines[4:8]]
+        kinds = (costs.PROOFS, processors[0]), (costs.LIBRARY, processors[1]), (costs.TESTS, sum(processors[2:]))
+        self.same("the sums", sums, [*(f"in all {taken} processor-seconds {kind}" for kind, taken in kinds), f"in all {minutes} processor-minutes; {work}"])
+        self.same("what follows", lines[8:], [last] if last else [])
+
+    def test_work(self):
+        """How much `rt ci` did is read from its last line but one."""
+        of = "rt: ok; handles allowed: none; must-fail edits: 3 refused; "
+        self.each((
+            ("from nothing", f"{of}{costs.FROM_NOTHING}\n", costs.FROM_NOTHING),
+            ("some kept", f"{of}{self.KEPT}; the others are kept from earlier runs of the same files on this machine\n", self.KEPT),
+        ), lambda line, work: self.same(line, re.search(costs.WORK, line)[0], work))
+
+    def test_measured(self):
+        """The processors of what ended below are counted, and waiting is not."""
+        parts = []
+        with costs.measured(parts, "busy", costs.TESTS):
+            subprocess.run(("python3", "-c", "import time\nwhile time.process_time() < 0.5: pass"), check=True)
+        with costs.measured(parts, "idle", costs.TESTS):
+            subprocess.run(("sleep", "0.5"), check=True)
+        self.assertGreaterEqual(parts[0].processors, 0.5)
+        self.assertGreaterEqual(parts[1].seconds, 0.5)
+        self.assertLess(parts[1].processors, 0.4)
 
 
 if __name__ == "__main__":
