@@ -17,6 +17,8 @@ from harness import MOST_SECONDS, Case, Outcome, program, spawned, takes_a_proce
 
 TEXT, THREADS, CALLS, EVENTS = 16_777_216, 256, 65_536, 1_000_000
 FILE, ENTRIES, NAME, PATH = 65_536, 256, 32, 64
+# The largest file by the second limits.
+FILE_BY_SECOND = 1_048_576
 ROOM = 268_435_456
 RUN, CHECK, SEEDS = ("run",), ("check",), ("seeds", "--seed", "1", "--runs", "3")
 LAWFUL = Outcome(0, b"lawful\n")
@@ -255,6 +257,17 @@ class Limits(Case):
     def test_room_of_far_bytes(self):
         """A byte far behind the start of a file makes little room beside what stands before it."""
         self.each([("a byte at half, cut", (f"write {{}} {FILE // 2} ff", "truncate {} 0"), True)], self.room)
+
+    def test_limits_of_threads(self):
+        """A tree of real threads has the limits of its script: by the second ones a byte at the end of the largest file makes that file, of which there is no
+        room for so many; by the first ones such a write fails, and takes none."""
+        calls = list(each_file(400, f"write {{}} {FILE_BY_SECOND - 1} 00"))
+        second = ["atomfs 2", *list(script(calls))[1:]]
+        self.each((
+            ("400 of the largest files by the second limits, on a real thread", second, ("threads",), OUT_OF_MEMORY, ROOM),
+            ("the same by the first limits", script(calls), ("threads",), well(f"lawful calls {len(calls)}\n"), ROOM),
+            ("2 of the largest files by the second limits", second[:6] + second[-2:], ("threads",), well("lawful calls 4\n"), ROOM),
+        ), self.ends)
 
     def test_more_than_there_is(self):
         self.each((

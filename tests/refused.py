@@ -535,6 +535,68 @@ class Library(Case):
         )
         self.each(rows, self.no_begin)
 
+    def growths_of_begin(self, seat, line, limit):
+        """How many growths a begin asks for, beside a call under way on seat 0, and its status."""
+        with Played(self, self.library) as tree:
+            tree.open(limit)
+            for _ in range(2):
+                tree.seat()
+            tree.begin(0, b"stat /")
+            self.heap.refuse(0, 0)
+            return self.heap.growths(), status_of(tree.begin, seat, line)[0], self.heap.growths()
+
+    def test_order_of_refusals(self):
+        """A begin on a busy seat, or with no number left, asks for no more memory than its line needs to be read: that it is refused comes before what it
+        would hold. A seat that is busy comes before all."""
+        _, read, reading = self.growths_of_begin(1, b"read /a 0 x", LIMIT)
+        self.same("a line that is read up to its last number", (read, reading > 0), (Status.BAD_NUMBER, True))
+        rows = (
+            ("busy", 0, b"mkdir /a", LIMIT, Status.SEAT_BUSY),
+            ("busy, and no number left", 0, b"mkdir /a", 1, Status.SEAT_BUSY),
+            ("no number left", 1, b"mkdir /a", 1, Status.FULL),
+        )
+        self.each(rows, lambda *begin: self.same(begin[:3], self.growths_of_begin(*begin[:3])[1:], (begin[3], reading)))
+        _, begun, growths = self.growths_of_begin(1, b"mkdir /a", LIMIT)
+        self.same("one that begins", (begun, growths > reading), (Status.OK, True))
+
+    def held(self, line, number):
+        """What the steps of two calls do, of which one holds a node for which the other one waits, where in between a begin on a third seat is refused the
+        growth of a number; and how many were refused. With no line nothing begins in between."""
+        self.heap.refuse(0, 0)
+        with Played(self, self.library) as tree:
+            tree.open()
+            for _ in range(3):
+                tree.seat()
+            tree.make(0, b"mkdir /a")
+            tree.begin(0, b"mkdir /a/b")
+            did = [tree.step(0) for _ in range(3)]
+            tree.begin(2, b"stat /a/c")
+            did += [tree.step(2) for _ in range(2)]
+            refusals = 0
+            if line:
+                self.heap.refuse(number, number)
+                status, refusals = status_of(tree.begin, 1, line)[0], self.heap.refusals()
+                self.heap.refuse(0, 0)
+                if not refusals:
+                    return did, refusals
+                self.same(f"{line}, growth {number} refused", status, Status.NO_MEMORY)
+            did += [tree.step(seat) for seat in (2, 0, 2) for _ in range(5)]
+        return did, refusals
+
+    def holds(self, line):
+        wanted, _ = self.held(None, 0)
+        self.same("one waits for the other", (wanted[3:6], wanted[-1][0]), ([(Did.TAKE, 0), (Did.WAIT, 2), (Did.WAIT, 2)], Did.RETURN))
+        for number in itertools.count(1):
+            did, refusals = self.held(line, number)
+            if not refusals:
+                break
+            self.same(f"the steps behind {line}, growth {number} refused", did, wanted)
+        self.assertGreater(number, 1, f"{line} asks for no growth")
+
+    def test_holders(self):
+        """A begin of which a growth is refused leaves each node with the call that holds it, and those that wait for it waiting."""
+        self.each(((line.decode(), line) for line in (b"mkdir /a/d", b"stat /a", b"rename /a /e")), self.holds)
+
     def begun_again(self, line, number):
         """How often a growth was refused to a begin on a tree with one number left. A refused one keeps neither that number nor any node: a call of another seat
         runs past it, and the same begin has the number."""
@@ -602,7 +664,8 @@ class Library(Case):
         self.heap.refuse(1, EVERY)
         self.same("the tree, where every growth is refused", status_of(tree.tree)[0], Status.NO_MEMORY)
 
-    def promised(self, calls, place):
+    def stepped(self, calls, place, refuses):
+        """What the steps of a call do, behind the calls before it; with `refuses` no growth is granted behind its begin."""
         seat, line = calls[place]
         self.heap.refuse(0, 0)
         with Played(self, self.library) as tree:
@@ -610,32 +673,44 @@ class Library(Case):
             for before in calls[:place]:
                 tree.by_call(*before)
             number = tree.begin(seat, line.encode())
-            self.refuse_every(tree)
+            if refuses:
+                self.refuse_every(tree)
             tree.returns(seat)
             self.heap.refuse(0, 0)
             tree.has_returned(seat, line, number)
             tree.stands()
+        return tree.steps
+
+    def promised(self, calls, place):
+        self.same("what the steps did", self.stepped(calls, place, True), self.stepped(calls, place, False))
 
     def test_promised_room(self):
         """A call that has begun returns its reply where every further growth is refused."""
         rows = [(f"{name}, call {place + 1}: {calls[place][1]}", calls, place) for name, calls in LISTS.items() for place in range(len(calls))]
         self.each(rows, self.promised)
 
-    def test_promised_room_of_many(self):
-        """The same of a call of each kind, all of them under way: some wait, and an exchange or a rename helps others."""
+    def all_stepped(self, refuses):
+        """What the steps of a call of each kind do, all of them under way, and the text of the run; with `refuses` no growth is granted behind their begins."""
         calls = UNDER_WAY.splitlines()
+        self.heap.refuse(0, 0)
         with Played(self, self.library) as tree:
             tree.opened(range(len(calls)))
             for line in BEFORE.splitlines():
                 tree.by_call(0, line)
             for seat, line in enumerate(calls):
                 tree.begin(seat, line.encode())
-            self.refuse_every(tree)
-            did = {tree.step(seat)[0] for _ in range(MOST_STEPS // len(calls)) for seat in range(len(calls))}
+            if refuses:
+                self.refuse_every(tree)
+            did = [tree.step(seat) for _ in range(MOST_STEPS // len(calls)) for seat in range(len(calls))]
             self.heap.refuse(0, 0)
-            run = tree.journal() + tree.tree() + counts_of(tree.wanted.count + len(calls))
+            return did, tree.journal() + tree.tree() + counts_of(tree.wanted.count + len(calls))
+
+    def test_promised_room_of_many(self):
+        """The same of a call of each kind, all of them under way: some wait, and an exchange or a rename helps others."""
+        did, run = self.all_stepped(True)
+        self.same("what the steps did, and the run", (did, run), self.all_stepped(False))
         self.same(run, model.replayed(run.decode()), None)
-        self.assertLessEqual({Did.WAIT, Did.HELP, Did.CARRY_OUT}, did)
+        self.assertLessEqual({Did.WAIT, Did.HELP, Did.CARRY_OUT}, {one for one, _ in did})
 
 
 if __name__ == "__main__":

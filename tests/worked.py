@@ -22,7 +22,7 @@ RUNS, JOURNALS, FAULTS, EXAMPLES = (*(DATA / "worked" / folder for folder in ("r
 TOUR = EXAMPLES / "tour"
 # How many inputs a folder has, and what stands behind the name of one.
 FOLDERS = (
-    ("runs", RUNS, 47, ("script", "text", "robin.text", "drawn.text", "status")),
+    ("runs", RUNS, 48, ("script", "text", "robin.text", "drawn.text", "status")),
     ("journals", JOURNALS, 14, ("journal", "verdict", "status")),
     ("faults", FAULTS, 44, ("script", "journal", "message", "status")),
 )
