@@ -13,6 +13,7 @@ import subprocess
 import sys
 import tempfile
 import unittest
+import zipfile
 
 import harness
 from documents import PACKAGES, blocks, spans, table
@@ -101,7 +102,7 @@ class Installed(Case):
 
 class OfTheArchive(Installed):
     def test_files(self):
-        """It has the library, its header, what CMake and pkg-config read, the program, the wheel and the crate."""
+        """It has the library, its header, what CMake and pkg-config read, the program, the wheel, the crate, and the pages that the header names."""
         self.same(archive().name, self.prefix.name, archive().name.removesuffix(".tar.gz"))
         for name in (
             *("lib/libatomfs.a", "lib/libatomfs.so", "lib/cmake/atomfs/atomfs-config.cmake", "lib/pkgconfig/atomfs.pc", "include/atomfs.h"),
@@ -109,6 +110,10 @@ class OfTheArchive(Installed):
         ):
             with self.subTest(name):
                 self.assertTrue((self.prefix / name).is_file())
+        named = {pathlib.Path(page) for page in re.findall(r"docs/\w+\.md", HEADER)}
+        for page in (*sorted(named), pathlib.Path("docs/SPECIFICATION.md"), pathlib.Path("CHANGELOG.md")):
+            with self.subTest(str(page)):
+                self.same(page, (self.prefix / "share" / "atomfs" / page.name).read_text(), (ROOT / page).read_text())
         self.same("include/atomfs.h", (self.prefix / "include" / "atomfs.h").read_text(), HEADER)
 
     def test_no_paths(self):
@@ -154,6 +159,18 @@ class ForC(Installed):
         ran = done([self.folder / "by_pkg_config"], self.folder, LD_LIBRARY_PATH=str(self.prefix / "lib"))
         self.same("the example, built by pkg-config", ran, (0, "hello\n"))
 
+    def test_installed_page(self):
+        """The command that the archive's page has for pkg-config, as it is typed there: what it makes finds the shared object by itself."""
+        wanted("pkg-config", "cc")
+        page = (self.prefix / "share" / "atomfs" / "README.md").read_text()
+        (command,) = (span for span in spans(page) if span.startswith("cc main.c "))
+        shutil.copy(BINDINGS / "c" / "example" / "main.c", self.folder)
+        self.ends(["bash", "-c", command.replace("PREFIX", str(self.prefix))])
+        self.same("a.out", done([self.folder / "a.out"], self.folder), (0, "hello\n"))
+        (started,) = (span for span in spans(page) if span.startswith("LD_LIBRARY_PATH="))
+        self.ends(["bash", "-c", command.replace("PREFIX", str(self.prefix)).split(" -Wl,")[0]])
+        self.same(started, done(["bash", "-c", started.replace("PREFIX", str(self.prefix))], self.folder), (0, "hello\n"))
+
 
 class ForPython(Installed):
     """The wheel of the archive and the package of the checkout, each in a new environment, with the tests of the package."""
@@ -169,6 +186,43 @@ class ForPython(Installed):
         listed = [name for tests, _ in table(PACKAGES["python"], "Test of the suite", "Needs") for name in spans(tests)]
         skipped = re.findall(r"^(test_\w+) .*\.\.\. skipped ", told, re.M)
         self.same("the tests that its page lists as left out", sorted(listed), sorted(skipped))
+
+    def test_platform(self):
+        """The wheel is for every Linux whose C library has the symbols of the shared object, as `objdump` tells them."""
+        (wheel,) = (self.prefix / "share" / "atomfs").glob("*.whl")
+        self.same("the wheel", wheel.name, f"atomfs-{VERSION}-py3-none-{self.platform(self.prefix / 'lib' / 'libatomfs.so')}.whl")
+        with zipfile.ZipFile(wheel) as files:
+            (told,) = (files.read(name).decode() for name in files.namelist() if name.endswith("/WHEEL"))
+        self.assertIn(f"Tag: py3-none-{wheel.stem.split('-none-')[1]}\n", told)
+
+    @staticmethod
+    def platform(path):
+        symbols = subprocess.run(["objdump", "-T", path], capture_output=True, text=True, check=True).stdout
+        major, minor = max((int(major), int(minor)) for major, minor in re.findall(r"\(GLIBC_(\d+)\.(\d+)[.\d]*\)", symbols))
+        return f"manylinux_{major}_{minor}_{os.uname().machine}"
+
+    def test_platform_of_others(self):
+        """A shared object with a newer symbol is for newer systems; one that needs another library is for none but those like this one."""
+        wanted("cc")
+        ask = (
+            "import importlib.util as u, pathlib, sys; spec = u.spec_from_file_location('setup_of_atomfs', sys.argv[1]); made = u.module_from_spec(spec); "
+            "spec.loader.exec_module(made); print(made.platform(pathlib.Path(sys.argv[2]), 'linux_' + sys.argv[3]))"
+        )
+        of_build = f"linux_{os.uname().machine}"
+        for name, text, flags in (
+            ("random", "#include <sys/random.h>\nlong f(void *p) { return getrandom(p, 1, 0); }\n", []),
+            ("copy", "#include <string.h>\nvoid *f(void *p, void *q, unsigned long n) { return memcpy(p, q, n); }\n", []),
+            ("other", "int f(void) { return 1; }\n", ["-Wl,--no-as-needed", "-L", self.folder, "-l:libother.so"]),
+        ):
+            with self.subTest(name):
+                source, made = self.folder / f"{name}.c", self.folder / f"lib{name}.so"
+                source.write_text(text)
+                if name == "other":
+                    self.ends(["cc", "-shared", "-fPIC", "-o", made, source])
+                    made = self.folder / "libneeds.so"
+                self.ends(["cc", "-shared", "-fPIC", "-O2", "-fno-builtin", "-o", made, source, *flags])
+                words = [python(), "-c", ask, str(BINDINGS / "python" / "setup.py"), str(made), os.uname().machine]
+                self.same(name, done(words, self.folder, PYTHONDONTWRITEBYTECODE="1"), (0, f"{of_build if name == 'other' else self.platform(made)}\n"))
 
     def test_sources(self):
         """The package is built and installed from its sources, offline."""
@@ -279,7 +333,8 @@ class Numbers(Case):
         sys.path.pop(0)
         of_python = [getattr(limits, what) for what in ("name_bytes", "file_bytes") for limits in Limits]
         self.same("the two sets of _library.py", of_python, wanted)
-        for name in ("NODE_LIMIT", "PATH_LIMIT"):
+        limits["TEXT_LIMIT"] = re.search(r"TEXT_LIMIT: usize = ([\d_]+)", (CRATES / "fs_words" / "src" / "limits.rt").read_text())[1]
+        for name in ("NODE_LIMIT", "PATH_LIMIT", "ENTRY_LIMIT", "TEXT_LIMIT"):
             found = re.search(rf"^{name} = ([\d_]+)", library, re.M)[1]
             self.same(f"{name} of _library.py", int(found), int(limits[name]))
         found = re.search(r"NODE_LIMIT: usize = ([\d_]+)", self.source("rust", "src", "lib.rs"))[1]

@@ -1,7 +1,9 @@
 """Puts the shared object into the package: the one that ATOMFS_LIBRARY names, or the one of dist/, which embed/build makes."""
 import os
 import pathlib
+import re
 import shutil
+import struct
 import sys
 
 from setuptools import Distribution, setup
@@ -22,6 +24,63 @@ def shared_object():
     return found[0]
 
 
+class Elf:
+    """What a shared object of 64 bits asks of the system that loads it."""
+
+    STRINGS, DYNAMIC, VERSIONS, NEEDED = 3, 6, 0x6FFFFFFE, 1
+
+    def __init__(self, path):
+        self.data = path.read_bytes()
+        if self.data[:6] != b"\x7fELF\x02\x01":
+            sys.exit(f"atomfs: {path} is no shared object of 64 bits, with the low byte first")
+        (start,), (size, count) = self.at("<Q", 0x28), self.at("<HH", 0x3A)
+        # Of each section the kind, the place, the size, and the section of its strings.
+        self.sections = [(kind, offset, length, link) for _, kind, _, _, offset, length, link in (self.at("<IIQQQQI", start + size * at) for at in range(count))]
+
+    def at(self, form, offset):
+        return struct.unpack_from(form, self.data, offset)
+
+    def string(self, section, offset):
+        start = self.sections[section][1] + offset
+        return self.data[start : self.data.index(b"\0", start)].decode()
+
+    def needed(self):
+        """The libraries that it needs."""
+        for kind, start, length, link in self.sections:
+            for entry in range(start, start + length, 16) if kind == self.DYNAMIC else ():
+                tag, value = self.at("<QQ", entry)
+                if tag == self.NEEDED:
+                    yield self.string(link, value)
+
+    def versions(self):
+        """The versions of the symbols that it needs, as `GLIBC_2.14`."""
+        for kind, start, _, link in self.sections:
+            entry, more = start, kind == self.VERSIONS
+            while more:
+                _, count, _, first, more = self.at("<HHIII", entry)
+                symbol = entry + first
+                for _ in range(count):
+                    _, _, _, name, step = self.at("<IHHII", symbol)
+                    yield self.string(link, name)
+                    symbol += step
+                entry += more
+
+
+# The libraries of every Linux with the GNU C library, which PEP 513 lets a wheel need.
+OF_THE_SYSTEM = {"libc.so.6", "libm.so.6", "libpthread.so.0", "libdl.so.2", "librt.so.1", "libgcc_s.so.1", "ld-linux-x86-64.so.2", "ld-linux-aarch64.so.1"}
+
+
+def platform(found, of_build):
+    """The platform of a wheel with a shared object: where it needs the GNU C library alone, its least version that has all symbols; else the one of the build."""
+    elf = Elf(found)
+    versions = [re.fullmatch(r"GLIBC_(\d+)\.(\d+)(?:\.\d+)?", name) for name in elf.versions()]
+    if not set(elf.needed()) <= OF_THE_SYSTEM or not all(versions) or not of_build.startswith("linux_"):
+        return of_build
+    # Before 2.5 no wheel has a platform.
+    major, minor = max([(2, 5), *(tuple(map(int, version.groups())) for version in versions)])
+    return f"manylinux_{major}_{minor}_{of_build.removeprefix('linux_')}"
+
+
 class BuildPy(build_py):
     def run(self):
         super().run()
@@ -29,10 +88,10 @@ class BuildPy(build_py):
 
 
 class Wheel(bdist_wheel):
-    """A wheel for any Python 3 on this machine's kind: the shared object knows nothing of Python."""
+    """A wheel for any Python 3 on this machine's kind: the shared object knows nothing of Python, and asks only for some version of the C library."""
 
     def get_tag(self):
-        return "py3", "none", super().get_tag()[2]
+        return "py3", "none", platform(shared_object(), super().get_tag()[2])
 
 
 class WithSharedObject(Distribution):
@@ -40,4 +99,5 @@ class WithSharedObject(Distribution):
         return True
 
 
-setup(cmdclass={"build_py": BuildPy, "bdist_wheel": Wheel}, distclass=WithSharedObject)
+if __name__ == "__main__":
+    setup(cmdclass={"build_py": BuildPy, "bdist_wheel": Wheel}, distclass=WithSharedObject)

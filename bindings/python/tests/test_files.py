@@ -7,6 +7,7 @@ import unittest
 import fs
 import fs.copy
 from fs import errors
+from fs.opener.errors import OpenerError
 
 import atomfs
 from atomfs.fs import AtomFS
@@ -29,6 +30,20 @@ class Files(unittest.TestCase):
             self.assertIsInstance(files, AtomFS)
             files.writetext("a", "text")
             self.assertEqual(files.readtext("a"), "text")
+
+    def test_opener_refuses(self):
+        """What a URL asks for beside a new tree is read by nobody, and refused."""
+        for url in ("atomfs://?limit=3", "atomfs://x/y", "atomfs://user:word@", "atomfs://!/a"):
+            with self.subTest(url):
+                self.assertRaisesRegex(OpenerError, "takes no path", fs.open_fs, url)
+        fs.open_fs("atomfs:///").close()
+
+    def test_words_of_limits(self):
+        for at in range(256):
+            self.files.create(str(at))
+        with self.assertRaises(errors.InsufficientStorage) as raised:
+            self.files.create("x")
+        self.assertEqual(str(raised.exception), "path 'x': The directory has 256 entries, and no more may be made in it")
 
     def test_given_tree(self):
         """A tree that is given stays open."""

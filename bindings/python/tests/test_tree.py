@@ -140,6 +140,90 @@ class Calls(OfTree):
         tree.close()
 
 
+class Words(OfTree):
+    """What errors say, beside their number and their path."""
+
+    def says(self, kind, words, call):
+        with self.assertRaises(kind) as raised:
+            call()
+        self.assertEqual(str(raised.exception), words)
+        return raised.exception
+
+    def test_limits(self):
+        """The message of a limit names it, and tells a full directory from a full tree."""
+        self.tree.mkdir("/d")
+        for at in range(256):
+            self.tree.mknod(f"/d/{at}")
+        full = "[Errno 28] The directory has 256 entries, and no more may be made in it: "
+        self.says(OSError, full + "'/d/x'", lambda: self.tree.mknod("/d/x"))
+        self.tree.mknod("/f")
+        self.says(OSError, full + "'/f' -> '/d/x'", lambda: self.tree.rename("/f", "/d/x"))
+        seat = self.tree.seat()
+        seat.begin.mkdir("/d/x")
+        self.says(OSError, full + "'/d/x'", seat.finish)
+        with atomfs.Tree(1_000) as tree:
+            for at in range(998):
+                tree.mkdir(f"/{at}" if at < 200 else f"/{at % 200}/{at}")
+            tree.mknod("/0/f")
+            none = "[Errno 28] All 1,000 nodes of the tree are in use: '/x'"
+            self.says(OSError, none, lambda: tree.mknod("/x"))
+            self.says(OSError, none, lambda: tree.seat().begin.mkdir("/x"))
+            large = "[Errno 27] The file would have more than 1,048,576 bytes: '/0/f'"
+            self.says(OSError, large, lambda: tree.truncate("/0/f", 1_048_577))
+        with atomfs.Tree(limits=atomfs.Limits.V1) as tree:
+            tree.mknod("/f")
+            self.says(OSError, "[Errno 27] The file would have more than 65,536 bytes: '/f'", lambda: tree.write("/f", 65_536, b"x"))
+            name = "/" + "n" * 33
+            self.says(OSError, f"[Errno 36] Path has a name of more than 32 bytes: {name!r}", lambda: tree.stat(name))
+        self.says(OSError, f"[Errno 36] Path has more than 64 names: {'/n' * 65!r}", lambda: self.tree.stat("/n" * 65))
+
+    def test_types(self):
+        """What is of another type is a `TypeError`, and changes nothing."""
+        self.tree.mknod("/f")
+        write = "write takes bytes, and this is str: encode it"
+        self.says(TypeError, write, lambda: self.tree.write("/f", 0, "text"))
+        self.says(TypeError, write, lambda: self.tree.seat().begin.write("/f", 0, "text"))
+        self.assertRaises(TypeError, lambda: self.tree.write("/f", 0, 3))
+        for what, call in (
+            ("offset", lambda: self.tree.read("/f", 1.0)),
+            ("count", lambda: self.tree.read("/f", 0, 1.0)),
+            ("offset", lambda: self.tree.write("/f", 1.0, b"")),
+            ("size", lambda: self.tree.truncate("/f", 1.0)),
+            ("limit", lambda: atomfs.Tree(1.0)),
+            ("room", lambda: atomfs.Tree(room=1.0)),
+        ):
+            self.says(TypeError, f"{what} is a whole number, and this is float", call)
+        self.says(TypeError, "size is a whole number, and this is str", lambda: self.tree.truncate("/f", "1"))
+        self.says(ValueError, "a negative room", lambda: atomfs.Tree(room=-1))
+        self.assertEqual(self.tree.stat("/f"), (False, 0))
+
+    def test_texts(self):
+        """The error of a text names its line, and its kind as the program does."""
+        header, line = "atomfs-journal 1\n", "a line has no form of its place, or a request no call"
+        for kind, words, call in (
+            (atomfs.Status.BAD_LINE, f"line 3: BadLine: {line}", lambda: atomfs.run("atomfs 1\nthread t\nmkdr /a\nschedule\n")),
+            (atomfs.Status.BAD_PATH, "line 3: BadPath: no path", lambda: atomfs.run("atomfs 1\nthread t\nmkdir a\nschedule\n")),
+            (
+                atomfs.Status.THREAD_TWICE,
+                "line 3: ThreadTwice: a thread has two blocks",
+                lambda: atomfs.run("atomfs 1\nthread t\nthread t\nschedule\n"),
+            ),
+            (atomfs.Status.BAD_HEADER, "line 1: BadHeader: the first line is another than it has to be", lambda: atomfs.check("no journal")),
+            (atomfs.Status.BAD_LINE, f"line 2: BadLine: {line}", lambda: atomfs.check(header + "mkdir /a\n")),
+        ):
+            self.assertEqual(self.says(atomfs.Error, words, call).status, kind)
+
+    def test_a_large_journal(self):
+        """A journal that is too large to be checked says what to do, and its pieces are checked."""
+        self.tree.mknod("/f")
+        for _ in range(9):
+            self.tree.write("/f", 0, bytes(1_048_576))
+        words = "the journal has more than 16,777,216 bytes: checkpoint, and check the pieces"
+        self.assertEqual(self.says(atomfs.Error, words, self.tree.check).status, atomfs.Status.TOO_LARGE)
+        self.tree.checkpoint()
+        self.assertEqual(self.tree.check(), "lawful")
+
+
 class OpenAndClosed(OfTree):
     def test_closed(self):
         self.tree.close()

@@ -3,7 +3,8 @@
 A call that fails raises the `OSError` of its number: `FileNotFoundError`, `NotADirectoryError`, `FileExistsError`,
 `IsADirectoryError`, `PermissionError`, or `OSError` with `ENOTEMPTY`, `EINVAL`, `EBUSY`, `ENOSPC`, `EFBIG`. A path that is none
 raises `OSError` with `EINVAL` or `ENAMETOOLONG`, a tree with no node left one with `ENOSPC`, and `MemoryError` is out of memory.
-What has nothing to do with the tree's content is an `Error`.
+Where a limit was met the message has it, so it tells a full directory from a full tree. What has nothing to do with the tree's
+content is an `Error`.
 """
 from __future__ import annotations
 
@@ -11,10 +12,10 @@ import errno
 import os
 from typing import TYPE_CHECKING, Union
 
-from ._library import FAILED, PATH_LIMIT, Library, Limits, Status
+from ._library import ENTRY_LIMIT, FAILED, PATH_LIMIT, Library, Limits, Status
 
 if TYPE_CHECKING:
-    from ._tree import Seat
+    from ._tree import Seat, Tree
 
 AnyPath = Union[str, bytes, "os.PathLike[str]", "os.PathLike[bytes]"]
 
@@ -60,8 +61,10 @@ def path_error(limits: Limits, *paths: AnyPath) -> OSError:
     for path in paths:
         raw = encoded(path)
         names = [name for name in raw.split(b"/") if name]
-        if any(len(name) > limits.name_bytes for name in names) or len(names) > PATH_LIMIT:
-            return OSError(errno.ENAMETOOLONG, os.strerror(errno.ENAMETOOLONG), path)
+        if any(len(name) > limits.name_bytes for name in names):
+            return OSError(errno.ENAMETOOLONG, f"Path has a name of more than {limits.name_bytes} bytes", path)
+        if len(names) > PATH_LIMIT:
+            return OSError(errno.ENAMETOOLONG, f"Path has more than {PATH_LIMIT} names", path)
         if raw[:1] != b"/":
             return OSError(errno.EINVAL, "Path does not begin with a slash", path)
         if b"\0" in raw:
@@ -74,22 +77,34 @@ def path_error(limits: Limits, *paths: AnyPath) -> OSError:
 
 
 def error_of(library: Library, status: int, about: int = 0) -> Exception:
-    """The exception of a status that is not OK, and speaks of no path."""
-    return error_at(library, status, Limits.V2, (), about)
+    """The exception of a status that is not OK, and speaks of no path. `about` is the line of a text, or the number of a call."""
+    words = library.words(status)
+    if status in (Status.NO_MEMORY, Status.UNTOLD):
+        return MemoryError(words)
+    if status in (Status.BAD_LIMIT, Status.BAD_LENGTH):
+        return ValueError(words)
+    if status >= Status.BAD_HEADER and about:
+        words = f"line {about}: {Status(status).kind}: {words}"
+    kind = {Status.CLOSED: ClosedError, Status.UNDER_WAY: UnderWayError}.get(Status(status), Error)
+    return kind(status, words, about)
 
 
-def error_at(library: Library, status: int, limits: Limits, paths: tuple[AnyPath, ...], about: int = 0) -> Exception:
-    """The exception of a status that is not OK, of a call on these paths in a tree of these limits."""
+def error_at(tree: Tree, status: int, paths: tuple[AnyPath, ...]) -> Exception:
+    """The exception of a status that is not OK, of a call on these paths in a tree."""
     if status >= FAILED:
         number = status - FAILED
-        return OSError(number, os.strerror(number), *paths[:1], *((None, paths[1]) if paths[1:] else ()))
+        return OSError(number, _words_of(tree.limits, number), *paths[:1], *((None, paths[1]) if paths[1:] else ()))
     if status == Status.BAD_PATH and paths:
-        return path_error(limits, *paths)
+        return path_error(tree.limits, *paths)
     if status == Status.FULL:
-        return OSError(errno.ENOSPC, "No node left", *paths[:1])
-    if status in (Status.NO_MEMORY, Status.UNTOLD):
-        return MemoryError(library.words(status))
-    if status in (Status.BAD_LIMIT, Status.BAD_LENGTH):
-        return ValueError(library.words(status))
-    kind = {Status.CLOSED: ClosedError, Status.UNDER_WAY: UnderWayError}.get(Status(status), Error)
-    return kind(status, library.words(status), about)
+        return OSError(errno.ENOSPC, f"All {tree.limit:,} nodes of the tree are in use", *paths[:1])
+    return error_of(tree._library, status)
+
+
+def _words_of(limits: Limits, number: int) -> str:
+    """What an error of a call says: of a limit, which one."""
+    if number == errno.ENOSPC:
+        return f"The directory has {ENTRY_LIMIT} entries, and no more may be made in it"
+    if number == errno.EFBIG:
+        return f"The file would have more than {limits.file_bytes:,} bytes"
+    return os.strerror(number)

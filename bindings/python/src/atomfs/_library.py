@@ -10,6 +10,9 @@ from typing import Any, Callable, Dict, List
 
 NODE_LIMIT = 1_048_576
 PATH_LIMIT = 64
+ENTRY_LIMIT = 256
+# The most bytes of a script or a journal as a text.
+TEXT_LIMIT = 16_777_216
 # From this status on a call has failed, and the rest is the number of its error.
 FAILED = 128
 
@@ -62,6 +65,11 @@ class Status(enum.IntEnum):
     TOO_LARGE = 25
     BAD_REPLY = 26
     BAD_START = 27
+
+    @property
+    def kind(self) -> str:
+        """The word that the program `atomfs` has for it: `BadLine` for `BAD_LINE`."""
+        return "".join(part.title() for part in self.name.split("_"))
 
 
 class Did(enum.IntEnum):

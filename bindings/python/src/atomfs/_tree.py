@@ -3,16 +3,18 @@ from __future__ import annotations
 
 import contextlib
 import ctypes
+import operator
 import os
 import threading
 import time
 from typing import Any, List, NamedTuple, Optional, Tuple, TypeVar, Union, overload
 
-from ._errors import AnyPath, WaitsError, encoded, error_at, error_of
-from ._library import NODE_LIMIT, Call, CStat, Did, Handle, Library, Limits, Request, Status, library
+from ._errors import AnyPath, Error, WaitsError, encoded, error_at, error_of
+from ._library import NODE_LIMIT, TEXT_LIMIT, Call, CStat, Did, Handle, Library, Limits, Request, Status, library
 
 _Self = TypeVar("_Self", bound="Tree")
 StrPath = Union[str, "os.PathLike[str]"]
+Data = Union[bytes, bytearray, memoryview]
 Reply = Union[None, "Stat", List[str], bytes, int]
 
 # Room for the names of a full directory, and for the bytes of most files: where a file has more, the room becomes longer.
@@ -85,14 +87,16 @@ class Tree:
         self._stat, self._number, self._wrote = CStat(), ctypes.c_uint64(), ctypes.c_uint64()
         self._at, self._at_stat = ctypes.addressof(self._handle), ctypes.addressof(self._stat)
         self._at_number, self._at_wrote = ctypes.addressof(self._number), ctypes.addressof(self._wrote)
-        self._room = _Room(room)
+        self._room = _Room(_number(room, "room"))
         #: The bounds of names and files.
         self.limits = Limits(limits)
+        #: The most nodes, the root included.
+        self.limit = _number(limit, "limit")
         # How many checkpoints there were: call numbers begin at 1 again behind each.
         self._checkpoints = 0
-        if not 0 < limit <= NODE_LIMIT:
+        if not 0 < self.limit <= NODE_LIMIT:
             raise ValueError(f"the limit of nodes is 1 to {NODE_LIMIT:,}")
-        if status := self._library.open_with(self._at, limit, self.limits.value):
+        if status := self._library.open_with(self._at, self.limit, self.limits.value):
             raise error_of(self._library, status)
         # The seat of the tree's own calls.
         self._own = self.seat().number
@@ -207,7 +211,7 @@ class Tree:
             raise self._error(status, Call.READ, path)
         return room.told()
 
-    def write(self, path: AnyPath, offset: int, data: Any) -> int:
+    def write(self, path: AnyPath, offset: int, data: Data) -> int:
         """Writes bytes into a file at an offset: all of them or none. A gap before them reads as zeros."""
         raw, offset, data = encoded(path), _number(offset, "offset"), _bytes_of(data)
         with self.lock:
@@ -248,7 +252,7 @@ class Tree:
     def _error(self, status: int, call: Call, *paths: AnyPath) -> Exception:
         """The exception of a call that did not come to its reply. One that waits keeps its seat, and the tree takes another."""
         if status != Status.WAITS:
-            return error_at(self._library, status, self.limits, paths)
+            return error_at(self, status, paths)
         seat = Seat(self, self._own)
         seat._began(call, self._number.value, paths)
         # Without memory for another, the seat is the tree's own again when the call has returned.
@@ -267,7 +271,7 @@ class Tree:
                 room.make(room.count.value)
                 continue
             if status:
-                raise error_at(self._library, status, self.limits, paths)
+                raise error_at(self, status, paths)
             if not room.count.value:
                 return names
             names += _names(room.told())
@@ -281,8 +285,14 @@ class Tree:
             return opening + _text(self._library, self._room, self._library.journal, self._at, 0, more=(self._room.at_entries,))
 
     def check(self) -> str:
-        """The verdict on the journal: `lawful`, or the first entry at fault."""
-        return check(self.journal())
+        """The verdict on the journal: `lawful`, or the first entry at fault.
+
+        A journal of more than 16,777,216 bytes as a text is too large: checkpoint, and check the pieces.
+        """
+        journal = self.journal()
+        if len(journal) > TEXT_LIMIT:
+            raise Error(Status.TOO_LARGE, f"the journal has more than {TEXT_LIMIT:,} bytes: checkpoint, and check the pieces")
+        return check(journal)
 
     def checkpoint(self) -> str:
         """Hands the journal out, and lets it begin again at the tree as it stands, which frees its memory.
@@ -316,14 +326,22 @@ class Tree:
 
 def _number(value: int, what: str) -> int:
     """An offset, a count or a size as the library takes it: what is greater than any is as great as the greatest."""
-    if value < 0:
+    try:
+        number = operator.index(value)
+    except TypeError:
+        raise TypeError(f"{what} is a whole number, and this is {type(value).__name__}") from None
+    if number < 0:
         raise ValueError(f"a negative {what}")
-    return min(value, 2**64 - 1)
+    return min(number, 2**64 - 1)
 
 
 def _bytes_of(data: Any) -> bytes:
-    """The bytes of anything that has some."""
-    return data if isinstance(data, bytes) else memoryview(data).tobytes()
+    """The bytes of what is to be written."""
+    if isinstance(data, bytes):
+        return data
+    if isinstance(data, str):
+        raise TypeError("write takes bytes, and this is str: encode it")
+    return memoryview(data).tobytes()
 
 
 class Seat:
@@ -352,7 +370,7 @@ class Seat:
         with tree.lock:
             at = ctypes.addressof(request), ctypes.addressof(number)
             if status := tree._library.begin_call(tree._at, self.number, *at):
-                raise error_at(tree._library, status, tree.limits, paths)
+                raise error_at(tree, status, paths)
             self._began(call, number.value, paths)
         return number.value
 
@@ -406,7 +424,7 @@ class Seat:
         tree = self.tree
         status = function(tree._at, self._call_number, *rest)
         if status and status != Status.TOO_SMALL:
-            raise error_at(tree._library, status, tree.limits, self._paths)
+            raise error_at(tree, status, self._paths)
 
     def _told_bytes(self) -> bytes:
         tree, room = self.tree, self.tree._room
@@ -459,7 +477,7 @@ class Begin:
         """Reads at most `count` bytes from an offset on."""
         return self._seat._begin(Call.READ, path, offset=_number(offset, "offset"), size=_number(count, "count"))
 
-    def write(self, path: AnyPath, offset: int, data: Any) -> int:
+    def write(self, path: AnyPath, offset: int, data: Data) -> int:
         """Writes bytes into a file at an offset."""
         return self._seat._begin(Call.WRITE, path, offset=_number(offset, "offset"), data=_bytes_of(data))
 

@@ -21,6 +21,7 @@ from fs.enums import ResourceType
 from fs.info import Info
 from fs.mode import Mode
 from fs.opener import Opener
+from fs.opener.errors import OpenerError
 from fs.path import basename
 
 from . import NODE_LIMIT, PATH_LIMIT, Limits, Stat, Tree
@@ -55,6 +56,8 @@ def _of(path: str, kinds: _Kinds, action: str) -> Iterator[None]:
         kind = kinds.get(error.errno or 0)
         if kind is None:
             raise errors.OperationFailed(path=path, exc=error, msg=f"{action}: {error.strerror}") from error
+        if kind is errors.InsufficientStorage:
+            raise errors.InsufficientStorage(path=path, exc=error, msg=f"path '{{path}}': {error.strerror}") from error
         raise kind(path=path, exc=error) from error  # type: ignore[call-arg]
 
 
@@ -186,9 +189,12 @@ class AtomFS(FS):
 
 
 class AtomOpener(Opener):
-    """Opens `atomfs://`: a new tree."""
+    """Opens `atomfs://`: a new tree. A URL that asks for more than that is refused."""
 
     protocols = ["atomfs"]
 
     def open_fs(self, fs_url: Text, parse_result: Any, writeable: bool, create: bool, cwd: Text) -> AtomFS:
+        asked = parse_result.params or parse_result.username or parse_result.password or parse_result.path
+        if asked or parse_result.resource.strip("/"):
+            raise OpenerError("atomfs:// opens a new tree, and takes no path, parameters, user and password: AtomFS() takes a limit")
         return AtomFS()
