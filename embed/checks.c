@@ -280,8 +280,8 @@ static const char *failed_text(uint8_t status) {
     case 20: return "not a directory (ENOTDIR)";
     case 21: return "a directory, where a file is needed (EISDIR)";
     case 22: return "a directory cannot be moved below itself (EINVAL)";
-    case 27: return "the file would have too many bytes (EFBIG)";
-    case 28: return "the directory has too many entries (ENOSPC)";
+    case 27: return "the file would have more than 65,536 bytes, or than 1,048,576 by the second limits (EFBIG)";
+    case 28: return "the directory has 256 entries, and no more may be made in it (ENOSPC)";
     case 39: return "the directory is not empty (ENOTEMPTY)";
     default: return "no status of this library";
     }

@@ -302,6 +302,15 @@ class Numbers(Case):
         of_rust = {name: int(value) for name, value in re.findall(r"^pub const (\w+): u8 = (\d+);", ffi, re.M)}
         self.same("ffi.rs", of_rust, {name: header.get(name) for name in of_rust})
 
+    def test_kinds(self):
+        """The crate has the program's word for each fault of a text, in the order of the statuses."""
+        statuses = [name for name, value in re.findall(r"^    ATOMFS_(\w+) = (\d+)", HEADER, re.M) if not name.startswith(("DID", "CALL")) and 16 <= int(value) < 28]
+        words = ["".join(part.title() for part in name.split("_")) for name in statuses]
+        kinds = re.search(r"let kinds = \[(.*?)\];", self.source("rust", "src", "error.rs"), re.S)[1]
+        self.same("the kinds of error.rs", re.findall(r'"(\w+)"', kinds), words)
+        declared = re.findall(r'#\[error\("([A-Z]\w+)', (CRATES / "fs_words" / "src" / "fault.rt").read_text())
+        self.same("the kinds of the program that are no fault of a text", sorted(set(declared) - set(words)), ["OutOfMemory"])
+
     def test_functions(self):
         """Python and Rust declare no function that the header has not, each with as many arguments."""
         counts = {
@@ -337,6 +346,9 @@ class Numbers(Case):
         for name in ("NODE_LIMIT", "PATH_LIMIT", "ENTRY_LIMIT", "TEXT_LIMIT"):
             found = re.search(rf"^{name} = ([\d_]+)", library, re.M)[1]
             self.same(f"{name} of _library.py", int(found), int(limits[name]))
+        for name in ("ENTRY_LIMIT", "TEXT_LIMIT"):
+            found = re.search(rf"const {name}: usize = ([\d_]+)", self.source("rust", "src", "limits.rs"))[1]
+            self.same(f"{name} of limits.rs", int(found), int(limits[name]))
         found = re.search(r"NODE_LIMIT: usize = ([\d_]+)", self.source("rust", "src", "lib.rs"))[1]
         self.same("NODE_LIMIT of lib.rs", int(found), int(limits["NODE_LIMIT"]))
 

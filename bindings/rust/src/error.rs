@@ -5,6 +5,7 @@ use std::io;
 
 use crate::call::Seat;
 use crate::ffi;
+use crate::limits::{Limits, ENTRY_LIMIT, TEXT_LIMIT};
 
 /// The error of a call, with Linux's number.
 #[derive(Clone, Copy, Debug, PartialEq, Eq, Hash)]
@@ -81,6 +82,9 @@ pub enum Error {
     NoReply,
     /// A script or a journal is none: the status and the line.
     BadText(u8, usize),
+    /// The tree's journal has more bytes than a text may have: `Tree::checkpoint` hands it out in pieces, each of which can be
+    /// checked.
+    JournalTooLarge,
     /// Another status of the library.
     Other(u8),
 }
@@ -130,6 +134,7 @@ impl Error {
             Error::NoReply => ffi::NO_REPLY,
             Error::UnderWay(_) => ffi::UNDER_WAY,
             Error::BadPath => ffi::BAD_PATH,
+            Error::JournalTooLarge => ffi::TOO_LARGE,
             Error::BadText(status, _) | Error::Other(status) => status,
         }
     }
@@ -138,15 +143,57 @@ impl Error {
 impl fmt::Display for Error {
     fn fmt(&self, f: &mut fmt::Formatter<'_>) -> fmt::Result {
         if let Error::Failed(errno) = self {
-            return write!(f, "{}", io::Error::from_raw_os_error(errno.number()));
+            write!(f, "{}", io::Error::from_raw_os_error(errno.number()))?;
+            return limit_of(*errno).map_or(Ok(()), |limit| write!(f, ": {limit}"));
         }
         let words = ffi::words(unsafe { ffi::atomfs_status_text(self.status()) });
         match self {
-            Error::BadText(_, line) => write!(f, "line {line}: {words}"),
+            Error::BadText(status, line) => match kind_of(*status) {
+                Some(kind) => write!(f, "line {line}: {kind}: {words}"),
+                None => write!(f, "line {line}: {words}"),
+            },
+            Error::JournalTooLarge => write!(
+                f,
+                "the journal has more than {TEXT_LIMIT} bytes: checkpoint, and check the pieces"
+            ),
             Error::Untold(number) | Error::UnderWay(number) => write!(f, "call {number}: {words}"),
             _ => f.write_str(words),
         }
     }
+}
+
+/// The limit that an error of a call is about.
+fn limit_of(errno: Errno) -> Option<String> {
+    match errno {
+        Errno::ENOSPC => Some(format!("the directory has {ENTRY_LIMIT} entries")),
+        Errno::EFBIG => Some(format!(
+            "the file would have more than {} bytes by the first limits, or {} by the second ones",
+            Limits::V1.file_bytes(),
+            Limits::V2.file_bytes()
+        )),
+        _ => None,
+    }
+}
+
+/// The word that the program `atomfs` has for the fault of a text.
+fn kind_of(status: u8) -> Option<&'static str> {
+    let kinds = [
+        "BadHeader",
+        "BadLine",
+        "BadThread",
+        "ThreadTwice",
+        "BadPath",
+        "BadNumber",
+        "BadHex",
+        "NoSchedule",
+        "BadWord",
+        "TooLarge",
+        "BadReply",
+        "BadStart",
+    ];
+    kinds
+        .get(usize::from(status.checked_sub(ffi::BAD_HEADER)?))
+        .copied()
 }
 
 impl std::error::Error for Error {}
@@ -156,7 +203,7 @@ impl From<Error> for io::Error {
         match error {
             Error::Failed(errno) => io::Error::from_raw_os_error(errno.number()),
             Error::Full => io::Error::from_raw_os_error(Errno::ENOSPC.number()),
-            Error::BadPath | Error::BadLimit | Error::BadText(..) => {
+            Error::BadPath | Error::BadLimit | Error::BadText(..) | Error::JournalTooLarge => {
                 io::Error::new(io::ErrorKind::InvalidInput, error)
             }
             Error::OutOfMemory | Error::Untold(_) => {

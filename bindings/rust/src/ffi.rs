@@ -40,7 +40,9 @@ pub const SEAT_BUSY: u8 = 9;
 pub const FULL: u8 = 10;
 pub const NO_REPLY: u8 = 11;
 pub const UNDER_WAY: u8 = 12;
+pub const BAD_HEADER: u8 = 16;
 pub const BAD_PATH: u8 = 20;
+pub const TOO_LARGE: u8 = 25;
 /// From here on a call has failed, and the rest is the number of its error.
 pub const FAILED: u8 = 128;
 

@@ -1,4 +1,9 @@
-//! The bounds of names and files.
+//! The bounds of names, files, directories and texts.
+
+/// The most entries of a directory.
+pub(crate) const ENTRY_LIMIT: usize = 256;
+/// The most bytes of a script or a journal as a text.
+pub(crate) const TEXT_LIMIT: usize = 16_777_216;
 
 /// How long names and files of a tree may be.
 #[derive(Clone, Copy, Debug, Default, PartialEq, Eq, Hash)]

@@ -6,7 +6,7 @@ use std::ptr;
 use crate::call::{Call, Did, Kind, Reply, Seat, Stat};
 use crate::error::Error;
 use crate::ffi::{self, Handle, OnPath, OnPaths, RawStat, OK, TOO_SMALL, UNTOLD, WAITS};
-use crate::limits::Limits;
+use crate::limits::{Limits, TEXT_LIMIT};
 use crate::NODE_LIMIT;
 
 /// Room for the names of a full directory, and for the bytes of most files: where a file has more, the room becomes longer.
@@ -433,8 +433,14 @@ impl Tree {
     }
 
     /// The verdict on the journal: `lawful`, or the first entry at fault.
+    ///
+    /// `Error::JournalTooLarge` where it has more than 16,777,216 bytes as a text: checkpoint, and check the pieces.
     pub fn check(&mut self) -> Result<String, Error> {
-        check(self.journal()?)
+        let journal = self.journal()?;
+        if journal.len() > TEXT_LIMIT {
+            return Err(Error::JournalTooLarge);
+        }
+        check(journal)
     }
 
     /// Hands the journal out, and lets it begin again at the tree as it stands, which gives its memory back.

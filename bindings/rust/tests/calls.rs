@@ -2,7 +2,7 @@
 
 use std::io;
 
-use atomfs::{Call, Did, Errno, Error, Reply, Stat, Tree};
+use atomfs::{check, run, Call, Did, Errno, Error, Reply, Stat, Tree};
 
 #[test]
 fn each_call() {
@@ -100,7 +100,12 @@ fn each_error() {
             (error.raw_os_error(), error.kind()),
             (Some(errno.number()), kind)
         );
-        assert_eq!(Error::Failed(errno).to_string(), error.to_string());
+        let more = match errno {
+            Errno::ENOSPC => ": the directory has 256 entries",
+            Errno::EFBIG => ": the file would have more than 65536 bytes by the first limits, or 1048576 by the second ones",
+            _ => "",
+        };
+        assert_eq!(Error::Failed(errno).to_string(), format!("{error}{more}"));
     }
     assert_eq!(tree.check().unwrap(), "lawful");
 }
@@ -132,6 +137,62 @@ fn what_is_refused_is_not_in_the_journal() {
     assert_eq!(io::Error::from(Error::Full).raw_os_error(), Some(28));
     let shown: Box<dyn std::error::Error> = Box::new(Error::BadPath);
     assert!(!shown.to_string().is_empty());
+}
+
+/// The error of a text names its line, and its kind as the program does.
+#[test]
+fn words_of_texts() {
+    let line = "a line has no form of its place, or a request no call";
+    let rows = [
+        (
+            run("atomfs 1\nthread t\nmkdr /a\nschedule\n"),
+            format!("line 3: BadLine: {line}"),
+        ),
+        (
+            run("atomfs 1\nthread t\nmkdir a\nschedule\n"),
+            "line 3: BadPath: no path".to_string(),
+        ),
+        (
+            run("atomfs 1\nthread t\nmkdir /a\n"),
+            "line 4: NoSchedule: the script has no schedule".to_string(),
+        ),
+        (
+            run("atomfs 1\nthread t\nschedule\nu\n"),
+            "line 4: BadWord: no word of a schedule".to_string(),
+        ),
+        (
+            check("no journal"),
+            "line 1: BadHeader: the first line is another than it has to be".to_string(),
+        ),
+        (
+            check("atomfs-journal 1\nbegin 1 0 stat /\ncommit 1\nreturn 1 fine\n"),
+            "line 4: BadReply: no reply".to_string(),
+        ),
+    ];
+    for (came, words) in rows {
+        assert_eq!(came.unwrap_err().to_string(), words);
+    }
+    assert_eq!(
+        Error::BadText(27, 3).to_string(),
+        "line 3: BadStart: the start tree is none"
+    );
+}
+
+/// A journal that is too large to be checked says what to do, and its pieces are checked.
+#[test]
+fn a_large_journal() {
+    let mut tree = Tree::new().unwrap();
+    tree.mknod("/f").unwrap();
+    for _ in 0..9 {
+        tree.write("/f", 0, &[0; 1 << 20]).unwrap();
+    }
+    assert_eq!(tree.check(), Err(Error::JournalTooLarge));
+    assert_eq!(
+        Error::JournalTooLarge.to_string(),
+        "the journal has more than 16777216 bytes: checkpoint, and check the pieces"
+    );
+    tree.checkpoint().unwrap();
+    assert_eq!(tree.check().unwrap(), "lawful");
 }
 
 #[test]
