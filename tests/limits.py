@@ -17,6 +17,8 @@ from harness import MOST_SECONDS, Case, Outcome, program, spawned, takes_a_proce
 
 TEXT, THREADS, CALLS, EVENTS = 16_777_216, 256, 65_536, 1_000_000
 FILE, ENTRIES, NAME, PATH = 65_536, 256, 32, 64
+# So much stack is enough for each command, on whatever input.
+STACK = 160 * 1024
 # The largest file by the second limits.
 FILE_BY_SECOND = 1_048_576
 ROOM = 268_435_456
@@ -275,6 +277,45 @@ class Limits(Case):
             (f"20000 full files in {ROOM} bytes", script(files(20_000)), RUN, OUT_OF_MEMORY, ROOM),
             (f"20000 levels in {ROOM} bytes", script(deep(20_000)), RUN, OUT_OF_MEMORY, ROOM),
         ), self.ends)
+
+
+class Stack(Case):
+    """Each command does with little stack what it does with much: none needs more where a tree is deep, or where there are many calls or threads."""
+
+    @staticmethod
+    def confine():
+        resource.setrlimit(resource.RLIMIT_STACK, (STACK, STACK))
+
+    def ends(self, lines, *words):
+        given = "".join(f"{line}\n" for line in lines).encode()
+        # The environment stands on the stack too.
+        came = spawned(words, given, env={}, preexec_fn=self.confine)
+        self.same(f"atomfs {' '.join(words)} in {STACK} bytes of stack", came, spawned(words, given))
+        self.same("the status", came.status, 0)
+        return came
+
+    def test_scripts(self):
+        path = PATH * "/n"
+        many = [line for number in range(THREADS) for line in (f"thread t{number}", f"mkdir /{number}", "rename /0 /256", f"stat {path}")]
+        kinds = (
+            ("a short script", list(script(["mkdir /a", "readdir /"]))),
+            ("a path of 64 names", list(script([*(f"mkdir {path[: 2 * depth]}" for depth in range(1, PATH + 1)), f"rename {path[:4]} /m"]))),
+            ("a deep tree", list(script(deep(300)))),
+            ("a full file", list(script(["mknod /f", f"truncate /f {FILE}", f"read /f 0 {FILE}"]))),
+            ("many threads", ["atomfs 1", *many, "schedule", "finish"]),
+        )
+        commands = RUN, ("run", "--robin"), ("run", "--seed", "7"), SEEDS, ("threads",), ("trace",), ("draw",), ("schedule", "--robin")
+        self.each(((f"{' '.join(words)}, {name}", lines, *words) for name, lines in kinds for words in commands), self.ends)
+
+    def test_journals(self):
+        for name, calls in (("a deep tree", deep(300)), ("many names", entries(ENTRIES))):
+            text = self.ends(script(calls) if name == "a deep tree" else calls, *RUN).output.decode()
+            for words in (CHECK, ("draw",)):
+                with self.subTest(f"{words[0]}, {name}"):
+                    self.ends(text.splitlines(), *words)
+
+    def test_help(self):
+        self.each(((" ".join(words), [], *words) for words in (("--help",), ("help", "run"), ("explain", "SeatBusy"), ("--version",))), self.ends)
 
 
 if __name__ == "__main__":
