@@ -252,13 +252,15 @@ class Tour(Case):
             self.same(f"{step}: {command}", came.output, self.stored(command).read_bytes())
 
     def look_at_picture(self, step, command, picture):
-        """It has each call of the journal, with its reply; and the reply that was due in place of a wrong one."""
+        """It has each call of the journal, with its reply; the reply that was due in place of a wrong one; and the waits that the file speaks of."""
         text = self.given(command).decode()
         text = text if step.endswith(".journal") else run(text.encode(), "run").output.decode()
         calls = dict(re.findall(r"^begin (\d+) \d+ (.*)$", text, re.M))
         replies = dict(re.findall(r"^return (\d+) (.*)$", text, re.M))
         told = re.findall(r"<title>(#.*)$", picture, re.M)
         self.same(f"the calls in the picture of {step}", sorted(told), [f"#{call} {calls[call]} &#8594; {replies[call]}" for call in calls])
+        waits = re.findall(r'<text class="v".*?>(.*?)</text>', picture)
+        self.same(f"the waits in the picture of {step}", [wait for wait in re.findall(r"`(/ #\d+)`", (TOUR / step).read_text()) if wait not in waits], [])
         due = re.findall(r"^due: (.*?)</title>", picture, re.M)
         self.same(f"what is due in the picture of {step}", due, ["failed EEXIST"] if step.endswith(".journal") and harness.compares else [])
 
