@@ -24,13 +24,17 @@ README, EXAMPLES, DOCS = ROOT / "README.md", ROOT / "examples" / "README.md", RO
 FORMATS, SPECIFICATION, BELIEVE, CHANGING, CHOOSING, EMBEDDING, SPEED, THREADS = (
     DOCS / f"{name}.md" for name in ("FORMATS", "SPECIFICATION", "BELIEVE", "CHANGING", "CHOOSING", "EMBEDDING", "SPEED", "THREADS")
 )
-PAGES = README, EXAMPLES, ROOT / "examples" / "tour" / "README.md", *sorted(DOCS.glob("*.md"))
 CRATES = ROOT / "crates"
+OF_CRATES = sorted(CRATES.glob("*/README.md"))
+FOLDERS = "docs/*.md", "examples/**/*.md", "bindings/*/README.md", "embed/*.md"
+# Those that speak of what is there now; the changelog also of what was.
+NOW = README, *(page for pattern in FOLDERS for page in sorted(ROOT.glob(pattern))), *OF_CRATES
+PAGES = ROOT / "CHANGELOG.md", *NOW
 HELPED = DATA / "worked" / "runs" / "helped_mkdir"
 # What `atomfs schedule --robin` writes of it.
 BY_ROBIN = b"atomfs 1\nthread m\nmkdir /a\nmkdir /a/d\nmkdir /a/d/x\nthread r\nrename /a /b\nschedule\nm r m r m r m r m r m r m r m*8\n"
-# README is read in five minutes.
-MOST_WORDS = 900
+# README is read in five minutes, the page of a crate in one, and all pages in two hours.
+MOST_WORDS, MOST_OF_A_CRATE, MOST_OF_ALL = 900, 140, 25_000
 
 
 def by_path(pages):
@@ -173,7 +177,7 @@ class Pages(Page):
         self.same(page.name, lost, [])
 
     def test_paths(self):
-        self.each(by_path(PAGES), self.look_at_paths)
+        self.each(by_path(NOW), self.look_at_paths)
 
     def look_at_paths(self, page):
         words = [word.removeprefix("../").rstrip("/") for span in spans(prose(page)) for word in span.split(" ")]
@@ -183,6 +187,88 @@ class Pages(Page):
     def test_length_of_readme(self):
         words = len(README.read_text().split())
         self.same("README.md, in words", words if words > MOST_WORDS else MOST_WORDS, MOST_WORDS)
+
+    def test_length_of_all(self):
+        words = sum(len(page.read_text().split()) for page in PAGES)
+        self.same("all pages, in words", max(words, MOST_OF_ALL), MOST_OF_ALL)
+
+    def test_of_crates(self):
+        """A crate's page is short, says what for and where to enter, and its paths are those of the crate, or begin with the name of another."""
+        self.each(((page.parent.name, page) for page in OF_CRATES), self.look_at_crate)
+
+    def look_at_crate(self, page):
+        text = page.read_text()
+        words = len(text.split())
+        self.same(f"{page.parent.name}, in words", max(words, MOST_OF_A_CRATE), MOST_OF_A_CRATE)
+        self.same("its head and its leads", re.findall(r"^# .*|\*\*(?:For|Enter)\*\*", text, re.M), [f"# {page.parent.name}", "**For**", "**Enter**"])
+        paths = [span for span in spans(text) if re.match(r"(src|specs|proofs)/", span)]
+        self.same("its paths that are not there", [path for path in paths if not (page.parent / path).exists()], [])
+
+
+class Named(Page):
+    """Each name in backquotes is one of the sources."""
+
+    # Files of which the names alone are looked at: pages, pictures, and this one, which has the names of others.
+    NO_SOURCE = ".md", ".svg", "documents.py"
+    # What pages name of others: commands and their words, the standard libraries, other packages and their tests; and what stands for a word.
+    OF_OTHERS = re.compile(
+        r"[0-9a-f]{7}|MODULE|FUNCTION|PREFIX|CALLNO|plant|ulimit|linux_x86_64|manylinux\w*|CMAKE_PREFIX_PATH|LD_LIBRARY_PATH|NotImplementedError|(up|down)load|test_(up|down)load_\d|settimes|created|modified"
+    )
+    # Names of the standard libraries, by their paths.
+    OF_LIBRARIES = re.compile(r"(std|thread)::.*")
+
+    @classmethod
+    @functools.cache
+    def sources(cls):
+        """The text of each source by its path."""
+        texts = {}
+        for folder, folders, files in os.walk(ROOT):
+            folders[:] = [name for name in folders if not name.startswith(".") and name not in ("out", "dist", "__pycache__", "target", "build")]
+            for name in files:
+                path = pathlib.Path(folder, name)
+                texts[path.relative_to(ROOT)] = "" if name.endswith(cls.NO_SOURCE) else path.read_text(errors="replace")
+        return texts
+
+    @classmethod
+    @functools.cache
+    def words(cls):
+        """The words of all sources, and of their paths."""
+        return {word for path, text in cls.sources().items() for word in re.findall(r"\w+", f"{path}\n{text}")}
+
+    @classmethod
+    @functools.cache
+    def paths(cls):
+        """The last two parts of the path of each function, type, constant and variant of the crates."""
+        found = set()
+        for path, text in cls.sources().items():
+            if path.suffix in (".rt", ".rs"):
+                owners = path.stem, path.parts[1]
+                names = re.findall(r"\bpub (?:const|struct|enum|trait|type) (\w+)", text)
+                functions = [function.name for function in promises.functions_of(text, "")]
+                found |= {f"{owner}::{name}" for owner in owners for name in (*names, *functions, path.stem)} | set(functions)
+                for name, body in re.findall(r"enum (\w+)[^{]*\{(.*?)^\}", text, re.M | re.S):
+                    found |= {f"{name}::{variant}" for variant in re.findall(r"^    (\w+)", body, re.M)}
+        return found
+
+    def test_each(self):
+        self.each(by_path(NOW), self.look)
+
+    def look(self, page):
+        shown = spans(prose(page))
+        words = {word for span in shown for word in re.findall(r"\w+", span) if not self.OF_LIBRARIES.match(span)}
+        lost = [word for word in sorted(words - self.words()) if not word.isdigit() and not self.OF_OTHERS.fullmatch(word)]
+        self.same("words that no source has", [word for word in lost if not self.is_part(word)], [])
+        self.same("paths of no function or type", [span for span in shown if not self.is_there(span)], [])
+
+    def is_part(self, word):
+        """Whether it begins or ends with an underline, as words do that are named by one part."""
+        return word.endswith("_") and any(one.startswith(word) for one in self.words()) or word.startswith("_") and any(one.endswith(word) for one in self.words())
+
+    def is_there(self, span):
+        """Whether a path of names ends at a function, a type or a variant, or stands so in a source."""
+        if not re.fullmatch(r"\w+(::\w+)+", span) or self.OF_LIBRARIES.match(span):
+            return True
+        return "::".join(span.split("::")[-2:]) in self.paths() or any(span in text for text in self.sources().values())
 
 
 class Shown(Page):
@@ -469,6 +555,78 @@ class Commands(Page):
         version = subprocess.run(["rt", "version"], capture_output=True, text=True, timeout=harness.MOST_SECONDS).stdout
         logic = re.compile(r"logic [0-9a-f]{16}")
         self.agrees("the kit's logic", [span for span in spans(README.read_text()) if logic.fullmatch(span)], logic.findall(version)[:1])
+
+
+class EachCommand(Page):
+    """Each command of a page can be typed: it is run here or by another test, or it is named below as one that wants what the tests have not."""
+
+    # The first words of commands, in backquotes or at the start of a line of a block without a language, or of one of a shell.
+    BEGINS = r"(?:ROW=.* )?(?:atomfs|examples/run|tests/\w+|bench/\w+|embed/\w+|\.ci/run|python3|rt|cc|pip|tar|cargo|cmake|cd|git)"
+    COMMAND = re.compile(BEGINS + r"(?: [^|].*)?")
+    # What is named and no command.
+    NO_COMMAND = re.compile(r"atomfs [123]|atomfs = .*|tests/(data|model|worked)|(bench|tests)/\w+\.\w+")
+    # Of the kit, of compilers, of installers: `tests/embedded.py` and `tests/packages.py` build and install as these lines do.
+    OF_OTHERS = re.compile(
+        r"rt|cc|python3|pip|cmake|cargo|rt (check|ci|run|plant|tidy|fmt|verdict|must-fail|doc|version).*|cc -I dist/include .*|cc main\.c \$\(.*|pip install --no-index .*|tar xf atomfs-.*|git show .*|cd \S+"
+    )
+    # The words that stand for others.
+    PUT = {"CRATE": "fs_graph", "NAME": "fs_graph", "CALL": "1", **dict.fromkeys(("SCRIPT", "A", "B", "C"), "examples/one_name.script")}
+    # What stands for an input.
+    INPUTS = None, "FILE", "SCRIPT", "INPUT", "A", "kept.script"
+    # What the program says of the first words of a command.
+    IN_PART = re.compile(rb"error: (the following required arguments were not provided:|a value is required for .* but none was supplied)\n")
+    # What takes longer than a test may, or is the gate: that it is there and can be run is looked at.
+    LONG = re.compile(r"(\.ci/run|tests/run|bench/\w+|embed/\w+)(?: .*)?")
+
+    @classmethod
+    def shown(cls, page):
+        text = page.read_text()
+        lines = [line.removeprefix("$ ") for block in re.findall(r"^```(?:sh|text)?\n(.*?)^```$", text, re.M | re.S) for line in block.splitlines()]
+        found = [line for line in (*spans(prose(page)), *lines) if cls.COMMAND.fullmatch(line) and not cls.NO_COMMAND.fullmatch(line)]
+        return list(dict.fromkeys(re.sub(r"^cd \S+ && ", "", line) for line in found))
+
+    def rows(self):
+        commands = {}
+        for page in PAGES:
+            for command in self.shown(page):
+                commands.setdefault(command, page)
+        return [(f"{page.relative_to(ROOT)}: {command}", command) for command, page in commands.items()]
+
+    def test_each(self):
+        self.each(self.rows(), self.look)
+
+    def look(self, command):
+        kinds = (
+            (r"(?:atomfs|examples/run(?: --proved)?)((?: -?-?[a-zA-Z0-9.][^<>]*)?)(?: < (\S+))?(?: > \S+)?", self.look_at_program),
+            (r"(tests/promises(?: .*)?)", self.look_at_promises),
+            (r"(ROW=.* )?python3 (tests/\w+\.py) ?(.*)", self.look_at_module),
+        )
+        for pattern, look in kinds:
+            if named := re.fullmatch(pattern, command):
+                return look(*named.groups())
+        if named := self.LONG.fullmatch(command):
+            return self.same("whether it is there", os.access(ROOT / named[1], os.X_OK), True)
+        self.same("whether it is one of others", self.OF_OTHERS.fullmatch(command) is not None, True)
+
+    def look_at_program(self, words, given):
+        """The program takes these words, or words that begin so; what it prints is looked at where a page says so."""
+        words = [self.PUT.get(word, word) for word in filled(words.strip()).split(" ") if word]
+        script, journal = (HELPED.with_suffix(ending) for ending in (".script", ".text"))
+        if not words or (ROOT / words[0]).exists():
+            return self.same("the scripts that are not there", [word for word in words if not (ROOT / word).exists()], [])
+        given = ROOT / given if given not in self.INPUTS else journal if words[0] == "check" else script
+        outcome = run(given.read_bytes(), *words)
+        message = b"" if self.IN_PART.match(outcome.message) else outcome.message
+        self.same("what it tells", message, b"")
+
+    def look_at_promises(self, command):
+        words = [self.PUT.get(word, word) for word in re.sub(r"\[|\]| \.\.", "", command).split(" ")]
+        done = subprocess.run(words, cwd=ROOT, capture_output=True, timeout=harness.MOST_SECONDS)
+        self.same(command, (done.returncode, done.stderr), (0, b""))
+
+    def look_at_module(self, row, module, words):
+        """`Commands` runs it."""
+        self.same("whether there is such a module", (ROOT / module).is_file(), True)
 
 
 class Definitions:
