@@ -298,6 +298,36 @@ class Shown(Page):
         named = set(re.findall(r"atomfs-[\d.]*\d-[\w-]+", README.read_text()))
         self.agrees("the archive", sorted(named), [f"atomfs-{version}-x86_64-linux"])
 
+    # The blocks of each page in a language, how many there are, and the file that has them run or compared; a drawing has none.
+    BLOCKS = (
+        ("README.md", "", 3, "tests/documents.py"),
+        ("README.md", "python", 1, "examples/embed/run"),
+        ("README.md", "c", 1, "examples/embed/run"),
+        ("docs/EMBEDDING.md", "c", 1, "examples/embed/run"),
+        ("bindings/python/README.md", "python", 1, "examples/embed/run"),
+        ("bindings/rust/README.md", "rust", 1, "examples/embed/run"),
+        ("docs/THREADS.md", "rust", 2, "tests/documents.py"),
+        ("docs/BELIEVE.md", "", 1, "tests/documents.py"),
+        ("docs/FORMATS.md", "", 3, "tests/documents.py"),
+        ("docs/ARCHITECTURE.md", "", 1, "tests/documents.py"),
+        ("docs/MACHINE.md", "", 2, None),
+        ("examples/tour/README.md", "", 2, "tests/worked.py"),
+    )
+
+    def test_each_block(self):
+        """Each is one that some test runs or compares, or a drawing."""
+        found = collections.Counter((str(page.relative_to(ROOT)), language) for page in PAGES for language in re.findall(r"^```(\w*)\n.*?^```$", page.read_text(), re.M | re.S))
+        self.agrees("the blocks of pages", sorted((*where, number) for where, number in found.items()), sorted((page, language, number) for page, language, number, _ in self.BLOCKS))
+        runs = re.findall(r"^example (\S+) (\w+) ", (ROOT / "examples" / "embed" / "run").read_text(), re.M)
+        self.agrees("those that are run", sorted(runs), sorted((page, language) for page, language, _, by in self.BLOCKS if by == "examples/embed/run"))
+
+    def test_headline(self):
+        """The clauses that docs/BELIEVE.md shows are those of `Core::run`."""
+        (clauses,) = blocks(BELIEVE)
+        (run_of,) = (function for function in promises.public(CRATES / "fs_core") if function.name == "Core::run")
+        due = [f"ensures {clause.name} {{ {clause.text} }}" for clause in run_of.ensures if clause.name in ("lawful", "spelled")]
+        self.agrees("BELIEVE", clauses.splitlines(), due)
+
     def test_excerpts(self):
         """Each block in Rust stands in the source to which the page leads before it."""
         found = re.findall(r"\]\((\S+\.rt)\)((?:(?!^```).)*?)^```rust\n(.*?)^```$", THREADS.read_text(), re.M | re.S)
