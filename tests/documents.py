@@ -360,7 +360,7 @@ class Faults(Page):
     }
     # The program writes another message in its place.
     OF_NO_TEXT = "OutOfMemory"
-    ROW = re.compile(r"In a (\w+), for {1,6}(.*)\nwrite {15}(.*)\nbecause {13}.+\n")
+    ROW = re.compile(r"^In a (\w+), for {1,6}(.*)\nwrite {15}(.*)\nbecause {13}.+\n", re.M)
 
     @staticmethod
     def named():
@@ -372,9 +372,7 @@ class Faults(Page):
         """Of each row the command that reads its text."""
         _, paths = self.named()
         for word, numbers in self.LINES.items():
-            _, *rows = (EXPLAINED / word).read_text().split("\n\n")
-            for number, row in zip(numbers, rows, strict=True):
-                kind, refused, instead = self.ROW.fullmatch(f"{row.rstrip()}\n").groups()
+            for number, (kind, refused, instead) in zip(numbers, self.ROW.findall((EXPLAINED / word).read_text()), strict=True):
                 command, lines = self.TEXTS["start" if word == "BadStart" else kind]
                 fault = f"BadPath {word}" if word in paths else word
                 refused = [] if refused.startswith("nothing") else [refused]
@@ -408,8 +406,8 @@ class Faults(Page):
         checks = [spans(fault)[0] for _, fault in table(SPECIFICATION, "Check", "Fault")]
         self.agrees("the checks of paths", sorted(checks), sorted(paths))
         self.same("the faults with a row", sorted(self.LINES), sorted({*kinds, *paths} - {"BadPath", self.OF_NO_TEXT}))
-        others = {path.name: path.read_text().count("\n\n") for path in EXPLAINED.iterdir() if path.name not in self.LINES}
-        self.same("the texts without a row that have one", [name for name, rows in others.items() if rows], [])
+        begun = {path.name: path.read_text().count("In a ") for path in EXPLAINED.iterdir()}
+        self.same("how many rows each text has", {name: rows for name, rows in begun.items() if rows}, {word: len(lines) for word, lines in self.LINES.items()})
 
 
 def explanations():
