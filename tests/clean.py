@@ -1,5 +1,5 @@
-"""A clone in which nothing is built: the tests that need no proof pass there, and the commands of examples/README.md and of docs/FORMATS.md run as they
-stand. Only what compiles the unproved program is another there: standin.py.
+"""A clone in which nothing is built: the tests that need no proof pass there, and the commands of examples/README.md run as they stand. Only what
+compiles the unproved program is another there: standin.py.
 """
 import contextlib
 import os
@@ -13,7 +13,7 @@ import unittest
 import costs
 import harness
 import model
-from documents import EXAMPLES, FORMATS, prose, spans, table
+from documents import EXAMPLES, prose, spans, table
 from harness import ROOT, Case
 
 # What is built, and what a clone of files alone does not have.
@@ -81,15 +81,14 @@ class Clean(Case):
         self.each(((command, command) for command in commands), self.succeeds)
 
     def test_from_a_seed_to_a_picture(self):
-        """docs/FORMATS.md, one command after the other: the later ones read what the earlier ones wrote."""
-        section = FORMATS.read_text().split("## From a failing seed to a picture\n")[1]
-        seeds, lines, schedule, words, commits = re.findall(r"^```\n(.*?)^```$", section, re.M | re.S)
-        trace, draw = (span for span in spans(section) if span.startswith("examples/run "))
-        self.same(seeds, self.succeeds(seeds), lines)
-        self.same(schedule, self.succeeds(schedule), "")
-        self.same("kept.script", (self.clone / "kept.script").read_text().split("\nschedule\n")[1], words)
-        self.assertLessEqual(set(commits.splitlines()), set(self.succeeds(trace).splitlines()))
-        self.same(draw, self.succeeds(draw), "")
+        """From drawn runs to a kept one, one command after the other: the later ones read what the earlier ones wrote."""
+        script = "< examples/moved_ancestor.script"
+        self.same("seeds", self.succeeds(f"examples/run seeds --seed 1 --runs 3 {script}"), "seed 1 lawful\nseed 2 lawful\nseed 3 lawful\n")
+        self.same("schedule", self.succeeds(f"examples/run schedule --seed 7 {script} > kept.script"), "")
+        kept = self.succeeds("examples/run run < kept.script")
+        self.same("the run of kept.script", kept, self.succeeds(f"examples/run run --seed 7 {script}"))
+        self.same("its trace ends with its tree", self.succeeds("examples/run trace < kept.script").partition("\ntree\n")[2], kept.partition("\ntree\n")[2])
+        self.same("draw", self.succeeds("examples/run draw < kept.script > kept.svg"), "")
         self.assertTrue((self.clone / "kept.svg").read_text().startswith("<svg "))
 
     def test_each_word(self):
