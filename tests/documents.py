@@ -1084,9 +1084,11 @@ class Numbers(Sentences):
     def test_counts(self):
         """How many there are of what pages count."""
         inputs = [path for path in (DATA / "worked").rglob("*") if path.suffix in (".script", ".journal")]
+        stack = (ROOT / "tests" / "limits.py").read_text()
         rows = (
             (EXAMPLES, f"`tests/data/worked` has {len(inputs)} more scripts, journals and broken texts"),
             (THREADS, f"There are places for {constants('fs_observe/src/publisher.rt')['READER_PLACES']} observers"),
+            (FORMATS, f"It needs a stack of {re.search(r'^STACK = ([0-9]+) . 1024$', stack, re.M)[1]} KiB"),
         )
         self.each(((page.stem, page, sentence) for page, sentence in rows), self.says)
 
