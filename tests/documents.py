@@ -598,7 +598,7 @@ class EachCommand(Page):
         r"rt|cc|python3|pip|cmake|cargo|rt (check|ci|run|plant|tidy|fmt|verdict|must-fail|doc|version).*|cc -I dist/include .*|cc main\.c \$\(.*|pip install --no-index .*|tar xf atomfs-.*|git show .*|cd \S+"
     )
     # The words that stand for others.
-    PUT = {"CRATE": "fs_graph", "NAME": "fs_graph", "CALL": "1", **dict.fromkeys(("SCRIPT", "A", "B", "C"), "examples/one_name.script")}
+    PUT = {"CRATE": "fs_graph", "NAME": "fs_graph", "COMMAND": "run", "CALL": "1", **dict.fromkeys(("SCRIPT", "A", "B", "C"), "examples/one_name.script")}
     # What stands for an input.
     INPUTS = None, "FILE", "SCRIPT", "INPUT", "A", "kept.script"
     # What the program says of the first words of a command.
@@ -638,7 +638,7 @@ class EachCommand(Page):
 
     def look_at_program(self, words, given):
         """The program takes these words, or words that begin so; what it prints is looked at where a page says so."""
-        words = [self.PUT.get(word, word) for word in filled(words.strip()).split(" ") if word]
+        words = [self.PUT.get(word, word) for word in filled(words.strip()).split(" ") if word not in ("", "..")]
         script, journal = (HELPED.with_suffix(ending) for ending in (".script", ".text"))
         if not words or (ROOT / words[0]).exists():
             return self.same("the scripts that are not there", [word for word in words if not (ROOT / word).exists()], [])
