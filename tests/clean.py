@@ -1,5 +1,5 @@
-"""A clone in which nothing is built: the tests that need no proof pass there, and the commands of examples/README.md run as they stand. Only what
-compiles the unproved program is another there: standin.py.
+"""A clone in which nothing is built: the tests that need no proof pass there, and the commands of the pages and of the tour run as they stand. Only
+what compiles the unproved program is another one there: standin.py.
 """
 import contextlib
 import os
@@ -13,8 +13,9 @@ import unittest
 import costs
 import harness
 import model
-from documents import EXAMPLES, prose, spans, table
+from documents import EXAMPLES, PAGES, spans, table
 from harness import ROOT, Case
+from worked import TOUR
 
 # What is built, and what a clone of files alone does not have.
 NO_SOURCES = ".git", "out", "dist", "target", "__pycache__", "*.egg-info", "Cargo.lock"
@@ -73,12 +74,18 @@ class Clean(Case):
         else:
             self.same(command, model.replayed(done.stdout), None)
 
-    def test_prose_of_examples(self):
-        """The commands between the rows."""
-        text = "\n".join(line for line in prose(EXAMPLES).splitlines() if not line.startswith("|"))
-        commands = [span for span in spans(text) if re.fullmatch(r"examples/run \w+ .*< examples/\S+|examples/run --help", span)]
-        self.assertGreater(len(commands), 1)
-        self.each(((command, command) for command in commands), self.succeeds)
+    @staticmethod
+    def commands():
+        """Each command of the program that a page, or a file of the tour, has a reader type, with its words, what it reads and what it writes."""
+        found = set()
+        for path in (*PAGES, *TOUR.glob("*.*")):
+            text = path.read_text()
+            typed = spans(text) + [line.lstrip("# ") for line in text.splitlines() if line.lstrip("# ").startswith("examples/run ")]
+            found.update(command for command in typed if re.fullmatch(r"examples/run [a-z]+( .*)?", command))
+        for command in sorted(found):
+            words, reads, writes = re.fullmatch(r"examples/run ([^<>]+?)(?: < (\S+))?(?: > (\S+))?", command).groups("")
+            if (ROOT / reads).is_file() or (not reads and " " in words):
+                yield command, command, words.split(" "), reads, writes
 
     def test_from_a_seed_to_a_picture(self):
         """From drawn runs to a kept one, one command after the other: the later ones read what the earlier ones wrote."""
@@ -90,6 +97,19 @@ class Clean(Case):
         self.same("its trace ends with its tree", self.succeeds("examples/run trace < kept.script").partition("\ntree\n")[2], kept.partition("\ntree\n")[2])
         self.same("draw", self.succeeds("examples/run draw < kept.script > kept.svg"), "")
         self.assertTrue((self.clone / "kept.svg").read_text().startswith("<svg "))
+
+    def test_commands(self):
+        """They stand as a reader can type them, and write what the program writes."""
+        rows = list(self.commands())
+        self.assertGreater(len(rows), 12)
+        self.each(rows, self.command)
+
+    def command(self, command, words, reads, writes):
+        wanted = harness.run((ROOT / reads).read_bytes() if reads else b"", *words)
+        done = self.typed(command)
+        written = (self.clone / writes).read_text() if writes else done.stdout
+        self.same(command, (done.returncode, written), (wanted.status, wanted.output.decode()))
+        self.assertIn(wanted.status, (0, 1))
 
     def test_each_word(self):
         """`examples/run` takes every command that the program has."""
