@@ -168,7 +168,7 @@ class ForC(Installed):
         self.ends(["bash", "-c", command.replace("PREFIX", str(self.prefix))])
         self.same("a.out", done([self.folder / "a.out"], self.folder), (0, "hello\n"))
         (started,) = (span for span in spans(page) if span.startswith("LD_LIBRARY_PATH="))
-        self.ends(["bash", "-c", command.replace("PREFIX", str(self.prefix)).split(" -Wl,")[0]])
+        self.ends(["bash", "-c", command.replace("PREFIX", str(self.prefix)).split(" -Wl,-rpath,")[0]])
         self.same(started, done(["bash", "-c", started.replace("PREFIX", str(self.prefix))], self.folder), (0, "hello\n"))
 
 
