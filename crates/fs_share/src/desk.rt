@@ -209,6 +209,7 @@ impl<N: Named> Desk<N> {
     /// The timeline, the nodes and the number of seats that were made since the timeline began. The tallies are of this
     /// tree, by their type.
     pub fn close<R: Wait>(self, rt: &R, whole: Whole<N>, tallies: Vec<Tally<N>>) -> Closed
+        ensures start { result.start ≡ self.board.core.start }
         ensures sessions { result.sessions + self.before ≡ length self.board.core.seats }
         ensures counted { sum_by (λ tally. tally.count) tallies.items ≤ returns result.timeline.entries }
         ensures bound { vec_len tallies ≤ result.sessions }

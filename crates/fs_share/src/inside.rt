@@ -4,12 +4,14 @@ ghost use Rattle.std.specs.Prelude.{◌≡◌, ◌^◌, IfOk};
 ghost use Rattle.fs_nodes.specs.Graphs.{graph_shapes};
 ghost use Rattle.fs_nodes.specs.Stores.{graph_of};
 ghost use Rattle.fs_calls.specs.Outcomes.{play};
+ghost use Rattle.fs_calls.specs.Starts.{root_start};
 ghost use Rattle.fs_calls.specs.Sights.{tree_shapes};
 ghost use Rattle.fs_timeline.specs.Timeline.{IsLawful, commits};
 ghost use Rattle.fs_share.specs.Returns.{AllReturned};
 
 use crate::session::Tally;
 use crate::tree::{AtomFs, Closed};
+use fs_names::Limits;
 use fs_observe::{Named, Opened};
 use std::alloc::{AllocError, Global};
 use std::marker::Brand;
@@ -44,6 +46,7 @@ fn inside_named<N: Named + Send + Sync, R: Threads + Wait + Clock + Sync, I: Ins
     requires name { blank.name ≡ N.name }
     requires parts { blank.parts ≡ N.parts }
     requires all { blank.parts ≡ 2 ^ 63 }
+    ensures start { IfOk result (λ made. made.1.start ≡ root_start Limits.V2) }
     ensures lawful { IfOk result (λ made. IsLawful made.1.start made.1.timeline.entries) }
     ensures spelled { IfOk result (λ made. AllReturned made.1.timeline.entries → graph_shapes (graph_of made.1.store) ≡ tree_shapes (play made.1.start (commits made.1.timeline.entries))) }
 {
@@ -60,6 +63,7 @@ pub fn with_tree<R: Threads + Wait + Clock + Sync, I: Inside>(
     alloc: Global,
     inside: &I,
 ) -> Result<(I::Out, Closed), AllocError>
+    ensures start { IfOk result (λ made. made.1.start ≡ root_start Limits.V2) }
     ensures lawful { IfOk result (λ made. IsLawful made.1.start made.1.timeline.entries) }
     ensures spelled { IfOk result (λ made. AllReturned made.1.timeline.entries → graph_shapes (graph_of made.1.store) ≡ tree_shapes (play made.1.start (commits made.1.timeline.entries))) }
 {

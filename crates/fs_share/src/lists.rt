@@ -4,6 +4,7 @@ ghost use Rattle.std.specs.Prelude.{◌≡◌, ◌^◌, ℕ, length, vec_len, su
 ghost use Rattle.fs_nodes.specs.Graphs.{graph_shapes};
 ghost use Rattle.fs_nodes.specs.Stores.{graph_of};
 ghost use Rattle.fs_calls.specs.Outcomes.{play};
+ghost use Rattle.fs_calls.specs.Starts.{root_start};
 ghost use Rattle.fs_calls.specs.Sights.{tree_shapes};
 ghost use Rattle.fs_timeline.specs.Timeline.{IsLawful, commits};
 ghost use Rattle.fs_share.specs.Returns.{returns, AllReturned};
@@ -173,6 +174,7 @@ fn run_named<N: Named + Send + Sync, R: Threads + Wait + Clock + Sync, G: Gate +
     requires name { blank.name ≡ N.name }
     requires parts { blank.parts ≡ N.parts }
     requires all { blank.parts ≡ 2 ^ 63 }
+    ensures start { IfOk result (λ closed. closed.start ≡ root_start limits) }
     ensures lawful { IfOk result (λ closed. IsLawful closed.start closed.timeline.entries) }
     ensures spelled { IfOk result (λ closed. AllReturned closed.timeline.entries → graph_shapes (graph_of closed.store) ≡ tree_shapes (play closed.start (commits closed.timeline.entries))) }
     ensures returns { IfOk result (λ closed. returns closed.timeline.entries ≡ sum_by vec_len lists.now) }
@@ -204,6 +206,7 @@ pub fn run_lists_with<R: Threads + Wait + Clock + Sync, G: Gate + Sync>(
     gate: &G,
     limits: Limits,
 ) -> Result<Closed, ListsFault>
+    ensures start { IfOk result (λ closed. closed.start ≡ root_start limits) }
     ensures lawful { IfOk result (λ closed. IsLawful closed.start closed.timeline.entries) }
     ensures spelled { IfOk result (λ closed. AllReturned closed.timeline.entries → graph_shapes (graph_of closed.store) ≡ tree_shapes (play closed.start (commits closed.timeline.entries))) }
     ensures returns { IfOk result (λ closed. returns closed.timeline.entries ≡ sum_by vec_len lists.now) }
@@ -226,6 +229,7 @@ pub fn run_lists<R: Threads + Wait + Clock + Sync, G: Gate + Sync>(
     lists: &[Vec<Call>],
     gate: &G,
 ) -> Result<Closed, ListsFault>
+    ensures start { IfOk result (λ closed. closed.start ≡ root_start Limits.V2) }
     ensures lawful { IfOk result (λ closed. IsLawful closed.start closed.timeline.entries) }
     ensures spelled { IfOk result (λ closed. AllReturned closed.timeline.entries → graph_shapes (graph_of closed.store) ≡ tree_shapes (play closed.start (commits closed.timeline.entries))) }
     ensures returns { IfOk result (λ closed. returns closed.timeline.entries ≡ sum_by vec_len lists.now) }

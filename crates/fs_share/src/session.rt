@@ -80,6 +80,7 @@ impl<'a, N: Named> Session<'a, N> {
             share,
         } = self;
         let seat = *seat;
+        let fs: &AtomFs<N> = fs;
         let number = fs
             .desk
             .locked(rt, |desk| desk.board.begin(alloc, seat, call))?;
@@ -120,7 +121,8 @@ impl<'a, N: Named> Session<'a, N> {
         ensures told { IfOk result (λ told. IfSome told.stamp (λ stamp. IsListed stamp.start stamp.list told.place call.now told.answer.reply)) }
     {
         let answer = self.call(rt, alloc, call, gate)?;
-        let (place, stamp) = self.fs.desk.locked(rt, |desk| {
+        let fs: &AtomFs<N> = self.fs;
+        let (place, stamp) = fs.desk.locked(rt, |desk| {
             desk.board.tell(rt, alloc, answer.call, call, &answer.reply)
         });
         Ok(Told {

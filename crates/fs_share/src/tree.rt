@@ -4,7 +4,7 @@ ghost use Rattle.std.specs.Prelude.{[], ◌≡◌, ◌+◌, ◌<◌, ◌≤◌, 
 ghost use Rattle.fs_nodes.specs.Graphs.{graph_shapes};
 ghost use Rattle.fs_nodes.specs.Stores.{graph_of};
 ghost use Rattle.fs_calls.specs.Outcomes.{play, next_start};
-ghost use Rattle.fs_calls.specs.Starts.{Start, start_tree};
+ghost use Rattle.fs_calls.specs.Starts.{Start, start_tree, root_start};
 ghost use Rattle.fs_calls.specs.Tree.{IsTree};
 ghost use Rattle.fs_calls.specs.Sights.{tree_shapes};
 ghost use Rattle.fs_timeline.specs.Timeline.{IsLawful, commits};
@@ -21,7 +21,7 @@ use fs_observe::{Named, NoPlace, Observer, Opened, Stamp};
 use fs_seq::SeqTree;
 use fs_timeline::{Entry, Timeline};
 use std::alloc::{AllocError, Global};
-use std::marker::PhantomData;
+use std::marker::{Model, PhantomData};
 use std::sync::ledger::{Blank, Share};
 use std::sync::{Condvar, MutexGuard, Wait};
 
@@ -32,11 +32,21 @@ pub(crate) struct Whole<N: Named> {
     ghost parts: { N.parts ≡ 2 ^ 63 },
 }
 
-/// A tree that sessions share, and that observers read. It is not `Drop`: end it by `close`.
+/// A tree that sessions share, and that observers read. Contracts see the tree at which its timeline starts: a stamp of it lies
+/// beside the lock. It is not `Drop`: end it by `close`.
 pub struct AtomFs<N: Named> {
     pub(crate) desk: Lock<Desk<N>>,
     freed: Condvar,
     whole: Whole<N>,
+    pub(crate) first: Stamp<N>,
+}
+
+impl<N: Named> Model for AtomFs<N> {
+    ghost use Rattle.fs_share.specs.Boards.{Shared};
+
+    ghost Value = { Shared };
+
+    ghost view = { λ fs. record { start = fs.first.start } };
 }
 
 /// What is left of a tree: the tree at which its timeline starts, its timeline, its nodes, and how many sessions it had
@@ -51,8 +61,9 @@ pub struct Closed {
 
 impl<N: Named> AtomFs<N> {
     /// A tree with the root alone, of these limits, under the name of this blank and this history: no entry, no session,
-    /// nothing published. No clause can name what a lock keeps, so that stands at what this is made of (`Desk::open`). The
-    /// only error is out of memory. Most callers want `with_tree`, which asks for nothing.
+    /// nothing published. No clause can name what a lock keeps, so that stands at what this is made of (`Desk::open`), but for
+    /// the tree at which the timeline starts. The only error is out of memory. Most callers want `with_tree`, which asks for
+    /// nothing.
     pub fn open_with<R: Wait>(
         rt: &R,
         alloc: Global,
@@ -64,6 +75,7 @@ impl<N: Named> AtomFs<N> {
         requires name { blank.name ≡ N.name }
         requires parts { blank.parts ≡ N.parts }
         requires all { blank.parts ≡ 2 ^ 63 }
+        ensures start { IfOk result (λ fs. fs.start ≡ root_start limits) }
     {
         let desk = Desk::open(rt, alloc, opened, blank, limits)?;
         Ok(AtomFs::around(desk))
@@ -80,6 +92,7 @@ impl<N: Named> AtomFs<N> {
         requires name { blank.name ≡ N.name }
         requires parts { blank.parts ≡ N.parts }
         requires all { blank.parts ≡ 2 ^ 63 }
+        ensures start { IfOk result (λ fs. fs.start ≡ root_start Limits.V2) }
     {
         AtomFs::open_with(rt, alloc, opened, blank, Limits::V2)
     }
@@ -87,11 +100,14 @@ impl<N: Named> AtomFs<N> {
     /// A lock round what it keeps.
     fn around(desk: Desk<N>) -> AtomFs<N>
         requires { N.parts ≡ 2 ^ 63 }
+        ensures { result.start ≡ desk.board.core.start }
     {
+        let first = desk.board.first();
         AtomFs {
             desk: Lock::new(desk),
             freed: Condvar::new(),
             whole: Whole { of: PhantomData },
+            first,
         }
     }
 
@@ -112,10 +128,12 @@ impl<N: Named> AtomFs<N> {
     /// An observer that was told nothing yet. The error is that none of the 64 reader places is free, or that there is no
     /// memory.
     pub fn observer<R: Wait>(&self, rt: &R) -> Result<Observer<'_, N>, NoPlace>
-        ensures { IfOk result (λ observer. observer.list ≡ []) }
+        ensures list { IfOk result (λ observer. observer.list ≡ []) }
+        ensures start { IfOk result (λ observer. observer.start ≡ self.now.start) }
     {
         // By a guard: the borrow checker covers no closure that answers what names the tree's lifetime.
         let mut desk = self.desk.take(rt);
+        desk.board.agrees(&self.first);
         let observer = desk.board.observer();
         MutexGuard::unlock(desk);
         observer
@@ -162,9 +180,14 @@ impl<N: Named> AtomFs<N> {
 
     /// A stamp of the list of no calls: it tells the tree at which the timeline starts.
     pub fn first<R: Wait>(&self, rt: &R) -> Stamp<N>
-        ensures { result.list ≡ [] }
+        ensures list { result.list ≡ [] }
+        ensures start { result.start ≡ self.now.start }
     {
-        self.desk.locked(rt, |desk| desk.board.first())
+        let desk = self.desk.take(rt);
+        desk.board.agrees(&self.first);
+        let first = desk.board.first();
+        MutexGuard::unlock(desk);
+        first
     }
 
     /// The timeline begins again at the tree that it has come to, under another name, and its entries so far are handed
@@ -186,8 +209,13 @@ impl<N: Named> AtomFs<N> {
 
         // There is a tree from which the entries are lawful, the one at which each stamp's list started.
         ensures lawful { IfOk result (λ kept. (start : Start) × IsTree (start_tree start) × IsLawful start kept.1.items) }
+
+        // That tree is the one at which the timeline starts, and the new tree starts at what the entries play on it.
+        ensures from { IfOk result (λ kept. IsTree (start_tree self.start) × IsLawful self.start kept.1.items) }
+        ensures start { IfOk result (λ kept. kept.0.start ≡ next_start self.start (commits kept.1.items)) }
         ensures counted { IfOk result (λ kept. sum_by (λ tally. tally.count) tallies.items ≤ returns kept.1.items) }
         ensures back { IfErr result (λ left. (left.tallies ≡ tallies) × (left.blank ≡ blank)) }
+        ensures same { IfErr result (λ left. left.fs ≡ self) }
     {
         let told = self.first(rt);
         match self.checkpoint_told(rt, alloc, tallies, &told, opened, blank) {
@@ -215,25 +243,35 @@ impl<N: Named> AtomFs<N> {
         // The entries are lawful from the tree at which the stamp's list starts, and the new tree starts at what they play.
         ensures lawful { IfOk result (λ kept. IsTree (start_tree told.now.start) × IsLawful told.now.start kept.1.items) }
         ensures start { IfOk result (λ kept. kept.2 ≡ record { start = next_start told.now.start (commits kept.1.items); list = [] }) }
+        ensures new { IfOk result (λ kept. kept.0.start ≡ next_start told.now.start (commits kept.1.items)) }
+        ensures from { told.now.start ≡ self.start }
 
         // At least as many calls returned as the tallies add up to.
         ensures counted { IfOk result (λ kept. sum_by (λ tally. tally.count) tallies.items ≤ returns kept.1.items) }
         ensures back { IfErr result (λ left. (left.tallies ≡ tallies) × (left.blank ≡ blank)) }
+        ensures same { IfErr result (λ left. left.fs ≡ self) }
     {
-        let AtomFs { desk, freed, whole } = self;
+        let AtomFs {
+            desk,
+            freed,
+            whole,
+            first,
+        } = self;
         let desk = desk.into_inner();
         desk.board.agrees(told);
+        desk.board.agrees(&first);
         match make_ready(rt, alloc, desk.board.core(), opened) {
             Ok(ready) => {
                 let (desk, entries) = desk.again(rt, alloc, tallies, ready, blank);
-                let first = desk.board.first();
-                Ok((AtomFs::around(desk), entries, first))
+                let next = desk.board.first();
+                Ok((AtomFs::around(desk), entries, next))
             }
             Err(why) => Err(NotKept {
                 fs: AtomFs {
                     desk: Lock::new(desk),
                     freed,
                     whole,
+                    first,
                 },
                 tallies,
                 blank,
@@ -246,6 +284,7 @@ impl<N: Named> AtomFs<N> {
     /// too. A caller need not have kept the tallies: an empty list is allowed, and then nothing is said of how many calls
     /// returned. What is still lent, sessions and observers, has ended by then, as their types say.
     pub fn close<R: Wait>(self, rt: &R, tallies: Vec<Tally<N>>) -> Closed
+        ensures start { result.start ≡ self.start }
         ensures lawful { IsLawful result.start result.timeline.entries }
         ensures spelled { AllReturned result.timeline.entries → graph_shapes (graph_of result.store) ≡ tree_shapes (play result.start (commits result.timeline.entries)) }
 
@@ -258,7 +297,10 @@ impl<N: Named> AtomFs<N> {
             desk,
             freed: _freed,
             whole,
+            first,
         } = self;
-        desk.into_inner().close(rt, whole, tallies)
+        let desk = desk.into_inner();
+        desk.board.agrees(&first);
+        desk.close(rt, whole, tallies)
     }
 }
