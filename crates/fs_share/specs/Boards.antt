@@ -14,9 +14,10 @@ pub record Boarded : Type 0 where
   pub core : CoreValue
   pub published : List Call
 
--- a shared tree, as its callers see it: the tree at which its timeline starts
+-- a shared tree, as its callers see it: the tree at which its timeline starts, and how many sessions the tree had that went on as it, 0 where there is none
 pub record Shared : Type 0 where
   pub start : Start
+  pub earlier : ℕ
 
 -- each of the publisher's lists is a beginning of the commits, and at most one call waits for memory
 pub record AreBeginnings (commits : List Call) (lists : Lists) : Type 0 where

@@ -163,15 +163,17 @@ impl<N: Named> Desk<N> {
         sleepers
     }
 
-    /// The same core under another name, with its timeline begun again; and the entries so far.
+    /// The same core under another name, with its timeline begun again; the entries so far; and the number of seats that were
+    /// made since the timeline began.
     pub fn again<M: Named, R: Wait>(
         self,
         rt: &R,
         alloc: Global,
+        whole: Whole<N>,
         tallies: Vec<Tally<N>>,
         ready: Ready<M>,
         blank: Blank,
-    ) -> (Desk<M>, Vec<Entry>)
+    ) -> (Desk<M>, Vec<Entry>, usize)
         requires ready { IsReady self.board.core ready.tree ready.publisher }
         requires name { blank.name ≡ M.name }
         requires parts { blank.parts ≡ M.parts }
@@ -179,19 +181,24 @@ impl<N: Named> Desk<N> {
         ensures tree { IsTree (start_tree self.board.core.start) }
         ensures lawful { IsLawful self.board.core.start result.1.items }
         ensures start { result.0.board.core.start ≡ next_start self.board.core.start (commits result.1.items) }
+        ensures sessions { result.2 + self.before ≡ length self.board.core.seats }
         ensures counted { sum_by (λ tally. tally.count) tallies.items ≤ returns result.1.items }
+        ensures bound { vec_len tallies ≤ result.2 }
+        ensures returns { vec_len tallies ≡ result.2 → returns result.1.items ≡ sum_by (λ tally. tally.count) tallies.items }
     {
         let Desk {
             board,
             mut book,
             mut rest,
             sleepers: _,
-            before: _,
+            before: earlier,
         } = self;
         merge_all(&mut rest, tallies);
         book.audit(&mut rest);
+        let _whole = whole;
         board.core().told();
         let before = board.core().seats();
+        let sessions = before - earlier;
         let (board, entries) = board.again(rt, alloc, ready);
         let (book, rest) = blank.open::<M>();
         (
@@ -203,6 +210,7 @@ impl<N: Named> Desk<N> {
                 before,
             },
             entries,
+            sessions,
         )
     }
 

@@ -32,13 +32,14 @@ pub(crate) struct Whole<N: Named> {
     ghost parts: { N.parts ≡ 2 ^ 63 },
 }
 
-/// A tree that sessions share, and that observers read. Contracts see the tree at which its timeline starts: a stamp of it lies
-/// beside the lock. It is not `Drop`: end it by `close`.
+/// A tree that sessions share, and that observers read. Contracts see the tree at which its timeline starts, by a stamp that
+/// lies beside the lock, and how many sessions the tree had that went on as this one. It is not `Drop`: end it by `close`.
 pub struct AtomFs<N: Named> {
     pub(crate) desk: Lock<Desk<N>>,
     freed: Condvar,
     whole: Whole<N>,
     pub(crate) first: Stamp<N>,
+    earlier: usize,
 }
 
 impl<N: Named> Model for AtomFs<N> {
@@ -46,7 +47,7 @@ impl<N: Named> Model for AtomFs<N> {
 
     ghost Value = { Shared };
 
-    ghost view = { λ fs. record { start = fs.first.start } };
+    ghost view = { λ fs. record { start = fs.first.start; earlier = fs.earlier } };
 }
 
 /// What is left of a tree: the tree at which its timeline starts, its timeline, its nodes, and how many sessions it had
@@ -78,7 +79,7 @@ impl<N: Named> AtomFs<N> {
         ensures start { IfOk result (λ fs. fs.start ≡ root_start limits) }
     {
         let desk = Desk::open(rt, alloc, opened, blank, limits)?;
-        Ok(AtomFs::around(desk))
+        Ok(AtomFs::around(desk, 0))
     }
 
     /// The same by the limits of the second version.
@@ -98,9 +99,9 @@ impl<N: Named> AtomFs<N> {
     }
 
     /// A lock round what it keeps.
-    fn around(desk: Desk<N>) -> AtomFs<N>
+    fn around(desk: Desk<N>, earlier: usize) -> AtomFs<N>
         requires { N.parts ≡ 2 ^ 63 }
-        ensures { result.start ≡ desk.board.core.start }
+        ensures { result ≡ record { start = desk.board.core.start; earlier = earlier } }
     {
         let first = desk.board.first();
         AtomFs {
@@ -108,6 +109,7 @@ impl<N: Named> AtomFs<N> {
             freed: Condvar::new(),
             whole: Whole { of: PhantomData },
             first,
+            earlier,
         }
     }
 
@@ -178,6 +180,13 @@ impl<N: Named> AtomFs<N> {
         stepped
     }
 
+    /// How many sessions the tree had that went on as this one, since its timeline began; 0 where there is none.
+    pub fn earlier(&self) -> usize
+        ensures { result ≡ self.now.earlier }
+    {
+        self.earlier
+    }
+
     /// A stamp of the list of no calls: it tells the tree at which the timeline starts.
     pub fn first<R: Wait>(&self, rt: &R) -> Stamp<N>
         ensures list { result.list ≡ [] }
@@ -214,6 +223,10 @@ impl<N: Named> AtomFs<N> {
         ensures from { IfOk result (λ kept. IsTree (start_tree self.start) × IsLawful self.start kept.1.items) }
         ensures start { IfOk result (λ kept. kept.0.start ≡ next_start self.start (commits kept.1.items)) }
         ensures counted { IfOk result (λ kept. sum_by (λ tally. tally.count) tallies.items ≤ returns kept.1.items) }
+
+        // Exactly as many where each session handed in its own: the new tree knows how many there were.
+        ensures bound { IfOk result (λ kept. vec_len tallies ≤ kept.0.earlier) }
+        ensures returns { IfOk result (λ kept. vec_len tallies ≡ kept.0.earlier → returns kept.1.items ≡ sum_by (λ tally. tally.count) tallies.items) }
         ensures back { IfErr result (λ left. (left.tallies ≡ tallies) × (left.blank ≡ blank)) }
         ensures same { IfErr result (λ left. left.fs ≡ self) }
     {
@@ -248,6 +261,10 @@ impl<N: Named> AtomFs<N> {
 
         // At least as many calls returned as the tallies add up to.
         ensures counted { IfOk result (λ kept. sum_by (λ tally. tally.count) tallies.items ≤ returns kept.1.items) }
+
+        // Exactly as many where each session handed in its own: the new tree knows how many there were.
+        ensures bound { IfOk result (λ kept. vec_len tallies ≤ kept.0.earlier) }
+        ensures returns { IfOk result (λ kept. vec_len tallies ≡ kept.0.earlier → returns kept.1.items ≡ sum_by (λ tally. tally.count) tallies.items) }
         ensures back { IfErr result (λ left. (left.tallies ≡ tallies) × (left.blank ≡ blank)) }
         ensures same { IfErr result (λ left. left.fs ≡ self) }
     {
@@ -256,15 +273,16 @@ impl<N: Named> AtomFs<N> {
             freed,
             whole,
             first,
+            earlier,
         } = self;
         let desk = desk.into_inner();
         desk.board.agrees(told);
         desk.board.agrees(&first);
         match make_ready(rt, alloc, desk.board.core(), opened) {
             Ok(ready) => {
-                let (desk, entries) = desk.again(rt, alloc, tallies, ready, blank);
+                let (desk, entries, sessions) = desk.again(rt, alloc, whole, tallies, ready, blank);
                 let next = desk.board.first();
-                Ok((AtomFs::around(desk), entries, next))
+                Ok((AtomFs::around(desk, sessions), entries, next))
             }
             Err(why) => Err(NotKept {
                 fs: AtomFs {
@@ -272,6 +290,7 @@ impl<N: Named> AtomFs<N> {
                     freed,
                     whole,
                     first,
+                    earlier,
                 },
                 tallies,
                 blank,
@@ -298,6 +317,7 @@ impl<N: Named> AtomFs<N> {
             freed: _freed,
             whole,
             first,
+            earlier: _earlier,
         } = self;
         let desk = desk.into_inner();
         desk.board.agrees(&first);
