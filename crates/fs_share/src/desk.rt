@@ -1,6 +1,6 @@
 //! What the lock keeps: the board, and the account of the calls that returned.
 
-ghost use Rattle.std.specs.Prelude.{◌≡◌, ◌+◌, ◌<◌, ◌≤◌, ◌^◌, ◌++◌, ◌∷◌, ◌||◌, [], None, false, is_some, length, sum_by, vec_len, IfOk, IfSome, OnOk};
+ghost use Rattle.std.specs.Prelude.{◌≡◌, ℕ, ◌+◌, ◌<◌, ◌≤◌, ◌^◌, ◌%◌, ◌++◌, ◌∷◌, [], None, if◌then◌else◌, is_some, length, sum_by, vec_len, IfOk, IfSome, OnOk};
 ghost use Rattle.fs_nodes.specs.Graphs.{graph_shapes};
 ghost use Rattle.fs_nodes.specs.Stores.{graph_of};
 ghost use Rattle.fs_calls.specs.Outcomes.{play, next_start};
@@ -10,6 +10,7 @@ ghost use Rattle.fs_calls.specs.Sights.{tree_shapes};
 ghost use Rattle.fs_timeline.specs.Timeline.{IsLawful, commits};
 ghost use Rattle.fs_machine.specs.States.{Step};
 ghost use Rattle.fs_core.specs.CoreValues.{state_of};
+ghost use Rattle.fs_wait.specs.Sleeping.{Covers, one_more, woken_for, IsEnough};
 ghost use Rattle.fs_share.specs.Boards.{IsReady};
 ghost use Rattle.fs_share.specs.Returns.{answered, returns, AllReturned};
 
@@ -22,6 +23,7 @@ use fs_names::{Limits, SeatNo};
 use fs_nodes::NodeNo;
 use fs_observe::{Named, Opened};
 use fs_timeline::Entry;
+use fs_wait::{Sleepers, Wake};
 use std::alloc::{AllocError, Global};
 use std::sync::Wait;
 use std::sync::ledger::{Blank, Book, Share};
@@ -30,12 +32,12 @@ use std::sync::ledger::{Blank, Book, Share};
 const MOST_SEATS: usize = usize::MAX / 4;
 
 /// The board, the book of the calls that returned, with a part of its ledger left for each seat that is still to be made,
-/// and whether a session went to sleep for a node since the last wake-up. It is not `Drop`: end it by `close`.
+/// and for which nodes sessions sleep. It is not `Drop`: end it by `close`.
 pub(crate) struct Desk<N: Named> {
     pub board: Board<N>,
     pub book: Book<N>,
     pub rest: Share<N>,
-    pub sleepers: bool,
+    pub sleepers: Sleepers,
     /// How many seats stood when the timeline began.
     pub before: usize,
     ghost counted: { returns board.core.timeline ≡ book.total },
@@ -99,7 +101,7 @@ impl<N: Named> Desk<N> {
             board,
             book,
             rest,
-            sleepers: false,
+            sleepers: Sleepers::new(),
             before: 0,
         })
     }
@@ -141,26 +143,29 @@ impl<N: Named> Desk<N> {
         stepped
     }
 
-    /// Whether a call holds a node: whoever asks then goes to sleep, which is kept until the next wake-up.
+    /// Whether a call holds a node: whoever asks then goes to sleep, which is noted.
     pub fn sleeps_for(&mut self, node: NodeNo) -> bool
         ensures held { result ≡ is_some ((state_of self.old.board.core).holder node) }
         ensures core { self.new.board.core ≡ self.old.board.core }
-        ensures sleepers { self.new.sleepers ≡ (self.old.sleepers || result) }
+        ensures noted { (sleeping : ℕ → ℕ) → Covers self.old.sleepers sleeping → Covers self.new.sleepers (λ other. if result then one_more node other (sleeping other) else sleeping other) }
     {
         let held = self.board.core().holder(node).is_some();
-        self.sleepers = self.sleepers || held;
+        if held {
+            self.sleepers.sleep(node);
+        }
         held
     }
 
-    /// Whether a session went to sleep since the last wake-up. Whoever is told so wakes all of them.
-    pub fn take_sleepers(&mut self) -> bool
-        ensures sleepers { result ≡ self.old.sleepers }
-        ensures none { self.new.sleepers ≡ false }
+    /// Whom a node wakes: nobody where a call holds it, and else one at least of those who sleep for it, if there are any.
+    pub fn wakes(&mut self, node: NodeNo) -> Wake
         ensures core { self.new.board.core ≡ self.old.board.core }
+        ensures enough { (state_of self.old.board.core).holder node ≡ None → (sleeping : ℕ → ℕ) → Covers self.old.sleepers sleeping → (other : ℕ) → other % 64 ≡ node % 64 → IsEnough result node other (sleeping other) }
+        ensures left { (sleeping : ℕ → ℕ) → Covers self.old.sleepers sleeping → Covers self.new.sleepers (woken_for result node sleeping) }
     {
-        let sleepers = self.sleepers;
-        self.sleepers = false;
-        sleepers
+        if self.board.core().holder(node).is_some() {
+            return Wake::Nobody;
+        }
+        self.sleepers.wake(node)
     }
 
     /// The same core under another name, with its timeline begun again; the entries so far; and the number of seats that were
@@ -206,7 +211,7 @@ impl<N: Named> Desk<N> {
                 board,
                 book,
                 rest,
-                sleepers: false,
+                sleepers: Sleepers::new(),
                 before,
             },
             entries,

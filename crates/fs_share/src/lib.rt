@@ -20,7 +20,6 @@ mod desk;
 mod gate;
 mod inside;
 mod lists;
-mod lock;
 mod session;
 mod told;
 mod tree;

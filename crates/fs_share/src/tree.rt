@@ -12,7 +12,6 @@ ghost use Rattle.fs_share.specs.Returns.{answered, returns, AllReturned};
 
 use crate::checkpoint::{NotKept, make_ready};
 use crate::desk::Desk;
-use crate::lock::Lock;
 use crate::session::{Session, Tally};
 use fs_core::Stepped;
 use fs_names::{Limits, SeatNo};
@@ -20,10 +19,11 @@ use fs_nodes::{NodeNo, Store};
 use fs_observe::{Named, NoPlace, Observer, Opened, Stamp};
 use fs_seq::SeqTree;
 use fs_timeline::{Entry, Timeline};
+use fs_wait::{Lock, WaitQueues};
 use std::alloc::{AllocError, Global};
 use std::marker::{Model, PhantomData};
 use std::sync::ledger::{Blank, Share};
-use std::sync::{Condvar, MutexGuard, Wait};
+use std::sync::{MutexGuard, Wait};
 
 /// That the tree's ledger has 2^63 parts.
 #[derive(Drop)]
@@ -36,7 +36,7 @@ pub(crate) struct Whole<N: Named> {
 /// lies beside the lock, and how many sessions the tree had that went on as this one. It is not `Drop`: end it by `close`.
 pub struct AtomFs<N: Named> {
     pub(crate) desk: Lock<Desk<N>>,
-    freed: Condvar,
+    queues: WaitQueues,
     whole: Whole<N>,
     pub(crate) first: Stamp<N>,
     earlier: usize,
@@ -106,7 +106,7 @@ impl<N: Named> AtomFs<N> {
         let first = desk.board.first();
         AtomFs {
             desk: Lock::new(desk),
-            freed: Condvar::new(),
+            queues: WaitQueues::new(),
             whole: Whole { of: PhantomData },
             first,
             earlier,
@@ -143,14 +143,23 @@ impl<N: Named> AtomFs<N> {
 
     /// The lock, once no call holds a node.
     ///
-    /// No wake-up is lost: under one hold of the lock a session finds the node held, says that it sleeps, and sleeps. Each
-    /// `LetGo` comes under the lock, and the first one behind it takes that word and wakes all who sleep. Whoever finds
-    /// a node held after that says so anew.
+    /// No wake-up is lost: under one hold of the lock a session finds the node held, is noted, and sleeps. Each `LetGo` comes
+    /// under the lock, and wakes one of those who are noted for its node. Whoever is woken makes its step under the lock where
+    /// it finds the node free, and wakes the next if it did not take it; where the node is held again, it is noted anew.
     #[inline(never)]
     fn take_free<R: Wait>(&self, rt: &R, node: NodeNo) -> MutexGuard<'_, Desk<N>> {
         let desk = self.desk.take(rt);
-        self.freed
+        self.queues
+            .of(node)
             .wait_while(rt, desk, |desk| desk.sleeps_for(node))
+    }
+
+    /// Wakes whom a node wakes, under the lock: a session that stops behind it would keep those from waking that sleep for a
+    /// free node.
+    #[inline(always)]
+    fn wake(&self, desk: &mut Desk<N>, node: NodeNo) {
+        let wake = desk.wakes(node);
+        self.queues.wake(node, wake);
     }
 
     /// One step of a seat's call under the lock, once no call holds the node that is wanted.
@@ -172,11 +181,13 @@ impl<N: Named> AtomFs<N> {
             Some(node) => self.take_free(rt, node),
         };
         let stepped = desk.step(seat, mine);
-        let wakes = matches!(stepped, Stepped::LetGo(_)) && desk.take_sleepers();
-        MutexGuard::unlock(desk);
-        if wakes {
-            self.freed.notify_all();
+        if let Some(node) = wanted {
+            self.wake(&mut *desk, node);
         }
+        if let Stepped::LetGo(node) = stepped {
+            self.wake(&mut *desk, node);
+        }
+        MutexGuard::unlock(desk);
         stepped
     }
 
@@ -270,7 +281,7 @@ impl<N: Named> AtomFs<N> {
     {
         let AtomFs {
             desk,
-            freed,
+            queues,
             whole,
             first,
             earlier,
@@ -287,7 +298,7 @@ impl<N: Named> AtomFs<N> {
             Err(why) => Err(NotKept {
                 fs: AtomFs {
                     desk: Lock::new(desk),
-                    freed,
+                    queues,
                     whole,
                     first,
                     earlier,
@@ -314,7 +325,7 @@ impl<N: Named> AtomFs<N> {
     {
         let AtomFs {
             desk,
-            freed: _freed,
+            queues: _queues,
             whole,
             first,
             earlier: _earlier,

@@ -13,7 +13,7 @@ const PAUSES: u32 = 64;
 
 /// A lock. Whoever has it has it for one event, and a sleep takes longer than hundreds of them. So a thread that finds it
 /// taken first looks again some times, each time after twice as many pauses, and sleeps for it only then.
-pub(crate) struct Lock<V> {
+pub struct Lock<V> {
     value: Mutex<V>,
 }
 
