@@ -68,10 +68,12 @@ fn is_full<N: Named>(alloc: Global, pool: &mut Pool<N>) -> Option<bool> {
     Some(matches!(taken.first(), Some(Err(NotTaken::QueueFull(back))) if back.same(call)))
 }
 
-/// What became of jobs: whether a full pool handed one back, those that were done, and how many are left.
+/// What became of jobs: whether a full pool handed one back, whether each worker's session was tallied, those that were done,
+/// and how many are left.
 #[derive(Drop)]
 pub struct Did {
     full: bool,
+    pub tallied: bool,
     pub done: Vec<Done>,
     left: usize,
 }
@@ -111,9 +113,15 @@ fn work_on<N: Named + Send + Sync, R: Threads + Wait + Clock + Sync, G: Gate + S
         left,
         mut tallies,
     } = pool.collect();
+    let tallied = tallies.len() == works.workers;
     tallies.push(made.tally()).ok()?;
-    let left = left.len();
-    Some((Did { full, done, left }, tallies))
+    let did = Did {
+        full,
+        tallied,
+        done,
+        left: left.len(),
+    };
+    Some((did, tallies))
 }
 
 /// Ends a tree, and hands on what came of it.
@@ -201,6 +209,7 @@ fn is_worked(alloc: Global, calls: &[Call], worked: &Worked) -> Option<bool> {
     let entries = worked.closed.timeline.entries();
     Some(
         worked.did.full
+            && worked.did.tallied
             && worked.did.left == 0
             && counts(&worked.did.done) == (256, 744)
             && has_counts(&worked.closed, WORKERS + 1, 3000)

@@ -44,5 +44,6 @@ pub fn jobs_meet<R: Threads + Wait + Clock + Sync>(rt: &R, alloc: Global) -> Opt
         workers: 2,
     };
     let worked = work_all(rt, alloc, works, &gate)?;
-    Some(gate.has_met() && has_counts(&worked.closed, 3, 12) && are_apart(&worked)?)
+    let right = worked.did.tallied && has_counts(&worked.closed, 3, 12) && are_apart(&worked)?;
+    Some(gate.has_met() && right)
 }

@@ -54,8 +54,8 @@ fn stay<N: Named + Send + Sync, R: Threads + Wait + Clock + Sync>(
     Some(numbered && none && done.is_empty() && tallies.is_empty() && are_left(calls, &left))
 }
 
-/// What becomes of jobs that are handed to a pool by two lots, each of which two workers do; before the first it runs without a
-/// worker.
+/// What becomes of jobs that are handed to a pool by two lots, each of which two workers do, so that four sessions are tallied;
+/// before the first it runs without a worker.
 fn run_twice<N: Named + Send + Sync, R: Threads + Wait + Clock + Sync>(
     rt: &R,
     alloc: Global,
@@ -69,8 +69,9 @@ fn run_twice<N: Named + Send + Sync, R: Threads + Wait + Clock + Sync>(
     pool.run(rt, alloc, fs, 2, &Open).ok()?;
     numbered = numbered && submit_all(alloc, &mut pool, second, FIRST as u64)?;
     pool.run(rt, alloc, fs, 2, &Open).ok()?;
-    if numbered && none {
-        Some(pool.collect())
+    let collected = pool.collect();
+    if numbered && none && collected.tallies.len() == 4 {
+        Some(collected)
     } else {
         None
     }

@@ -33,9 +33,9 @@ begins = (refl, (λ h. refl), first_is)
     first_is zero u at none = absurd (omega (arith, ap (λ (v : Hand). v.parts) (some-injective start u at)))
     first_is (suc j) u at none = absurd (some-ne-none u (sym at))
 
-pub puts : (n seat : ℕ) (v : Hand) (x : Job) → 0 < v.parts → Pushes Balanced n seat v x (λ w. w ≡ hand v.parts (v.put ++ x.no ∷ []) v.popped)
+pub puts : (n seat : ℕ) (v : Hand) (x : Job) → 0 < v.parts → Pushes Balanced n seat v x (λ w. w ≡ hand v.parts (v.put ++ x ∷ []) v.popped)
 puts n seat v x some_part items views room b at =
-    let w : Hand = hand v.parts (v.put ++ x.no ∷ []) v.popped in (
+    let w : Hand = hand v.parts (v.put ++ x ∷ []) v.popped in (
       w,
       (
         (let s = total_set (λ (u : Hand). u.parts) views seat v w at in let p = b.0 in omega arith),
@@ -43,15 +43,15 @@ puts n seat v x some_part items views room b at =
             let s = total_set (λ (u : Hand). total h u.put) views seat v w at in
             let t = total_set (λ (u : Hand). total h u.popped) views seat v w at in
             let p = b.1 h in
-            omega (arith, total_append h v.put (x.no ∷ []), ap (total h) (numbers_snoc items x), total_append h (numbers items) (x.no ∷ []))),
+            omega (arith, total_append h v.put (x ∷ []), total_append h items (x ∷ []))),
         idle_set views seat w (λ none. absurd (omega arith)) b.2,
       ),
       refl,
     )
 
-pub pops : (seat : ℕ) (v : Hand) → 0 < v.parts → Pops Balanced seat v (λ x w. w ≡ hand v.parts v.put (v.popped ++ x.no ∷ []))
+pub pops : (seat : ℕ) (v : Hand) → 0 < v.parts → Pops Balanced seat v (λ x w. w ≡ hand v.parts v.put (v.popped ++ x ∷ []))
 pops seat v some_part x items views b at =
-    let w : Hand = hand v.parts v.put (v.popped ++ x.no ∷ []) in (
+    let w : Hand = hand v.parts v.put (v.popped ++ x ∷ []) in (
       w,
       (
         (let s = total_set (λ (u : Hand). u.parts) views seat v w at in let p = b.0 in omega arith),
@@ -59,7 +59,7 @@ pops seat v some_part x items views b at =
             let s = total_set (λ (u : Hand). total h u.put) views seat v w at in
             let t = total_set (λ (u : Hand). total h u.popped) views seat v w at in
             let p = b.1 h in
-            omega (arith, total_append h v.popped (x.no ∷ []))),
+            omega (arith, total_append h v.popped (x ∷ []))),
         idle_set views seat w (λ none. absurd (omega arith)) b.2,
       ),
       refl,
@@ -114,7 +114,7 @@ alone f (x ∷ xs) (suc seat) v zeros at all idle =
     let none : x.parts ≡ 0 = omega (arith, rest, all) in
     omega (arith, zeros x (idle 0 x refl none), alone f xs seat v zeros at (omega (arith, all, none)) (λ j. idle (suc j)))
 
-pub learns : (seat : ℕ) (v : Hand) → v.parts ≡ 18446744073709551616 → Learns Balanced seat v (λ items. (h : ℕ → ℕ) → total h v.put ≡ total h v.popped + total h (numbers items))
+pub learns : (seat : ℕ) (v : Hand) → v.parts ≡ 18446744073709551616 → Learns Balanced seat v (λ items. (h : Job → ℕ) → total h v.put ≡ total h v.popped + total h items)
 learns seat v all items views b at h =
     let p = alone (λ (u : Hand). total h u.put) views seat v (λ u e. ap (total h) e.0) at (b.0 ∙ sym all) b.2 in
     let q = alone (λ (u : Hand). total h u.popped) views seat v (λ u e. ap (total h) e.1) at (b.0 ∙ sym all) b.2 in
@@ -123,4 +123,4 @@ learns seat v all items views b at h =
 pub pops_of_all : (seat : ℕ) (v : Hand) → v.parts ≡ 18446744073709551616 → Pops Balanced seat v (PoppedOf v)
 pops_of_all seat v all x items views b at =
     let r = pops seat v (omega (arith, all)) x items views b at in
-    (r.0, r.1, (r.2, (numbers items, λ h. omega (arith, learns seat v all (x ∷ items) views b at h))))
+    (r.0, r.1, (r.2, (items, λ h. omega (arith, learns seat v all (x ∷ items) views b at h))))

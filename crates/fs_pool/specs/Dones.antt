@@ -1,13 +1,19 @@
 -- What workers hand back.
-use Rattle.std.specs.Prelude.{ℕ, zero, suc, ◌+◌, List, [], ◌∷◌, map, Result, Ok, Err, Vec}
+use Rattle.std.specs.Prelude.{◌≡◌, ℕ, zero, suc, ◌+◌, List, [], ◌∷◌, map, Result, Ok, Err, Vec}
 use Rattle.fs_machine.specs.declared.answers.Refusal.{Refusal}
 use Rattle.fs_share.specs.declared.session.Answer.{Answer}
 use Rattle.fs_pool.specs.declared.done.Done.{Done}
+use Rattle.fs_pool.specs.declared.queue.Hand.{Hand}
 use Rattle.fs_pool.specs.Jobs.{total}
+use Rattle.fs_pool.specs.Jobs.{numbers as job_numbers}
 
 -- the numbers of the jobs that are done
 abbrev pub numbers : List Done → List ℕ
 numbers dones = map (λ d. d.no) dones
+
+-- a worker's hand has popped the jobs that are done, and put none
+abbrev pub HasDone : Hand → List Done → Type 0
+HasDone v dones = (v.parts ≡ 1) × (v.put ≡ []) × (job_numbers v.popped ≡ numbers dones)
 
 -- an answer that is Ok counts for one
 abbrev pub one_if_ok : Result Answer Refusal → ℕ

@@ -6,7 +6,7 @@ use Rattle.fs_pool.specs.declared.job.Job.{Job}
 use Rattle.fs_pool.specs.declared.queue.Hand.{Hand}
 
 -- a hand that has so many parts of the queue, and has put and popped these jobs
-abbrev pub hand : ℕ → List ℕ → List ℕ → Hand
+abbrev pub hand : ℕ → List Job → List Job → Hand
 hand parts put popped = record { parts = parts; put = put; popped = popped }
 
 -- f of each, added up
@@ -14,9 +14,13 @@ abbrev pub total : {X : Type 0} → (X → ℕ) → List X → ℕ
 total f [] = 0
 total f (x ∷ xs) = f x + total f xs
 
--- each counts for one
+-- each number counts for one
 abbrev pub one : ℕ → ℕ
 one n = 1
+
+-- each job counts for one
+abbrev pub each : Job → ℕ
+each j = 1
 
 -- a hand with all parts, before the first job
 abbrev pub start : Hand
@@ -34,9 +38,9 @@ IdleIsEmpty views = (seat : ℕ) (v : Hand) → get_elem? views seat ≡ some v 
 abbrev pub Balanced : List Job → List Hand → Type 0
 Balanced items views =
     (total (λ (v : Hand). v.parts) views ≡ 18446744073709551616)
-    × ((h : ℕ → ℕ) → total (λ (v : Hand). total h v.put) views ≡ total (λ (v : Hand). total h v.popped) views + total h (numbers items))
+    × ((h : Job → ℕ) → total (λ (v : Hand). total h v.put) views ≡ total (λ (v : Hand). total h v.popped) views + total h items)
     × IdleIsEmpty views
 
 -- the job was popped, and what was put is what had been popped, the job, and some rest
 abbrev pub PoppedOf : Hand → Job → Hand → Type 0
-PoppedOf v x w = (w ≡ hand v.parts v.put (v.popped ++ x.no ∷ [])) × ((rest : List ℕ) × ((h : ℕ → ℕ) → total h v.put ≡ total h v.popped + h x.no + total h rest))
+PoppedOf v x w = (w ≡ hand v.parts v.put (v.popped ++ x ∷ [])) × ((rest : List Job) × ((h : Job → ℕ) → total h v.put ≡ total h v.popped + h x + total h rest))

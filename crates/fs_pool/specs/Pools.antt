@@ -4,15 +4,16 @@ use Rattle.fs_calls.specs.declared.call.Call.{Call}
 use Rattle.fs_pool.specs.declared.job.Job.{Job}
 use Rattle.fs_pool.specs.Jobs.{total}
 
--- how many jobs it was given, those that wait, and how many may
+-- how many jobs it was given, those that wait, how many may, and how many sessions it made
 pub record Jobs : Type 0 where
   pub submitted : ℕ
   pub waiting : List Job
   pub capacity : ℕ
+  pub sessions : ℕ
 
 -- with one more job, whose number is that of the jobs before it
 abbrev pub with_job : Call → Jobs → Jobs
-with_job call jobs = record { submitted = jobs.submitted + 1; waiting = jobs.waiting ++ record { no = jobs.submitted; call = call } ∷ []; capacity = jobs.capacity }
+with_job call jobs = record { submitted = jobs.submitted + 1; waiting = jobs.waiting ++ record { no = jobs.submitted; call = call } ∷ []; capacity = jobs.capacity; sessions = jobs.sessions }
 
 -- how often a number is in a list
 abbrev pub times : ℕ → List ℕ → ℕ

@@ -2,7 +2,7 @@
 
 ghost use Rattle.std.specs.Prelude.{◌≡◌, ℕ, ◌+◌, ◌<◌, ◌≤◌, ◌^◌, IsTrue, vec_capacity, vec_len};
 ghost use Rattle.crossbeam_queue.specs.Passes.{view, IsPassOf, IsSamePass};
-ghost use Rattle.fs_pool.specs.Jobs.{numbers, one, total};
+ghost use Rattle.fs_pool.specs.Jobs.{each, total};
 
 use crate::job::Job;
 use crate::queue::{JobPass, JobQueue, put_job, take_back};
@@ -15,7 +15,7 @@ fn put_last<R: Wait>(rt: &R, queue: &JobQueue, pass: &mut JobPass, waiting: &mut
     ensures queue { IsSamePass pass.old pass.new }
     ensures parts { (view pass.new).parts ≡ (view pass.old).parts }
     ensures popped { (view pass.new).popped ≡ (view pass.old).popped }
-    ensures put { (h : ℕ → ℕ) → total h (numbers waiting.new.items) + total h (view pass.new).put ≡ total h (numbers waiting.old.items) + total h (view pass.old).put }
+    ensures put { (h : Job → ℕ) → total h waiting.new.items + total h (view pass.new).put ≡ total h waiting.old.items + total h (view pass.old).put }
     ensures places { vec_capacity waiting.new ≡ vec_capacity waiting.old }
     ensures fewer { IsTrue result → vec_len waiting.new < vec_len waiting.old }
 {
@@ -38,7 +38,7 @@ pub(crate) fn put_all<R: Wait>(rt: &R, queue: &JobQueue, pass: &mut JobPass, wai
     ensures queue { IsSamePass pass.old pass.new }
     ensures parts { (view pass.new).parts ≡ (view pass.old).parts }
     ensures popped { (view pass.new).popped ≡ (view pass.old).popped }
-    ensures put { (h : ℕ → ℕ) → total h (numbers waiting.new.items) + total h (view pass.new).put ≡ total h (numbers waiting.old.items) + total h (view pass.old).put }
+    ensures put { (h : Job → ℕ) → total h waiting.new.items + total h (view pass.new).put ≡ total h waiting.old.items + total h (view pass.old).put }
     ensures places { vec_capacity waiting.new ≡ vec_capacity waiting.old }
 {
     waiting.reverse();
@@ -55,11 +55,11 @@ pub(crate) fn take_all_back<R: Wait>(
 )
     requires queue { IsPassOf queue.now pass.old }
     requires all { (view pass.old).parts ≡ 2 ^ 64 }
-    requires places { total one (numbers waiting.old.items) + total one (view pass.old).put ≤ vec_capacity waiting.old + total one (view pass.old).popped }
+    requires places { total each waiting.old.items + total each (view pass.old).put ≤ vec_capacity waiting.old + total each (view pass.old).popped }
     ensures queue { IsSamePass pass.old pass.new }
     ensures parts { (view pass.new).parts ≡ 2 ^ 64 }
-    ensures taken { (h : ℕ → ℕ) → total h (numbers waiting.new.items) + total h (view pass.old).popped ≡ total h (numbers waiting.old.items) + total h (view pass.old).put }
-    ensures empty { (h : ℕ → ℕ) → total h (view pass.new).put ≡ total h (view pass.new).popped }
+    ensures taken { (h : Job → ℕ) → total h waiting.new.items + total h (view pass.old).popped ≡ total h waiting.old.items + total h (view pass.old).put }
+    ensures empty { (h : Job → ℕ) → total h (view pass.new).put ≡ total h (view pass.new).popped }
     ensures places { vec_capacity waiting.new ≡ vec_capacity waiting.old }
 {
     for _ in rt.forever() {

@@ -3,6 +3,7 @@
 ghost use Rattle.std.specs.Prelude.{◌≡◌, ℕ, ◌+◌, ◌<◌, ◌≤◌, ◌^◌, [], length, vec_len, vec_capacity, sum_by, IfOk, OnOk, OnErr, IfErr, Err};
 ghost use Rattle.std.specs.List.Sorted.{IsNonDecreasingBy};
 ghost use Rattle.crossbeam_queue.specs.Passes.{view as hand_of, IsPassOf};
+ghost use Rattle.fs_pool.specs.declared.job.Job.{Job};
 ghost use Rattle.fs_pool.specs.Dones.{numbers, ok_count, below};
 ghost use Rattle.fs_pool.specs.Jobs.{total};
 ghost use Rattle.fs_pool.specs.Jobs.{numbers as job_numbers};
@@ -31,13 +32,16 @@ pub struct Pool<N: Named> {
     done: Vec<Done>,
     tallies: Vec<Tally<N>>,
     next: u64,
+    /// How many sessions it made.
+    sessions: usize,
     ghost seated: { IsPassOf queue pass },
     ghost whole: { (hand_of pass).parts ≡ 2 ^ 64 },
-    ghost empty: { (h : ℕ → ℕ) → total h (hand_of pass).put ≡ total h (hand_of pass).popped },
+    ghost empty: { (h : Job → ℕ) → total h (hand_of pass).put ≡ total h (hand_of pass).popped },
     ghost once: { (h : ℕ → ℕ) → total h (numbers done.items) + total h (job_numbers waiting.items) ≡ below h next },
     ghost answered: { ok_count done.items ≡ sum_by (λ tally. tally.count) tallies.items },
     ghost places: { next ≤ vec_capacity done },
     ghost bounded: { vec_len waiting ≤ capacity },
+    ghost ended: { vec_len tallies ≡ sessions },
 }
 
 impl<N: Named> Model for Pool<N> {
@@ -45,7 +49,7 @@ impl<N: Named> Model for Pool<N> {
 
     ghost Value = { Jobs };
 
-    ghost view = { λ pool. record { submitted = pool.next; waiting = pool.waiting.items; capacity = pool.capacity } };
+    ghost view = { λ pool. record { submitted = pool.next; waiting = pool.waiting.items; capacity = pool.capacity; sessions = pool.sessions } };
 }
 
 /// Why a job was not taken. Its call comes back.
@@ -74,7 +78,7 @@ impl<N: Named> Pool<N> {
     /// A pool in which at most so many jobs wait at a time. The only error is out of memory.
     pub fn new<R: Wait>(_rt: &R, alloc: Global, capacity: usize) -> Result<Pool<N>, AllocError>
         requires { 0 < capacity }
-        ensures { IfOk result (λ pool. pool ≡ record { submitted = 0; waiting = []; capacity = capacity }) }
+        ensures { IfOk result (λ pool. pool ≡ record { submitted = 0; waiting = []; capacity = capacity; sessions = 0 }) }
     {
         let (queue, pass) = job_queue(alloc, capacity)?;
         Ok(Pool {
@@ -85,6 +89,7 @@ impl<N: Named> Pool<N> {
             done: Vec::new(alloc),
             tallies: Vec::new(alloc),
             next: 0,
+            sessions: 0,
         })
     }
 
@@ -133,6 +138,12 @@ impl<N: Named> Pool<N> {
         N: Send + Sync,
         ensures numbers { (self.new.submitted ≡ self.old.submitted) × (self.new.capacity ≡ self.old.capacity) }
         ensures err { OnErr result (self.new ≡ self.old) }
+
+        // Each job that still waits is one that waited, with its call: no more of any kind are left than there were.
+        ensures waiting { (h : Job → ℕ) → total h self.new.waiting ≤ total h self.old.waiting }
+
+        // At least one session was made, and no more than were asked for.
+        ensures sessions { OnOk result ((self.old.sessions < self.new.sessions) × (self.new.sessions ≤ self.old.sessions + workers)) }
     {
         let Pool {
             queue,
@@ -140,6 +151,7 @@ impl<N: Named> Pool<N> {
             waiting,
             done,
             tallies,
+            sessions,
             ..
         } = self;
         if tallies.reserve(workers).is_err() {
@@ -152,11 +164,13 @@ impl<N: Named> Pool<N> {
         if workers.is_empty() {
             return Err(NoWorker);
         }
+        let made = workers.len();
         put_all(rt, queue, pass, waiting);
         work_all(rt, alloc, queue, workers.as_mut_slice(), gate);
         end_all(queue, pass, workers, tallies, &mut lists);
         take_all_back(rt, queue, pass, waiting);
         add_all(done, lists);
+        *sessions += made;
         Ok(())
     }
 
@@ -166,6 +180,9 @@ impl<N: Named> Pool<N> {
         ensures order { IsNonDecreasingBy (λ done. done.no) result.done.items }
         ensures left { result.left.items ≡ self.waiting }
         ensures answered { ok_count result.done.items ≡ sum_by (λ tally. tally.count) result.tallies.items }
+
+        // There is a tally for each session that was made.
+        ensures ended { vec_len result.tallies ≡ self.sessions }
     {
         let Pool {
             waiting,

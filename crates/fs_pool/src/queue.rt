@@ -11,12 +11,12 @@ use std::alloc::{AllocError, Global};
 use std::collections::LinkedList;
 use std::sync::Wait;
 
-/// What a pass has put and popped, by the numbers of the jobs, and its parts of the right to know the whole. No value of it is
+/// The jobs that a pass has put and popped, and its parts of the right to know the whole. No value of it is
 /// made.
 pub struct Hand {
     pub parts: u64,
-    pub put: LinkedList<u64>,
-    pub popped: LinkedList<u64>,
+    pub put: LinkedList<Job>,
+    pub popped: LinkedList<Job>,
 }
 
 /// The rule of the queue: what was put is what was popped and what the queue holds.
@@ -58,7 +58,7 @@ impl Outcome<Job, Hand> for Puts {
     ghost use Rattle.std.specs.Prelude.{◌≡◌, ◌∷◌, ◌++◌, []};
     ghost use Rattle.fs_pool.specs.Jobs.{hand};
 
-    ghost then = { λ v x w. w ≡ hand v.parts (v.put ++ x.no ∷ []) v.popped };
+    ghost then = { λ v x w. w ≡ hand v.parts (v.put ++ x ∷ []) v.popped };
 }
 
 impl Lesson<Job, Hand> for Puts {
@@ -72,7 +72,7 @@ impl Outcome<Job, Hand> for Pops {
     ghost use Rattle.std.specs.Prelude.{◌≡◌, ◌∷◌, ◌++◌, []};
     ghost use Rattle.fs_pool.specs.Jobs.{hand};
 
-    ghost then = { λ v x w. w ≡ hand v.parts v.put (v.popped ++ x.no ∷ []) };
+    ghost then = { λ v x w. w ≡ hand v.parts v.put (v.popped ++ x ∷ []) };
 }
 
 impl Lesson<Job, Hand> for Pops {
@@ -90,9 +90,10 @@ impl Outcome<Job, Hand> for Rest {
 
 impl Lesson<Job, Hand> for Rest {
     ghost use Rattle.std.specs.Prelude.{◌≡◌, ◌+◌, ℕ};
-    ghost use Rattle.fs_pool.specs.Jobs.{numbers, total};
+    ghost use Rattle.fs_pool.specs.declared.job.Job.{Job};
+    ghost use Rattle.fs_pool.specs.Jobs.{total};
 
-    ghost fact = { λ v items. (h : ℕ → ℕ) → total h v.put ≡ total h v.popped + total h (numbers items) };
+    ghost fact = { λ v items. (h : Job → ℕ) → total h v.put ≡ total h v.popped + total h items };
 }
 
 /// The queue of a pool's jobs. A pool keeps its queue, and hands out neither it nor a pass: both types, and `take_job`, are there
@@ -107,7 +108,7 @@ pub fn take_job<R: Wait>(rt: &R, queue: &JobQueue, pass: &mut JobPass) -> Option
     requires queue { IsPassOf queue.now pass.old }
     requires part { 0 < (view pass.old).parts }
     ensures queue { IsSamePass pass.old pass.new }
-    ensures popped { MatchOption result (view pass.new ≡ view pass.old) (λ j. view pass.new ≡ hand (view pass.old).parts (view pass.old).put ((view pass.old).popped ++ j.0 ∷ [])) }
+    ensures popped { MatchOption result (view pass.new ≡ view pass.old) (λ j. view pass.new ≡ hand (view pass.old).parts (view pass.old).put ((view pass.old).popped ++ record { no = j.0; call = j.1 } ∷ [])) }
 {
     let job = queue.pop_as::<Pops, R>(rt, pass)?;
     Some((job.no, job.call))
@@ -123,7 +124,7 @@ pub(crate) fn put_job<R: Wait>(
     requires queue { IsPassOf queue.now pass.old }
     requires part { 0 < (view pass.old).parts }
     ensures queue { IsSamePass pass.old pass.new }
-    ensures put { MatchResult result (λ _. view pass.new ≡ hand (view pass.old).parts ((view pass.old).put ++ job.no ∷ []) (view pass.old).popped) (λ j. (j ≡ job) × (view pass.new ≡ view pass.old)) }
+    ensures put { MatchResult result (λ _. view pass.new ≡ hand (view pass.old).parts ((view pass.old).put ++ job ∷ []) (view pass.old).popped) (λ j. (j ≡ job) × (view pass.new ≡ view pass.old)) }
 {
     queue.push_as::<Puts, R>(rt, pass, job)
 }
@@ -133,7 +134,7 @@ pub(crate) fn take_back<R: Wait>(rt: &R, queue: &JobQueue, pass: &mut JobPass) -
     requires queue { IsPassOf queue.now pass.old }
     requires all { (view pass.old).parts ≡ 2 ^ 64 }
     ensures queue { IsSamePass pass.old pass.new }
-    ensures popped { MatchOption result ((view pass.new ≡ view pass.old) × ((h : ℕ → ℕ) → total h (view pass.old).put ≡ total h (view pass.old).popped)) (λ j. PoppedOf (view pass.old) j (view pass.new)) }
+    ensures popped { MatchOption result ((view pass.new ≡ view pass.old) × ((h : Job → ℕ) → total h (view pass.old).put ≡ total h (view pass.old).popped)) (λ j. PoppedOf (view pass.old) j (view pass.new)) }
 {
     queue.pop_as::<Rest, R>(rt, pass)
 }

@@ -2,8 +2,10 @@
 
 ghost use Rattle.std.specs.Prelude.{◌≡◌, ℕ, ◌+◌, ◌-◌, ◌<◌, ◌≤◌, [], All, length, vec_len, vec_capacity, sum_by, MatchOption};
 ghost use Rattle.crossbeam_queue.specs.Passes.{view, IsPassOf, IsSamePass};
-ghost use Rattle.fs_pool.specs.Dones.{numbers, one_if_ok, ok_count, number_total, ok_total};
+ghost use Rattle.fs_pool.specs.declared.job.Job.{Job};
+ghost use Rattle.fs_pool.specs.Dones.{HasDone, one_if_ok, ok_count, number_total, ok_total};
 ghost use Rattle.fs_pool.specs.Jobs.{hand, total};
+ghost use Rattle.fs_pool.specs.Jobs.{numbers as job_numbers};
 
 use crate::done::Done;
 use crate::job::JobNo;
@@ -22,7 +24,7 @@ pub(crate) struct Worker<'a, N: Named> {
     pass: JobPass,
     session: Session<'a, N>,
     answers: Vec<Done>,
-    ghost popped: { view pass ≡ hand 1 [] (numbers answers.items) },
+    ghost popped: { HasDone (view pass) answers.items },
     ghost counted: { session.count ≡ ok_count answers.items },
 }
 
@@ -53,10 +55,10 @@ fn work_on<N: Named, R: Wait + Clock, G: Gate>(
     gate: &G,
 )
     requires queue { IsPassOf queue.now pass.old }
-    requires popped { view pass.old ≡ hand 1 [] (numbers answers.old.items) }
+    requires popped { HasDone (view pass.old) answers.old.items }
     requires counted { session.old.count ≡ ok_count answers.old.items }
     ensures queue { IsPassOf queue.now pass.new }
-    ensures popped { view pass.new ≡ hand 1 [] (numbers answers.new.items) }
+    ensures popped { HasDone (view pass.new) answers.new.items }
     ensures counted { session.new.count ≡ ok_count answers.new.items }
 {
     for _ in rt.forever() {
@@ -176,8 +178,10 @@ pub(crate) fn end_all<'a, N: Named>(
     requires places { (vec_len tallies.old + vec_len workers ≤ vec_capacity tallies.old) × (vec_len lists.old + vec_len workers ≤ vec_capacity lists.old) }
     ensures queue { IsSamePass pass.old pass.new }
     ensures parts { (view pass.new).parts ≡ (view pass.old).parts + vec_len workers.entry }
-    ensures put { (h : ℕ → ℕ) → total h (view pass.new).put ≡ total h (view pass.old).put }
-    ensures popped { (h : ℕ → ℕ) → total h (view pass.new).popped + number_total h lists.old.items ≡ total h (view pass.old).popped + number_total h lists.new.items }
+    ensures put { (h : Job → ℕ) → total h (view pass.new).put ≡ total h (view pass.old).put }
+    ensures more { (h : Job → ℕ) → total h (view pass.old).popped ≤ total h (view pass.new).popped }
+    ensures popped { (h : ℕ → ℕ) → total h (job_numbers (view pass.new).popped) + number_total h lists.old.items ≡ total h (job_numbers (view pass.old).popped) + number_total h lists.new.items }
+    ensures ended { vec_len tallies.new ≡ vec_len tallies.old + vec_len workers.entry }
     ensures counted { sum_by (λ tally. tally.count) tallies.new.items + ok_total lists.old.items ≡ sum_by (λ tally. tally.count) tallies.old.items + ok_total lists.new.items }
 {
     let mut workers = workers;

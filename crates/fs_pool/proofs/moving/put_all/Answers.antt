@@ -1,5 +1,5 @@
 use Rattle.std.proofs.Common.{arith}
-use Rattle.fs_pool.proofs.Totals.{jobs_permuted}
+use Rattle.fs_pool.proofs.Totals.{total_permuted}
 use Rattle.fs_pool.proofs.moving.put_all.Goals as goal
 
 pub returns-clause-put : goal.returns-clause-put
@@ -7,7 +7,7 @@ returns-clause-put g c h =
     omega (
       arith,
       c.loop.invariant.4 h,
-      jobs_permuted h _ _ c.reverse.ensures.permutation,
-      jobs_permuted h _ _ c.reverse-2.ensures.permutation,
+      total_permuted h _ _ c.reverse.ensures.permutation,
+      total_permuted h _ _ c.reverse-2.ensures.permutation,
       c.put_last.ensures.put h,
     )

@@ -2,15 +2,15 @@ use Rattle.std.proofs.Common.{rules, arith, ◌≡◌, ℕ, ◌+◌, List, [], �
 use Rattle.crossbeam_queue.specs.Passes.{view}
 use Rattle.fs_pool.specs.declared.job.Job.{Job}
 use Rattle.fs_pool.specs.declared.queue.Hand.{Hand}
-use Rattle.fs_pool.specs.Jobs.{numbers, one, total}
+use Rattle.fs_pool.specs.Jobs.{each, total}
 use Rattle.fs_pool.proofs.Keeps.{total_append}
-use Rattle.fs_pool.proofs.Totals.{jobs_snoc, jobs_counted}
+use Rattle.fs_pool.proofs.Totals.{total_snoc, each_counted}
 use Rattle.fs_pool.proofs.moving.take_all_back.Goals as goal
 
 pub push_reserved-requires : goal.push_reserved-requires
 push_reserved-requires g c =
     let some = c.in-Some-take_back.ensures.popped in
-    omega (arith, c.loop.invariant.4, some.1.1 one, jobs_counted c.loop.waiting.items, c.loop.waiting.ok.0)
+    omega (arith, c.loop.invariant.4, some.1.1 each, each_counted c.loop.waiting.items, c.loop.waiting.ok.0)
 
 pub loop-preserved : goal.loop-preserved
 loop-preserved g c =
@@ -19,15 +19,15 @@ loop-preserved g c =
     let some = c.in-Some-take_back.ensures.popped in
     let items = c.push_reserved.ensures.items in
     let put : (view c.take_back.new.pass).put ≡ (view c.loop.pass).put = ap (λ (v : Hand). v.put) some.0 in
-    let more : (h : ℕ → ℕ) → total h (view c.take_back.new.pass).popped ≡ total h (view c.loop.pass).popped + h job.no =
-    (λ h. omega (arith, ap (λ (v : Hand). total h v.popped) some.0, total_append h (view c.loop.pass).popped (job.no ∷ []))) in
-    let held : (h : ℕ → ℕ) → total h (numbers c.push_reserved.new.self.items) ≡ total h (numbers c.loop.waiting.items) + h job.no =
-    (λ h. ap (λ (l : List Job). total h (numbers l)) items ∙ jobs_snoc h c.loop.waiting.items job) in (
+    let more : (h : Job → ℕ) → total h (view c.take_back.new.pass).popped ≡ total h (view c.loop.pass).popped + h job =
+    (λ h. omega (arith, ap (λ (v : Hand). total h v.popped) some.0, total_append h (view c.loop.pass).popped (job ∷ []))) in
+    let held : (h : Job → ℕ) → total h c.push_reserved.new.self.items ≡ total h c.loop.waiting.items + h job =
+    (λ h. ap (λ (l : List Job). total h l) items ∙ total_snoc h c.loop.waiting.items job) in (
       search rules,
       search rules,
       ap (λ (v : Hand). v.parts) some.0 ∙ was.2,
       put ∙ was.3,
-      omega (arith, was.4, held one, more one, c.push_reserved.ensures.capacity, ap (total one) put),
+      omega (arith, was.4, held each, more each, c.push_reserved.ensures.capacity, ap (total each) put),
       (λ h. omega (arith, was.5 h, held h, more h)),
       c.push_reserved.ensures.capacity ∙ was.6,
     )

@@ -1,6 +1,7 @@
 use Rattle.std.proofs.Common.{◌≡◌, ℕ, ◌+◌, ◌≤◌, vec_capacity}
 use Rattle.crossbeam_queue.specs.Passes.{view, IsPassOf, IsSamePass}
-use Rattle.fs_pool.specs.Jobs.{numbers, one, total}
+use Rattle.fs_pool.specs.declared.job.Job.{Job}
+use Rattle.fs_pool.specs.Jobs.{each, total}
 use Rattle.fs_pool.proofs.moving.take_all_back.Given as goal
 
 abbrev pub invariant-loop : goal.invariant-loop
@@ -9,6 +10,6 @@ invariant-loop g l =
     × IsSamePass l.initial.pass l.pass
     × ((view l.pass).parts ≡ (view l.initial.pass).parts)
     × ((view l.pass).put ≡ (view l.initial.pass).put)
-    × (total one (numbers l.waiting.items) + total one (view l.pass).put ≤ vec_capacity l.waiting + total one (view l.pass).popped)
-    × ((h : ℕ → ℕ) → total h (numbers l.waiting.items) + total h (view l.initial.pass).popped ≡ total h (numbers l.initial.waiting.items) + total h (view l.pass).popped)
+    × (total each l.waiting.items + total each (view l.pass).put ≤ vec_capacity l.waiting + total each (view l.pass).popped)
+    × ((h : Job → ℕ) → total h l.waiting.items + total h (view l.initial.pass).popped ≡ total h l.initial.waiting.items + total h (view l.pass).popped)
     × (vec_capacity l.waiting ≡ vec_capacity l.initial.waiting)

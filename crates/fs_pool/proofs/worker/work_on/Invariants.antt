@@ -1,8 +1,7 @@
-use Rattle.std.proofs.Common.{◌≡◌, []}
+use Rattle.std.proofs.Common.{◌≡◌}
 use Rattle.crossbeam_queue.specs.Passes.{view, IsPassOf}
-use Rattle.fs_pool.specs.Dones.{numbers, ok_count}
-use Rattle.fs_pool.specs.Jobs.{hand}
+use Rattle.fs_pool.specs.Dones.{HasDone, ok_count}
 use Rattle.fs_pool.proofs.worker.work_on.Given as goal
 
 abbrev pub invariant-loop : goal.invariant-loop
-invariant-loop g l = IsPassOf l.queue l.pass × (view l.pass ≡ hand 1 [] (numbers l.answers.items)) × (l.session.count ≡ ok_count l.answers.items)
+invariant-loop g l = IsPassOf l.queue l.pass × HasDone (view l.pass) l.answers.items × (l.session.count ≡ ok_count l.answers.items)

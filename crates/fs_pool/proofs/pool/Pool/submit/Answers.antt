@@ -37,7 +37,7 @@ invariant_of-self-inside-2 g c =
               ap ok_count done.items ∙ s.answered,
               (
                 omega (arith, room, numbered, dones_counted s.done.items, jobs_counted s.waiting.items, s.done.ok.0, s.waiting.ok.0, below_one s.next, done.len, c.len-count.ensures),
-                search rules,
+                (search rules, (s.ended, tt)),
               ),
             ),
           ),
