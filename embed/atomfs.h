@@ -69,7 +69,7 @@ enum {
     ATOMFS_BAD_LINE = 17,     /* a line has a form that none has at its place, or the call of a request is none */
     ATOMFS_BAD_THREAD = 18,   /* the name of a thread is none */
     ATOMFS_THREAD_TWICE = 19, /* a thread has two blocks */
-    ATOMFS_BAD_PATH = 20,     /* a word, or the bytes of a typed call, are no path */
+    ATOMFS_BAD_PATH = 20,     /* a word, or the bytes of a typed call, are no path; atomfs_check_path says why */
     ATOMFS_BAD_NUMBER = 21,   /* a word is no number */
     ATOMFS_BAD_HEX = 22,      /* a word is neither - nor pairs of hexadecimal digits */
     ATOMFS_NO_SCHEDULE = 23,  /* a script ends without a line schedule */
@@ -77,6 +77,13 @@ enum {
     ATOMFS_TOO_LARGE = 25,    /* a limit of a text is passed */
     ATOMFS_BAD_REPLY = 26,    /* a reply of a journal is none */
     ATOMFS_BAD_START = 27,    /* the start tree of a journal is none */
+    /* Why bytes are no path, the first check that they fail: atomfs_check_path alone answers these. */
+    ATOMFS_PATH_NOT_ABSOLUTE = 28,   /* the first byte is no slash, or there is none */
+    ATOMFS_PATH_NUL = 29,            /* there is a byte 0 */
+    ATOMFS_PATH_NAME_TOO_LONG = 30,  /* a name has more bytes than the limits allow */
+    ATOMFS_PATH_TOO_MANY_NAMES = 31, /* there are more than 64 names */
+    ATOMFS_PATH_DOT = 32,            /* a name is . or .. */
+    ATOMFS_PATH_TRAILING_SLASH = 33, /* there is a name, and a slash at the end */
     /* The call returned with an error, which is in the journal, and the tree is as before: this and Linux's number of the
        error, as ATOMFS_FAILED + ENOENT. Errors are ENOENT, ENOTDIR, EEXIST, ENOTEMPTY, EISDIR, EINVAL, EBUSY, EPERM,
        ENOSPC (too many entries) and EFBIG. */
@@ -211,6 +218,12 @@ uint8_t atomfs_begin_call(atomfs *fs, uint64_t seat, const atomfs_request *reque
  * OK, CLOSED, NO_SEAT. By an error nothing has changed. */
 uint8_t atomfs_step(atomfs *fs, uint64_t seat, uint8_t *did, uint64_t *about);
 
+/* Does one step of a call that does not wait, whichever it is. *seat is its seat, *did one of ATOMFS_DID_, but never
+ * ATOMFS_DID_WAIT, and *about what it speaks of. Where no call is under way, and only there, *did is ATOMFS_DID_IDLE, and *seat
+ * stays as it was: as long as one is, some call goes on, so this in a loop brings every call to its return.
+ * OK, CLOSED. By an error nothing has changed. */
+uint8_t atomfs_step_any(atomfs *fs, uint64_t *seat, uint8_t *did, uint64_t *about);
+
 /* ---- Replies of calls that have returned
  *
  * Each tells the reply of the call of a number, as often as it is asked. It looks through the journal from its last entry
@@ -294,6 +307,14 @@ uint8_t atomfs_run(const char *script, size_t length, char *out, size_t room, si
 /* Checks a journal, and tells the verdict's line, as `atomfs check` prints it.
  * OK, TOO_SMALL, NO_MEMORY, and the faults of a journal, where *count is the line of the fault. */
 uint8_t atomfs_check(const char *journal, size_t length, char *out, size_t room, size_t *count);
+
+/* ---- Paths, without a handle */
+
+/* Says whether bytes are a path by the limits of a version, ATOMFS_V1 or ATOMFS_V2, and else why not: the first check that they
+ * fail, as where another function answers BAD_PATH.
+ * OK, PATH_NOT_ABSOLUTE, PATH_NUL, PATH_NAME_TOO_LONG, PATH_TOO_MANY_NAMES, PATH_DOT, PATH_TRAILING_SLASH, BAD_VERSION,
+ * NO_MEMORY. */
+uint8_t atomfs_check_path(const char *path, size_t length, uint8_t version);
 
 #ifdef __cplusplus
 }

@@ -25,6 +25,7 @@ uint8_t PROVED(truncate)(atomfs *, uint64_t, const char *, size_t, uint64_t, uin
 uint8_t PROVED(begin_call)(atomfs *, uint64_t, uint8_t, const char *, size_t, const char *, size_t, uint64_t, uint64_t,
                            const void *, size_t, uint64_t *);
 uint8_t PROVED(step)(atomfs *, uint64_t, uint8_t *, uint64_t *);
+uint8_t PROVED(step_any)(atomfs *, uint64_t *, uint8_t *, uint64_t *);
 uint8_t PROVED(reply_done)(atomfs *, uint64_t);
 uint8_t PROVED(reply_stat)(atomfs *, uint64_t, struct atomfs_stat *);
 uint8_t PROVED(reply_names)(atomfs *, uint64_t, const char *, size_t, char *, size_t, size_t *);
@@ -39,6 +40,7 @@ uint8_t PROVED(call)(atomfs *, uint64_t, const char *, size_t, char *, size_t, s
 uint8_t PROVED(reply)(atomfs *, uint64_t, char *, size_t, size_t *);
 uint8_t PROVED(run)(const char *, size_t, char *, size_t, size_t *);
 uint8_t PROVED(check)(const char *, size_t, char *, size_t, size_t *);
+uint8_t PROVED(check_path)(const char *, size_t, uint8_t);
 
 /* What stands at null for no bytes: nothing reads or writes it. */
 static char nothing;
@@ -186,6 +188,13 @@ uint8_t atomfs_step(atomfs *fs, uint64_t seat, uint8_t *did, uint64_t *about) {
     return PROVED(step)(fs, seat, did, about);
 }
 
+uint8_t atomfs_step_any(atomfs *fs, uint64_t *seat, uint8_t *did, uint64_t *about) {
+    uint8_t status;
+    if (refused(status = there(fs)) || refused(status = there(seat))) return status;
+    if (refused(status = there(did)) || refused(status = there(about))) return status;
+    return PROVED(step_any)(fs, seat, did, about);
+}
+
 uint8_t atomfs_reply_done(atomfs *fs, uint64_t number) {
     uint8_t status = there(fs);
     return refused(status) ? status : PROVED(reply_done)(fs, number);
@@ -253,6 +262,11 @@ uint8_t atomfs_reply(atomfs *fs, uint64_t number, char *out, size_t room, size_t
 ON_TEXT(run)
 ON_TEXT(check)
 
+uint8_t atomfs_check_path(const char *path, size_t length, uint8_t version) {
+    uint8_t status = bytes_there(path, length);
+    return refused(status) ? status : PROVED(check_path)(from(path), length, version);
+}
+
 const char *atomfs_version(void) { return ATOMFS_VERSION; }
 
 const char *atomfs_errno_name(uint8_t status) {
@@ -317,6 +331,12 @@ const char *atomfs_status_text(uint8_t status) {
     case ATOMFS_TOO_LARGE: return "a limit of a text is passed";
     case ATOMFS_BAD_REPLY: return "no reply";
     case ATOMFS_BAD_START: return "the start tree is none";
+    case ATOMFS_PATH_NOT_ABSOLUTE: return "the path does not begin with a slash";
+    case ATOMFS_PATH_NUL: return "the path has a byte 0";
+    case ATOMFS_PATH_NAME_TOO_LONG: return "a name of the path is too long";
+    case ATOMFS_PATH_TOO_MANY_NAMES: return "the path has more than 64 names";
+    case ATOMFS_PATH_DOT: return "a name of the path is . or ..";
+    case ATOMFS_PATH_TRAILING_SLASH: return "the path ends with a slash";
     default: return failed_text(status);
     }
 }

@@ -39,10 +39,18 @@ class Status(enum.IntEnum):
     TOO_LARGE = 25
     BAD_REPLY = 26
     BAD_START = 27
+    PATH_NOT_ABSOLUTE = 28
+    PATH_NUL = 29
+    PATH_NAME_TOO_LONG = 30
+    PATH_TOO_MANY_NAMES = 31
+    PATH_DOT = 32
+    PATH_TRAILING_SLASH = 33
 
 
 # From this status on a call failed, and the rest is the number of its error.
 FAILED = 128
+# No tree has a seat of this number.
+NO_SEAT = 2**64 - 1
 
 
 class Did(enum.IntEnum):
@@ -91,6 +99,7 @@ class Library:
             "seat": [handle, numbers],
             "begin": [handle, number, *text, numbers],
             "step": [handle, number, ctypes.POINTER(ctypes.c_uint8), numbers],
+            "step_any": [handle, numbers, ctypes.POINTER(ctypes.c_uint8), numbers],
             "call": [handle, number, *text, *told, numbers],
             "reply": [handle, number, *told],
             "journal": [handle, size, *told, sizes],
@@ -107,6 +116,7 @@ class Library:
             "reply_names": [handle, number, *text, *told],
             "run": [*text, *told],
             "check": [*text, *told],
+            "check_path": [*text, ctypes.c_uint8],
         }.items():
             function = getattr(self.lib, "atomfs_" + name)
             function.argtypes, function.restype = arguments, ctypes.c_uint8
@@ -130,6 +140,10 @@ class Library:
     def check(self, journal):
         """The line of the verdict on a journal."""
         return self.text(lambda *told: self.atomfs_check(journal, len(journal), *told))
+
+    def check_path(self, path, version=1):
+        """Whether bytes are a path by the limits of a version, or why they are none."""
+        return Status(self.atomfs_check_path(path, len(path), version))
 
 
 class Tree:
@@ -240,6 +254,12 @@ class Tree:
         did, about = ctypes.c_uint8(), ctypes.c_uint64()
         self.done(self.library.atomfs_step(self.handle, seat, did, about))
         return Did(did.value), about.value
+
+    def step_any(self):
+        """The seat whose call went on by a step, what it did, and what that speaks of; none of a seat where no call is under way."""
+        seat, did, about = ctypes.c_uint64(NO_SEAT), ctypes.c_uint8(), ctypes.c_uint64()
+        self.done(self.library.atomfs_step_any(self.handle, seat, did, about))
+        return None if seat.value == NO_SEAT else seat.value, Did(did.value), about.value
 
     def run(self, seat, line, room=256):
         """The number of a call that begins and returns, and its reply. A call is made once: a long reply is asked for again."""

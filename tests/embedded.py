@@ -1,9 +1,13 @@
-"""The library for C as it is built: its typed calls, and calls that break its rules as far as it answers them (typed.c), its header, what it exports
-and what is packed; the programs of examples/embed in C, Rust and Python, and the examples of docs/EMBEDDING.md and of the packages' pages.
+"""The library for C as it is built: its typed calls, and calls that break its rules as far as it answers them (typed.c), that some call always goes on,
+why bytes are no path, its header, what it exports and what is packed; the programs of examples/embed in C, Rust and Python, and the examples of
+docs/EMBEDDING.md and of the packages' pages.
 
 With LIBATOMFS the programs of this folder take another library: its shared object, beside which the archive stands.
 """
+import contextlib
+import itertools
 import pathlib
+import random
 import re
 import shutil
 import subprocess
@@ -11,7 +15,12 @@ import tarfile
 import tempfile
 import unittest
 
+import atomfs
+import drawn
+import events
+import grammar
 import harness
+from worked import KINDS
 
 HEADER = harness.ROOT / "embed" / "atomfs.h"
 TYPED = harness.ROOT / "tests" / "typed.c"
@@ -38,6 +47,12 @@ example_python: as bindings/python/README.md says
 readme_c: as README.md says
 readme_python: as README.md says
 """
+
+# How many runs are drawn, and how many events each has before its calls are left standing. A call that has begun returns within so many steps, whatever it does.
+RUNS, EVENTS, STEPS = 200, range(100, 400), 200
+# Of these drawn paths are put together, and how many there are.
+PIECES = [b"/", b"//", b"a", b"b/", b"/.", b"/..", b"/...", b"\0", *(b"/" + size * b"n" for size in (32, 33, 64, 65)), *(names * b"/m" for names in (63, 64, 65))]
+PATHS = 2_000
 
 
 def built():
@@ -87,6 +102,77 @@ class Typed(harness.Case):
         program = self.made("checked", LANGUAGES[0][1], "-g")
         valgrind = "valgrind", "-q", "--leak-check=full", "--show-leak-kinds=all", "--errors-for-leak-kinds=all", "--error-exitcode=9"
         self.same("typed.c under valgrind", said(*valgrind, program), self.WELL)
+
+
+class Progress(harness.Case):
+    """Drawn calls of several seats, left standing half-way, return by `step_any` alone: where a call is under way it steps one that goes on."""
+
+    def setUp(self):
+        self.library, self.under_way, self.waits = harness.library(), 0, 0
+
+    def look(self, number):
+        draw = random.Random(number)
+        with atomfs.Tree(self.library, 1_000) as tree:
+            run = events.Run(tree, drawn.moving(draw) if number % 2 else drawn.exchanging(draw))
+            for seat in itertools.islice(events.made_first(events.drawn)(draw, run.live), draw.choice(EVENTS)):
+                run.event(seat)
+            under_way = set(run.under_way)
+            self.under_way += len(under_way)
+            # A step of a call that waits changes nothing.
+            waits = {seat for seat in under_way if self.is_waiting(tree, run, seat)}
+            self.waits += len(waits)
+            under_way = set(run.under_way)
+            came = [tree.step_any() for _ in range(STEPS * len(under_way))] + [tree.step_any()]
+            returned = [seat for seat, did, _ in came if did == atomfs.Did.RETURN]
+            self.same(f"the seats of run {number} whose calls return", sorted(returned), sorted(under_way))
+            going = list(itertools.takewhile(lambda step: step[1] != atomfs.Did.IDLE, came))
+            self.same("what came of steps that go on", {step for step in going if step[0] not in under_way or step[1] == atomfs.Did.WAIT}, set())
+            self.same("what came behind them", set(came[len(going) :]), {(None, atomfs.Did.IDLE, 0)})
+            self.same("the verdict", self.library.check(tree.journal()), b"lawful\n")
+
+    @staticmethod
+    def is_waiting(tree, run, seat):
+        did = tree.step(seat)[0]
+        if did == atomfs.Did.RETURN:
+            run.under_way.remove(seat)
+        return did == atomfs.Did.WAIT
+
+    def test_calls_return(self):
+        self.each(((f"run_{number}", number) for number in range(RUNS)), self.look)
+        self.assertGreater(self.waits, 0)
+        self.assertGreater(self.under_way, self.waits)
+
+
+class Paths(harness.Case):
+    """`atomfs_check_path` says of drawn bytes what tests/grammar.py says, by both limits; and a call on them is refused for its path exactly where it does."""
+
+    def look(self, number):
+        draw = random.Random(number)
+        path = b"".join(draw.choice(PIECES) for _ in range(draw.randrange(1, 6)))
+        for version, limits in ((1, grammar.V1), (2, grammar.V2)):
+            try:
+                grammar.path(path, limits)
+                wanted = atomfs.Status.OK
+            except grammar.Fault as fault:
+                wanted = KINDS[fault.kind.replace("BadPath ", "Path")]
+            self.came.add(wanted)
+            self.same(f"{path} by version {version}", self.library.check_path(path, version), wanted)
+            refused = atomfs.Status.OK if wanted == atomfs.Status.OK else atomfs.Status.BAD_PATH
+            self.same(f"a stat of {path} by version {version}", self.refused(path, version), refused)
+
+    def refused(self, path, version):
+        """Why a stat of a path does not begin, if it does not."""
+        with atomfs.Tree(self.library, 2, version) as tree, contextlib.suppress(OSError):
+            try:
+                tree.stat(tree.seat(), path)
+            except atomfs.Error as error:
+                return error.status
+        return atomfs.Status.OK
+
+    def test_drawn(self):
+        self.library, self.came = harness.library(), set()
+        self.each(((f"path_{number}", number) for number in range(PATHS)), self.look)
+        self.same("the statuses that came", sorted(self.came), [status for status in atomfs.Status if status == atomfs.Status.OK or status.name.startswith("PATH_")])
 
 
 class Built(harness.Case):

@@ -126,6 +126,8 @@ static void refusals(void) {
     char many[2 * 65];
     for (int i = 0; i < 65; i++) memcpy(many + 2 * i, "/a", 2);
     IS(atomfs_stat(&fs, seat, many, sizeof many, &stat_, &number), ATOMFS_BAD_PATH);
+    IS(atomfs_check_path(many, sizeof many, ATOMFS_V1), ATOMFS_PATH_TOO_MANY_NAMES);
+    IS(atomfs_check_path(many, sizeof many - 2, ATOMFS_V1), ATOMFS_OK);
     FAILS(atomfs_stat(&fs, seat, many, sizeof many - 2, &stat_, &number), ENOENT_);
     IS(atomfs_unlink(&fs, seat, "/a\0b", 4, &number), ATOMFS_BAD_PATH);
     IS(atomfs_mkdir(&fs, 2, PATH("/a"), &number), ATOMFS_NO_SEAT);
@@ -235,6 +237,63 @@ static void waits(void) {
     IS(atomfs_reply_names(&fs, number, NULL, 0, out, sizeof out, &count), ATOMFS_OK);
     SAYS(out, count, "a\0");
     IS(atomfs_close(&fs), ATOMFS_OK);
+}
+
+/* Of two calls, the first of which waits for the second, the one that goes on is stepped, until both have returned. */
+static void some_step(void) {
+    uint8_t did = ATOMFS_DID_WAIT;
+    uint64_t about, stepped = 7;
+    open_fs(100);
+    IS(atomfs_step_any(&fs, &stepped, &did, &about), ATOMFS_OK);
+    IS(stepped, 7);
+    IS(did, ATOMFS_DID_IDLE);
+    IS(about, 0);
+    IS(atomfs_begin(&fs, other_seat, PATH("mkdir /a"), &number), ATOMFS_OK);
+    IS(atomfs_step(&fs, other_seat, &did, &about), ATOMFS_OK);
+    IS(atomfs_begin(&fs, seat, PATH("stat /a"), &number), ATOMFS_OK);
+    IS(atomfs_step_any(&fs, &stepped, &did, &about), ATOMFS_OK);
+    IS(stepped, other_seat);
+    IS(did, ATOMFS_DID_COMMIT);
+    IS(about, 0);
+    int steps = 0;
+    do {
+        IS(atomfs_step_any(&fs, &stepped, &did, &about), ATOMFS_OK);
+        IS(did == ATOMFS_DID_WAIT, 0);
+        steps++;
+    } while (did != ATOMFS_DID_IDLE);
+    IS(steps, 9);
+    IS(atomfs_reply_done(&fs, 1), ATOMFS_OK);
+    IS(atomfs_reply_stat(&fs, 2, &stat_), ATOMFS_OK);
+    IS(stat_.is_dir, 1);
+    IS(atomfs_close(&fs), ATOMFS_OK);
+}
+
+/* Why bytes are no path, by both limits, and its words. */
+static void checked_paths(void) {
+    static const struct {
+        const char *path;
+        size_t length;
+        uint8_t first, second;
+    } rows[] = {
+        { PATH("/"), ATOMFS_OK, ATOMFS_OK },
+        { PATH("//a/...//b"), ATOMFS_OK, ATOMFS_OK },
+        { NULL, 0, ATOMFS_PATH_NOT_ABSOLUTE, ATOMFS_PATH_NOT_ABSOLUTE },
+        { PATH("a/"), ATOMFS_PATH_NOT_ABSOLUTE, ATOMFS_PATH_NOT_ABSOLUTE },
+        { PATH("/./\0"), ATOMFS_PATH_NUL, ATOMFS_PATH_NUL },
+        { PATH("/123456789012345678901234567890123"), ATOMFS_PATH_NAME_TOO_LONG, ATOMFS_OK },
+        { PATH("/123456789012345678901234567890123/."), ATOMFS_PATH_NAME_TOO_LONG, ATOMFS_PATH_DOT },
+        { PATH("/a/../"), ATOMFS_PATH_DOT, ATOMFS_PATH_DOT },
+        { PATH("/a//"), ATOMFS_PATH_TRAILING_SLASH, ATOMFS_PATH_TRAILING_SLASH },
+    };
+    for (size_t i = 0; i < sizeof rows / sizeof *rows; i++) {
+        IS(atomfs_check_path(rows[i].path, rows[i].length, ATOMFS_V1), rows[i].first);
+        IS(atomfs_check_path(rows[i].path, rows[i].length, ATOMFS_V2), rows[i].second);
+    }
+    IS(atomfs_check_path(PATH("/"), 0), ATOMFS_BAD_VERSION);
+    IS(atomfs_check_path(PATH("a"), 3), ATOMFS_BAD_VERSION);
+    for (uint8_t status = ATOMFS_PATH_NOT_ABSOLUTE; status <= ATOMFS_PATH_TRAILING_SLASH; status++)
+        for (int other = 0; other < 256; other++)
+            if (other != status) IS(strcmp(atomfs_status_text(status), atomfs_status_text((uint8_t)other)) != 0, 1);
 }
 
 /* Bytes with no room change nothing, and all names come through a small buffer. */
@@ -381,6 +440,10 @@ static void nulls(void) {
     IS(atomfs_step(NULL, seat, &did, &about), ATOMFS_NULL);
     IS(atomfs_step(&fs, seat, NULL, &about), ATOMFS_NULL);
     IS(atomfs_step(&fs, seat, &did, NULL), ATOMFS_NULL);
+    IS(atomfs_step_any(NULL, &number, &did, &about), ATOMFS_NULL);
+    IS(atomfs_step_any(&fs, NULL, &did, &about), ATOMFS_NULL);
+    IS(atomfs_step_any(&fs, &number, NULL, &about), ATOMFS_NULL);
+    IS(atomfs_step_any(&fs, &number, &did, NULL), ATOMFS_NULL);
     IS(atomfs_reply_done(NULL, 1), ATOMFS_NULL);
     IS(atomfs_reply_stat(&fs, 1, NULL), ATOMFS_NULL);
     IS(atomfs_reply_names(&fs, 1, NULL, 1, out, sizeof out, &count), ATOMFS_NULL);
@@ -402,6 +465,7 @@ static void nulls(void) {
     IS(atomfs_run(NULL, 0, NULL, 0, &count), ATOMFS_BAD_HEADER);
     IS(atomfs_check(NULL, 1, out, sizeof out, &count), ATOMFS_NULL);
     IS(atomfs_check(NULL, 0, NULL, 0, &count), ATOMFS_BAD_HEADER);
+    IS(atomfs_check_path(NULL, 1, ATOMFS_V1), ATOMFS_NULL);
     size_t bad = SIZE_MAX / 2 + 1;
     IS(atomfs_mkdir(&fs, seat, "/a", bad, &number), ATOMFS_BAD_LENGTH);
     IS(atomfs_mkdir(&fs, seat, NULL, SIZE_MAX, &number), ATOMFS_BAD_LENGTH);
@@ -410,6 +474,7 @@ static void nulls(void) {
     IS(atomfs_write(&fs, seat, PATH("/a"), 0, "x", bad, &wrote, &number), ATOMFS_BAD_LENGTH);
     IS(atomfs_journal(&fs, 0, out, bad, &count, &entries), ATOMFS_BAD_LENGTH);
     IS(atomfs_check("", bad, out, sizeof out, &count), ATOMFS_BAD_LENGTH);
+    IS(atomfs_check_path("/", bad, ATOMFS_V1), ATOMFS_BAD_LENGTH);
     IS(atomfs_journal(&fs, 0, NULL, 0, &count, &entries), ATOMFS_OK);
     IS(entries, 0);
     IS(atomfs_close(&fs), ATOMFS_OK);
@@ -435,6 +500,7 @@ static void closed(void) {
     IS(atomfs_write(&fs, 0, PATH("/a"), 0, "x", 1, &wrote, &number), ATOMFS_CLOSED);
     IS(atomfs_begin_call(&fs, 0, &request, &number), ATOMFS_CLOSED);
     IS(atomfs_step(&fs, 0, &did, &about), ATOMFS_CLOSED);
+    IS(atomfs_step_any(&fs, &number, &did, &about), ATOMFS_CLOSED);
     IS(atomfs_reply_done(&fs, 1), ATOMFS_CLOSED);
     IS(atomfs_reply_stat(&fs, 1, &stat_), ATOMFS_CLOSED);
     IS(atomfs_reply_names(&fs, 1, NULL, 0, out, sizeof out, &count), ATOMFS_CLOSED);
@@ -494,6 +560,7 @@ static void words(void) {
     IS(atomfs_errno_name(ENOENT_) == NULL, 1);
     IS(atomfs_errno_name(255) == NULL, 1);
     IS(strcmp(atomfs_status_text(ATOMFS_CLOSED), "the handle is closed"), 0);
+    IS(strcmp(atomfs_status_text(ATOMFS_PATH_DOT), "a name of the path is . or .."), 0);
     IS(strcmp(atomfs_status_text(ATOMFS_FAILED + ENOENT_), "no such file or directory (ENOENT)"), 0);
     for (int status = 0; status < 256; status++) IS(atomfs_status_text((uint8_t)status)[0] != '\0', 1);
 }
@@ -505,6 +572,8 @@ int main(void) {
     refusals();
     step_by_step();
     waits();
+    some_step();
+    checked_paths();
     small_buffers();
     checkpoints();
     texts();

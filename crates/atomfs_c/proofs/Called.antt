@@ -1,5 +1,5 @@
 -- What the status of a call says of it.
-use Rattle.std.proofs.Common.{◌≡◌, ◌<◌, ◌≤◌, ℕ, Result, Ok, Err, Option, Some, None, refl, sym, subst, arith}
+use Rattle.std.proofs.Common.{◌≡◌, ◌<◌, ◌≤◌, ℕ, Ok, Err, Option, Some, None, refl, sym, subst, arith}
 use Rattle.fs_calls.specs.declared.reply.Reply.{Reply}
 use Rattle.fs_core.specs.CoreValues.{CoreValue}
 use Rattle.fs_embed.specs.Calls.{RunsCall, WaitsCall, IsNotBegun, IsNotReturned}
@@ -7,9 +7,9 @@ use Rattle.fs_embed.specs.Requests.{Asked}
 use Rattle.fs_embed.specs.declared.calls.NotBegun.{NotBegun}
 use Rattle.fs_embed.specs.declared.calls.NotReturned.{NotReturned}
 use Rattle.fs_embed.specs.declared.calls.NotReturned.TheVariants as not_returned
-use Rattle.atomfs_c.specs.Statuses.{IsReturned, IsRefusal, IsToldWhy, begin_status}
+use Rattle.fs_embed.specs.Statuses.{IsReturned, IsRefusal, IsToldWhy, begin_status}
 use Rattle.atomfs_c.specs.Exports.{Goes, ToldIfClosed, IsCalled, IsReplied, Comes}
-use Rattle.atomfs_c.specs.declared.status.TheConstants.{WAITS, CLOSED}
+use Rattle.fs_embed.specs.declared.status.TheConstants.{WAITS, CLOSED}
 
 -- what is so of two cores is so of the handles that have them
 pub goes : (P : CoreValue → CoreValue → Type 0) (before after : Option CoreValue) (old new : CoreValue) → before ≡ Some old → after ≡ Some new → P old new → Goes P before after

@@ -1,10 +1,14 @@
 -- What exports say of the core behind a handle, and of the bytes that a caller gives.
-use Rattle.std.specs.Prelude.{◌≡◌, ◌<◌, ◌≤◌, ℕ, eqb, if◌then◌else◌, [], Result, Ok, Err, List, Option, Some, None, IsSome, IsSomeAnd, IfSome, length}
+use Rattle.std.specs.Prelude.{◌≡◌, ◌<◌, ◌≤◌, ◌⊎◌, ℕ, eqb, if◌then◌else◌, [], Result, Ok, Err, List, Option, Some, None, IsSome, IsSomeAnd, IfSome, length}
 use Rattle.fs_calls.specs.Outcomes.{play}
 use Rattle.fs_calls.specs.Sights.{tree_shapes}
 use Rattle.fs_nodes.specs.Graphs.{graph_shapes}
 use Rattle.fs_nodes.specs.Stores.{graph_of}
 use Rattle.fs_timeline.specs.Timeline as timeline
+use Rattle.fs_names.specs.Keys.{Key}
+use Rattle.fs_names.specs.Limits.{name_limit}
+use Rattle.fs_names.specs.Reading.{reading}
+use Rattle.fs_names.specs.declared.fault.PathFault.{PathFault}
 use Rattle.fs_names.specs.declared.limits.Limits.{Limits}
 use Rattle.fs_names.specs.declared.limits.Limits.TheVariants.{V1, V2}
 use Rattle.fs_machine.specs.States.{begun_again, empty}
@@ -15,17 +19,28 @@ use Rattle.fs_names.specs.declared.kind.Kind.TheVariants.{Dir, File}
 use Rattle.fs_calls.specs.declared.reply.Reply.{Reply}
 use Rattle.fs_calls.specs.declared.reply.Reply.TheVariants as answer
 use Rattle.fs_calls.specs.declared.reply.Reply.TheVariants.{Done, Names, Bytes, Wrote, Failed}
-use Rattle.fs_embed.specs.Calls.{BeginsCall, RunsCall, WaitsCall, IsNotBegun}
+use Rattle.fs_machine.specs.declared.answers.Stepped.TheVariants.{Idle}
+use Rattle.fs_embed.specs.Calls.{BeginsCall, RunsCall, WaitsCall, IsNotBegun, GoesOnAs, code_of}
 use Rattle.fs_embed.specs.Requests.{Asked}
 use Rattle.fs_embed.specs.Texts.{IsCopied, IsReply, HasNoReply, IsShown, reply_text, names_text}
 use Rattle.fs_embed.specs.declared.calls.NotBegun.{NotBegun}
-use Rattle.atomfs_c.specs.Statuses.{IsReturned, IsRefusal, failed_status, begin_status}
-use Rattle.atomfs_c.specs.declared.status.TheConstants.{OK, TOO_SMALL, UNTOLD, WAITS, CLOSED, NO_REPLY, FAILED}
+use Rattle.fs_embed.specs.Statuses.{IsReturned, IsRefusal, failed_status, begin_status, path_status}
+use Rattle.fs_embed.specs.declared.status.TheConstants.{OK, TOO_SMALL, UNTOLD, WAITS, CLOSED, NO_MEMORY, NO_REPLY, BAD_VERSION, FAILED}
 use Rattle.atomfs_c.specs.declared.told.Stat.{Stat as StatValue}
 
 -- the limits of names and files that have a version
 abbrev pub limits_of : ℕ → Option Limits
 limits_of version = if eqb version 1 then Some V1 else if eqb version 2 then Some V2 else None
+
+-- of what reading bytes as a path gives
+abbrev pub reading_status : Result Key PathFault → ℕ
+reading_status (Ok path) = OK
+reading_status (Err fault) = path_status fault
+
+-- what a status says of bytes as a path by the limits of a version: that they are one, why they are none, or out of memory
+abbrev pub TellsPath : Option Limits → List ℕ → ℕ → Type 0
+TellsPath None bytes status = status ≡ BAD_VERSION
+TellsPath (Some limits) bytes status = (status ≡ reading_status (reading (name_limit limits) bytes)) ⊎ (status ≡ NO_MEMORY)
 
 -- a core before anything began, without seats
 abbrev pub IsOpened : Limits → ℕ → CoreValue → Type 0
@@ -71,7 +86,7 @@ pub record IsHanded (old new : CoreValue) (count : ℕ) (before after : List ℕ
 
 -- as text: where there is no memory for it, it is not told
 abbrev pub IsToldText : Reply → ℕ → ℕ → List ℕ → List ℕ → Type 0
-IsToldText reply status count old new = Tells status (reply_text reply) count old new
+IsToldText reply status count old new = Tells status (reply_text reply) count old new × (status ≤ UNTOLD)
 
 -- of a call that answers no more than that it is done
 abbrev pub done_status : Reply → ℕ
@@ -131,6 +146,10 @@ pub record IsBegun (given : Asked) (seat status number : ℕ) (old new : Option 
   pub begun : status ≡ OK → Goes (λ a b. BeginsCall a seat given number b) old new
   pub refused : IsRefusal status → Goes (λ a b. (why : NotBegun) × (status ≡ begin_status why) × IsNotBegun a seat given why b) old new
   pub closed : ToldIfClosed status old new
+
+-- a step of some seat by which its call went on, told by two numbers; or no call is under way, and nothing changed
+abbrev pub StepsAny : CoreValue → ℕ → ℕ → ℕ → CoreValue → Type 0
+StepsAny old seat code about new = GoesOnAs old seat code about new ⊎ ((code ≡ code_of Idle) × (about ≡ 0) × IsAtRest old × (state_of new ≡ state_of old))
 
 -- what a status says of the reply of a call that has returned, and Told of it
 pub record IsReplied (core : Option CoreValue) (Told : Reply → Type 0) (number status : ℕ) : Type 0 where

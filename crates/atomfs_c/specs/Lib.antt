@@ -1,4 +1,3 @@
 pub mod Handles
-pub mod Statuses
 pub mod Requests
 pub mod Exports

@@ -1,5 +1,5 @@
 -- Which call a caller of C's asks for by a number.
-use Rattle.std.specs.Prelude.{ℕ, ◌==◌, List, Result, Err, if◌then◌else◌}
+use Rattle.std.specs.Prelude.{ℕ, ◌==◌, List, Err, if◌then◌else◌}
 use Rattle.fs_calls.specs.declared.call.Call.TheVariants.{Mkdir, Mknod, Unlink, Rmdir, Rename, Exchange, Stat, Readdir, Read, Write, Truncate}
 use Rattle.fs_words.specs.declared.fault.FaultKind.TheVariants as kind
 use Rattle.fs_embed.specs.Requests.{Asked, on_path, on_both}

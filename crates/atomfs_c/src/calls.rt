@@ -1,22 +1,23 @@
 //! The exports that begin calls and step them, and what runs a call behind a handle.
 
-ghost use Rattle.std.specs.Prelude.{◌≡◌, ◌≤◌, ◌<◌, length};
+ghost use Rattle.std.specs.Prelude.{◌≡◌, ◌≤◌, ◌<◌, ◌⊎◌, length};
 ghost use Rattle.fs_embed.specs.Requests.{asked, call_in};
 ghost use Rattle.fs_embed.specs.Calls.{StepsAs};
-ghost use Rattle.atomfs_c.specs.Statuses.{IsRefusal, IsToldWhy};
+ghost use Rattle.fs_embed.specs.Statuses.{IsRefusal, IsOfBegin, IsToldWhy};
 ghost use Rattle.atomfs_c.specs.Requests.{asked_by};
-ghost use Rattle.atomfs_c.specs.Exports.{Goes, ToldIfClosed, IsLawful, IsSpelled, IsBegun, Comes};
+ghost use Rattle.atomfs_c.specs.Exports.{Goes, ToldIfClosed, IsLawful, IsSpelled, IsBegun, StepsAny, Comes};
 
 use crate::handles::{Handle, put, take};
-use crate::status::{CLOSED, NO_SEAT, OK, WAITS, begin_status};
 use fs_calls::Reply;
-use fs_embed::{NotReturned, Request, begin_call, run_call, step_seat};
+use fs_embed::status::{CLOSED, NO_SEAT, OK, WAITS, begin_status};
+use fs_embed::{NotReturned, Request, begin_call, run_call, step_any, step_seat};
 use fs_names::SeatNo;
 use std::alloc::Global;
 
 /// Begins the call that is asked for behind a handle, and tells its number.
 fn begin(alloc: Global, handle: &mut Handle, seat: u64, request: Request, number: &mut u64) -> u8
     ensures begun { IsBegun (asked request.entry) seat result number.new handle.old.held.core handle.new.held.core }
+    ensures only { IsOfBegin result }
     ensures lawful { IsLawful handle.new.held.core }
     ensures spelled { IsSpelled handle.new.held.core }
 {
@@ -44,6 +45,7 @@ pub extern "C" fn atomfs_begin(
     number: &mut u64,
 ) -> u8
     ensures begun { IsBegun (call_in line.now) seat result number.new handle.old.held.core handle.new.held.core }
+    ensures only { IsOfBegin result }
     ensures lawful { IsLawful handle.new.held.core }
     ensures spelled { IsSpelled handle.new.held.core }
 {
@@ -92,6 +94,7 @@ pub extern "C" fn atomfs_begin_call(
     number: &mut u64,
 ) -> u8
     ensures begun { IsBegun (asked_by call path.now other.now off size bytes.now) seat result number.new handle.old.held.core handle.new.held.core }
+    ensures only { IsOfBegin result }
     ensures lawful { IsLawful handle.new.held.core }
     ensures spelled { IsSpelled handle.new.held.core }
 {
@@ -108,6 +111,7 @@ pub extern "C" fn atomfs_step(
     did: &mut u8,
     about: &mut u64,
 ) -> u8
+    ensures only { (result ≡ OK) ⊎ (result ≡ CLOSED) ⊎ (result ≡ NO_SEAT) }
     ensures stepped { result ≡ OK → Goes (λ old new. StepsAs old seat did.new about.new new) handle.old.held.core handle.new.held.core }
     ensures refused { IsRefusal result → Goes (λ old new. (result ≡ NO_SEAT) × (length old.seats ≤ seat) × (new ≡ old)) handle.old.held.core handle.new.held.core }
     ensures closed { ToldIfClosed result handle.old.held.core handle.new.held.core }
@@ -127,6 +131,41 @@ pub extern "C" fn atomfs_step(
         }
         None => NO_SEAT,
     }
+}
+
+/// Does one step of a call that does not wait, whichever it is, and tells its seat, which answer it was and what it speaks of.
+/// Where no call is under way it tells an idle step. So calls never wait for each other without end.
+#[unsafe(no_mangle)]
+pub extern "C" fn atomfs_step_any(
+    alloc: Global,
+    handle: &mut Handle,
+    seat: &mut u64,
+    did: &mut u8,
+    about: &mut u64,
+) -> u8
+    ensures only { (result ≡ OK) ⊎ (result ≡ CLOSED) }
+    ensures never_stuck { result ≡ OK → Goes (λ old new. StepsAny old seat.new did.new about.new new) handle.old.held.core handle.new.held.core }
+    ensures closed { ToldIfClosed result handle.old.held.core handle.new.held.core }
+    ensures lawful { IsLawful handle.new.held.core }
+    ensures spelled { IsSpelled handle.new.held.core }
+{
+    let Some(mut core) = take(alloc, handle) else {
+        return CLOSED;
+    };
+    let step = step_any(&mut core);
+    put(handle, core);
+    match step {
+        Some((number, told)) => {
+            *seat = number.get();
+            *did = told.code;
+            *about = told.about;
+        }
+        None => {
+            *did = 0;
+            *about = 0;
+        }
+    }
+    OK
 }
 
 /// Tells why a call did not return, and the number of one that is under way.

@@ -1,17 +1,17 @@
 //! The exports by which a journal goes out in pieces: what stands before its entries, and the checkpoint.
 
-ghost use Rattle.std.specs.Prelude.{◌≡◌, ◌≢◌, ◌<◌, IsSomeAnd};
+ghost use Rattle.std.specs.Prelude.{◌≡◌, ◌≢◌, ◌<◌, ◌⊎◌, IsSomeAnd};
 ghost use Rattle.fs_machine.specs.States.{begun_again};
 ghost use Rattle.fs_core.specs.CoreValues.{state_of, IsAtRest};
 ghost use Rattle.fs_core.specs.Checkpoints.{IsWhyNot};
 ghost use Rattle.fs_script.specs.Journals.{opening, journal_text};
 ghost use Rattle.atomfs_c.specs.Exports.{Goes, ToldIfClosed, IsLawful, IsSpelled, IsTooLong, Tells, IsHanded};
-ghost use Rattle.atomfs_c.specs.Statuses.{IsToldWhyNot};
+ghost use Rattle.fs_embed.specs.Statuses.{IsOfText, IsToldWhyNot};
 
 use crate::handles::{Handle, put, take};
-use crate::status::{CLOSED, NO_MEMORY, OK, TOO_SMALL, UNDER_WAY, UNTOLD};
 use crate::told::tell;
 use fs_core::{Core, NoCheckpoint};
+use fs_embed::status::{CLOSED, NO_MEMORY, OK, TOO_SMALL, UNDER_WAY, UNTOLD};
 use fs_embed::{begin_again, opening_text, whole_journal};
 use std::alloc::Global;
 
@@ -24,6 +24,7 @@ pub extern "C" fn atomfs_opening(
     out: &mut [u8],
     count: &mut usize,
 ) -> u8
+    ensures only { IsOfText result }
     ensures opening { result < UNTOLD → IsSomeAnd handle.old.held.core (λ core. Tells result (opening core.start) count.new out.old out.new) }
     ensures same { handle.new.held.core ≡ handle.old.held.core }
     ensures closed { ToldIfClosed result handle.old.held.core handle.new.held.core }
@@ -58,8 +59,7 @@ fn again(alloc: Global, core: &mut Core, number: &mut u64) -> u8
     ensures again { result ≡ OK → IsAtRest core.old × (state_of core.new ≡ begun_again (state_of core.old)) × (core.new.seats ≡ core.old.seats) }
     ensures same { result ≢ OK → core.new ≡ core.old }
     ensures under_way { result ≡ UNDER_WAY → IsWhyNot core.old (NoCheckpoint.UnderWay number.new) }
-    ensures small { result ≢ TOO_SMALL }
-    ensures other { result ≢ CLOSED }
+    ensures only { (result ≡ OK) ⊎ (result ≡ UNDER_WAY) ⊎ (result ≡ NO_MEMORY) }
 {
     match begin_again(alloc, core) {
         Ok(()) => OK,
@@ -79,6 +79,7 @@ fn hand_out(
     ensures same { result ≢ OK → core.new ≡ core.old }
     ensures too_small { result ≡ TOO_SMALL → IsTooLong (journal_text core.old.start core.old.timeline) count.new out.old out.new }
     ensures under_way { result ≡ UNDER_WAY → IsWhyNot core.old (NoCheckpoint.UnderWay number.new) }
+    ensures only { IsOfText result ⊎ (result ≡ UNDER_WAY) }
     ensures other { result ≢ CLOSED }
 {
     let Ok(text) = whole_journal(alloc, core) else {
@@ -104,6 +105,7 @@ pub extern "C" fn atomfs_checkpoint(
     count: &mut usize,
     number: &mut u64,
 ) -> u8
+    ensures only { IsOfText result ⊎ (result ≡ UNDER_WAY) }
     ensures handed { result ≡ OK → Goes (λ old new. IsHanded old new count.new out.old out.new) handle.old.held.core handle.new.held.core }
     ensures same { result ≢ OK → handle.new.held.core ≡ handle.old.held.core }
     ensures too_small { result ≡ TOO_SMALL → IsSomeAnd handle.old.held.core (λ core. IsTooLong (journal_text core.start core.timeline) count.new out.old out.new) }

@@ -4,12 +4,13 @@ ghost use Rattle.std.specs.Prelude.{◌≡◌, ◌≢◌, ◌<◌, ◌++◌, ◌
 ghost use Rattle.fs_names.specs.declared.limits.TheConstants.{NODE_LIMIT};
 ghost use Rattle.fs_names.specs.declared.limits.Limits.TheVariants as Limits;
 ghost use Rattle.fs_core.specs.CoreValues.{state_of};
+ghost use Rattle.fs_embed.specs.Statuses.{IsOfOpen};
 ghost use Rattle.atomfs_c.specs.Exports.{IsOpened, limits_of, Goes, ToldIfClosed, IsLawful, IsSpelled};
 
 use crate::held::Held;
 use crate::parts::Parts;
-use crate::status::{ALREADY_OPEN, BAD_LIMIT, BAD_VERSION, CLOSED, NO_MEMORY, OK};
 use fs_core::Core;
+use fs_embed::status::{ALREADY_OPEN, BAD_LIMIT, BAD_VERSION, CLOSED, NO_MEMORY, OK};
 use fs_names::{Limits, NODE_LIMIT};
 use std::alloc::Global;
 use std::mem;
@@ -59,7 +60,7 @@ pub fn put(handle: &mut Handle, core: Box<Core>)
 }
 
 /// The limits of names and files that have a version.
-fn limits_of(version: u8) -> Option<Limits>
+pub fn limits_of(version: u8) -> Option<Limits>
     ensures { result ≡ limits_of version }
 {
     match version {
@@ -75,6 +76,7 @@ fn open(alloc: Global, handle: &mut Handle, limit: usize, limits: Limits) -> u8
     ensures open { IsSome handle.old.held.core → result ≡ ALREADY_OPEN }
     ensures limit { result ≡ BAD_LIMIT → (limit ≡ 0) ⊎ (NODE_LIMIT < limit) }
     ensures version { result ≢ BAD_VERSION }
+    ensures only { IsOfOpen result }
     ensures refused { result ≢ OK → (CLOSED < result) × (handle.new.held.core ≡ handle.old.held.core) }
 {
     if handle.is_open {
@@ -99,6 +101,7 @@ fn open(alloc: Global, handle: &mut Handle, limit: usize, limits: Limits) -> u8
 /// names and files.
 #[unsafe(no_mangle)]
 pub extern "C" fn atomfs_open(alloc: Global, handle: &mut Handle, limit: usize) -> u8
+    ensures only { IsOfOpen result }
     ensures opened { result ≡ OK → (handle.old.held.core ≡ None) × IsSomeAnd handle.new.held.core (IsOpened Limits.V1 limit) }
     ensures open { IsSome handle.old.held.core → result ≡ ALREADY_OPEN }
     ensures limit { result ≡ BAD_LIMIT → (limit ≡ 0) ⊎ (NODE_LIMIT < limit) }
@@ -119,6 +122,7 @@ pub extern "C" fn atomfs_open_with(
     ensures open { IsSome handle.old.held.core → IsSome (limits_of version) → result ≡ ALREADY_OPEN }
     ensures limit { result ≡ BAD_LIMIT → (limit ≡ 0) ⊎ (NODE_LIMIT < limit) }
     ensures version { (result ≡ BAD_VERSION) ↔ (limits_of version ≡ None) }
+    ensures only { IsOfOpen result ⊎ (result ≡ BAD_VERSION) }
     ensures refused { result ≢ OK → (CLOSED < result) × (handle.new.held.core ≡ handle.old.held.core) }
 {
     match limits_of(version) {
@@ -145,8 +149,9 @@ pub extern "C" fn atomfs_close(alloc: Global, handle: &mut Handle) -> u8
 /// Adds a seat, and tells its number: the first is 0, each next one more.
 #[unsafe(no_mangle)]
 pub extern "C" fn atomfs_seat(alloc: Global, handle: &mut Handle, seat: &mut u64) -> u8
-    ensures seated { result ≡ OK → Goes (λ old new. (seat.new ≡ length old.seats) × (new.seats ≡ old.seats ++ None ∷ []) × (state_of new ≡ state_of old)) handle.old.held.core handle.new.held.core }
-    ensures refused { CLOSED < result → Goes (λ old new. (result ≡ NO_MEMORY) × (new.seats ≡ old.seats) × (state_of new ≡ state_of old)) handle.old.held.core handle.new.held.core }
+    ensures only { (result ≡ OK) ⊎ (result ≡ CLOSED) ⊎ (result ≡ NO_MEMORY) }
+    ensures seated { result ≡ OK → Goes (λ old new. (seat.new ≡ length old.seats) × (new.seats ≡ old.seats ++ None ∷ []) × (state_of new ≡ state_of old) × (new.refusals ≡ old.refusals)) handle.old.held.core handle.new.held.core }
+    ensures refused { CLOSED < result → Goes (λ old new. (result ≡ NO_MEMORY) × (new.seats ≡ old.seats) × (state_of new ≡ state_of old) × (new.refusals ≢ old.refusals)) handle.old.held.core handle.new.held.core }
     ensures closed { ToldIfClosed result handle.old.held.core handle.new.held.core }
     ensures lawful { IsLawful handle.new.held.core }
     ensures spelled { IsSpelled handle.new.held.core }

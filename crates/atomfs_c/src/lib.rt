@@ -1,12 +1,14 @@
 //! AtomFS for C: a static library whose exports carry the linearization theorem.
 //!
 //! A `Handle` lies in C's memory and owns a boxed core. Each export takes the core out of the handle, calls `fs_embed`, and
-//! puts the core back; it tells its answer by a status (`status`) and what it found in bytes that the caller gives. Every
+//! puts the core back; it tells its answer by a status (`fs_embed::status`) and what it found in bytes that the caller gives. Every
 //! export that changes a core says what it did as begins and steps of the machine, that the timeline is lawful after it
-//! (`lawful`), and that the nodes spell the tree of its commits at rest (`spelled`). Each refuses a closed handle.
+//! (`lawful`), and that the nodes spell the tree of its commits at rest (`spelled`). Each refuses a closed handle, and says
+//! which statuses it answers (`only`).
 //!
 //! Enter at `handles`, `calls`, `texts` and `runs`, which have the exports; `embed/atomfs.h` declares them for C. In
-//! `specs/`: `Handles` says what a handle owns, `Statuses` which number each answer has, `Exports` what the clauses say.
+//! `specs/`: `Handles` says what a handle owns, `Exports` what the clauses say; `Statuses` of
+//! `fs_embed` which number each answer has.
 //! `docs/EMBEDDING.md` has what a C caller must keep to.
 #![tactic(auto)]
 
@@ -17,7 +19,6 @@ mod held;
 mod parts;
 mod replies;
 mod runs;
-mod status;
 mod texts;
 mod told;
 mod typed;

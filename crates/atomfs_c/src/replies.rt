@@ -1,14 +1,15 @@
 //! The exports that tell the reply of a call that has returned.
 
-ghost use Rattle.std.specs.Prelude.{◌≡◌, ◌≢◌, Some, MatchOption};
+ghost use Rattle.std.specs.Prelude.{◌≡◌, ◌≢◌, ◌⊎◌, Some, MatchOption};
 ghost use Rattle.fs_embed.specs.Texts.{IsReply, HasNoReply};
+ghost use Rattle.fs_embed.specs.Statuses.{IsOfReply};
 ghost use Rattle.atomfs_c.specs.Exports.{ToldIfClosed, IsReplied, IsToldText, IsToldStat, IsToldNames, IsToldBytes, IsToldWrote, IsToldBehind, done_status};
 
 use crate::handles::{Handle, put, take};
-use crate::status::{CLOSED, NO_MEMORY, NO_REPLY};
 use crate::told::{Stat, tell, tell_behind, tell_bytes, tell_done, tell_stat, tell_wrote};
 use fs_calls::Reply;
 use fs_core::Core;
+use fs_embed::status::{CLOSED, NO_MEMORY, NO_REPLY};
 use fs_embed::{find_reply, reply_text};
 use fs_names::CallNo;
 use std::alloc::Global;
@@ -22,6 +23,7 @@ fn reply_of(core: &Core, number: u64) -> Option<&Reply>
 
 fn text_of(alloc: Global, core: &Core, number: u64, out: &mut [u8], count: &mut usize) -> u8
     ensures replied { IsReplied (Some core.now) (λ reply. IsToldText reply result count.new out.old out.new) number result }
+    ensures only { IsOfReply result ⊎ (result ≡ NO_MEMORY) }
     ensures other { result ≢ CLOSED }
 {
     match reply_of(core, number) {
@@ -43,6 +45,7 @@ pub extern "C" fn atomfs_reply(
     count: &mut usize,
 ) -> u8
     ensures replied { IsReplied handle.old.held.core (λ reply. IsToldText reply result count.new out.old out.new) number result }
+    ensures only { IsOfReply result ⊎ (result ≡ NO_MEMORY) }
     ensures same { handle.new.held.core ≡ handle.old.held.core }
     ensures closed { ToldIfClosed result handle.old.held.core handle.new.held.core }
 {
@@ -56,6 +59,7 @@ pub extern "C" fn atomfs_reply(
 
 fn done_of(core: &Core, number: u64) -> u8
     ensures replied { IsReplied (Some core.now) (λ reply. result ≡ done_status reply) number result }
+    ensures only { IsOfReply result }
     ensures other { result ≢ CLOSED }
 {
     match reply_of(core, number) {
@@ -68,6 +72,7 @@ fn done_of(core: &Core, number: u64) -> u8
 #[unsafe(no_mangle)]
 pub extern "C" fn atomfs_reply_done(alloc: Global, handle: &mut Handle, number: u64) -> u8
     ensures replied { IsReplied handle.old.held.core (λ reply. result ≡ done_status reply) number result }
+    ensures only { IsOfReply result }
     ensures same { handle.new.held.core ≡ handle.old.held.core }
     ensures closed { ToldIfClosed result handle.old.held.core handle.new.held.core }
 {
@@ -81,6 +86,7 @@ pub extern "C" fn atomfs_reply_done(alloc: Global, handle: &mut Handle, number: 
 
 fn stat_of(core: &Core, number: u64, stat: &mut Stat) -> u8
     ensures replied { IsReplied (Some core.now) (λ reply. IsToldStat reply result stat.new) number result }
+    ensures only { IsOfReply result }
     ensures other { result ≢ CLOSED }
 {
     match reply_of(core, number) {
@@ -98,6 +104,7 @@ pub extern "C" fn atomfs_reply_stat(
     stat: &mut Stat,
 ) -> u8
     ensures replied { IsReplied handle.old.held.core (λ reply. IsToldStat reply result stat.new) number result }
+    ensures only { IsOfReply result }
     ensures same { handle.new.held.core ≡ handle.old.held.core }
     ensures closed { ToldIfClosed result handle.old.held.core handle.new.held.core }
 {
@@ -118,6 +125,7 @@ fn names_of(
     count: &mut usize,
 ) -> u8
     ensures replied { IsReplied (Some core.now) (λ reply. IsToldBehind reply after.now result count.new out.old out.new) number result }
+    ensures only { IsOfReply result }
     ensures other { result ≢ CLOSED }
 {
     match reply_of(core, number) {
@@ -137,6 +145,7 @@ pub extern "C" fn atomfs_reply_names(
     count: &mut usize,
 ) -> u8
     ensures replied { IsReplied handle.old.held.core (λ reply. IsToldBehind reply after.now result count.new out.old out.new) number result }
+    ensures only { IsOfReply result }
     ensures same { handle.new.held.core ≡ handle.old.held.core }
     ensures closed { ToldIfClosed result handle.old.held.core handle.new.held.core }
 {
@@ -150,6 +159,7 @@ pub extern "C" fn atomfs_reply_names(
 
 fn bytes_of(core: &Core, number: u64, out: &mut [u8], count: &mut usize) -> u8
     ensures replied { IsReplied (Some core.now) (λ reply. IsToldBytes reply result count.new out.old out.new) number result }
+    ensures only { IsOfReply result }
     ensures other { result ≢ CLOSED }
 {
     match reply_of(core, number) {
@@ -168,6 +178,7 @@ pub extern "C" fn atomfs_reply_bytes(
     count: &mut usize,
 ) -> u8
     ensures replied { IsReplied handle.old.held.core (λ reply. IsToldBytes reply result count.new out.old out.new) number result }
+    ensures only { IsOfReply result }
     ensures same { handle.new.held.core ≡ handle.old.held.core }
     ensures closed { ToldIfClosed result handle.old.held.core handle.new.held.core }
 {
@@ -181,6 +192,7 @@ pub extern "C" fn atomfs_reply_bytes(
 
 fn wrote_of(core: &Core, number: u64, wrote: &mut u64) -> u8
     ensures replied { IsReplied (Some core.now) (λ reply. IsToldWrote reply result wrote.new) number result }
+    ensures only { IsOfReply result }
     ensures other { result ≢ CLOSED }
 {
     match reply_of(core, number) {
@@ -198,6 +210,7 @@ pub extern "C" fn atomfs_reply_wrote(
     wrote: &mut u64,
 ) -> u8
     ensures replied { IsReplied handle.old.held.core (λ reply. IsToldWrote reply result wrote.new) number result }
+    ensures only { IsOfReply result }
     ensures same { handle.new.held.core ≡ handle.old.held.core }
     ensures closed { ToldIfClosed result handle.old.held.core handle.new.held.core }
 {

@@ -1,23 +1,26 @@
-//! The exports that run a script and check a journal. They take no handle.
+//! The exports that run a script, and check a journal and a path. They take no handle.
 
-ghost use Rattle.std.specs.Prelude.{◌≡◌, ◌≢◌, ◌<◌, ℕ, List, Ok};
+ghost use Rattle.std.specs.Prelude.{◌≡◌, ◌≢◌, ◌<◌, ◌⊎◌, ℕ, List, Ok};
 ghost use Rattle.fs_timeline.specs.declared.verdict.Verdict.{Verdict};
 ghost use Rattle.fs_sched.specs.Checks.{verdict_line, verdict_of};
 ghost use Rattle.fs_sched.specs.EachRun.{AreOfTheRun};
 ghost use Rattle.fs_sched.specs.declared.running.RunEnd.{RunEnd};
-ghost use Rattle.atomfs_c.specs.Exports.{Tells};
-ghost use Rattle.atomfs_c.specs.Statuses.{IsToldFault, TellsFault, TellsNoRun};
+ghost use Rattle.atomfs_c.specs.Exports.{Tells, TellsPath, limits_of};
+ghost use Rattle.fs_embed.specs.Statuses.{IsRefusal, IsToldFault, TellsFault, TellsNoRun};
 
-use crate::status::{CLOSED, NO_MEMORY, UNDER_WAY, UNTOLD, fault_status};
+use crate::handles::limits_of;
 use crate::told::tell;
-use fs_embed::{NoText, check_text, run_text};
+use fs_embed::status::{
+    BAD_VERSION, CLOSED, NO_MEMORY, OK, UNDER_WAY, UNTOLD, fault_status, path_status,
+};
+use fs_embed::{NoText, check_text, path_fault, run_text};
 use fs_sched::Schedule;
 use std::alloc::Global;
 
 /// Tells why a run has no text: its number, and the line of a fault of the input, or the number of a call under way.
 fn tell_fault(fault: NoText, count: &mut usize) -> u8
     ensures told { IsToldFault fault result count.new }
-    ensures refused { CLOSED < result }
+    ensures refused { IsRefusal result }
 {
     match fault {
         NoText::Input(fault) => {
@@ -39,6 +42,7 @@ pub extern "C" fn atomfs_run(alloc: Global, script: &[u8], out: &mut [u8], count
     ensures ran { result < UNTOLD → (end : RunEnd) × (text : List ℕ) × AreOfTheRun Schedule.Given script.now end text × Tells result text count.new out.old out.new }
     ensures fault { CLOSED < result → TellsNoRun Schedule.Given script.now result count.new }
     ensures told { result ≢ CLOSED }
+    ensures only { (result < UNTOLD) ⊎ IsRefusal result }
 {
     match run_text(alloc, script, Schedule::Given) {
         Ok(text) => tell(text.as_slice(), out, count),
@@ -58,9 +62,24 @@ pub extern "C" fn atomfs_check(
     ensures judged { result < UNTOLD → (v : Verdict) × (verdict_of journal.now ≡ Ok v) × Tells result (verdict_line v) count.new out.old out.new }
     ensures fault { CLOSED < result → TellsFault (verdict_of journal.now) result count.new }
     ensures told { result ≢ CLOSED }
+    ensures only { (result < UNTOLD) ⊎ IsRefusal result }
 {
     match check_text(alloc, journal) {
         Ok(line) => tell(line.as_slice(), out, count),
         Err(fault) => tell_fault(fault, count),
+    }
+}
+
+/// Checks bytes as a path by the limits of a version, 1 or 2, and tells the first check that they fail.
+#[unsafe(no_mangle)]
+pub extern "C" fn atomfs_check_path(alloc: Global, path: &[u8], version: u8) -> u8
+    ensures { TellsPath (limits_of version) path.now result }
+{
+    let Some(limits) = limits_of(version) else {
+        return BAD_VERSION;
+    };
+    match path_fault(alloc, limits, path) {
+        Some(fault) => path_status(fault),
+        None => OK,
     }
 }

@@ -3,12 +3,13 @@
 ghost use Rattle.std.specs.Prelude.{◌≡◌, ◌<◌, ℕ, List, IsSomeAnd, IfOk, length};
 ghost use Rattle.fs_nodes.specs.Stores.{graph_of};
 ghost use Rattle.fs_embed.specs.Texts.{lines_from, IsTreeText};
+ghost use Rattle.fs_embed.specs.Statuses.{IsOfText};
 ghost use Rattle.atomfs_c.specs.Exports.{ToldIfClosed, Tells};
 
 use crate::handles::{Handle, put, take};
-use crate::status::{CLOSED, NO_MEMORY, UNTOLD};
 use crate::told::tell;
 use fs_core::Core;
+use fs_embed::status::{CLOSED, NO_MEMORY, UNTOLD};
 use fs_embed::{journal_text, tree_text};
 use std::alloc::{AllocError, Global};
 
@@ -23,6 +24,7 @@ pub extern "C" fn atomfs_journal(
     count: &mut usize,
     entries: &mut usize,
 ) -> u8
+    ensures only { IsOfText result }
     ensures lines { result < UNTOLD → IsSomeAnd handle.old.held.core (λ core. Tells result (lines_from first core.timeline) count.new out.old out.new × (entries.new ≡ length core.timeline)) }
     ensures same { handle.new.held.core ≡ handle.old.held.core }
     ensures closed { ToldIfClosed result handle.old.held.core handle.new.held.core }
@@ -54,6 +56,7 @@ pub extern "C" fn atomfs_tree(
     out: &mut [u8],
     count: &mut usize,
 ) -> u8
+    ensures only { IsOfText result }
     ensures tree { result < UNTOLD → IsSomeAnd handle.old.held.core (λ core. (text : List ℕ) × IsTreeText (graph_of core.store) text × Tells result text count.new out.old out.new) }
     ensures same { handle.new.held.core ≡ handle.old.held.core }
     ensures closed { ToldIfClosed result handle.old.held.core handle.new.held.core }

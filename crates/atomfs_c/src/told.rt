@@ -1,11 +1,11 @@
 //! What tells a reply in a caller's memory.
 
 ghost use Rattle.std.specs.Prelude.{◌≡◌, ◌<◌, length};
-ghost use Rattle.atomfs_c.specs.Statuses.{IsReturned};
+ghost use Rattle.fs_embed.specs.Statuses.{IsReturned};
 ghost use Rattle.atomfs_c.specs.Exports.{Tells, IsToldText, IsToldStat, IsToldNames, IsToldBytes, IsToldWrote, IsToldBehind, done_status, is_dir};
 
-use crate::status::{OK, TOO_SMALL, UNTOLD, failed_status};
 use fs_calls::Reply;
+use fs_embed::status::{OK, TOO_SMALL, UNTOLD, failed_status};
 use fs_embed::{copy_out, names_behind, names_text, reply_text};
 use fs_names::Kind;
 use std::alloc::Global;

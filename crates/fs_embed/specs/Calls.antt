@@ -1,12 +1,15 @@
 -- What begins, steps and calls that a caller asks for do to a core.
-use Rattle.std.specs.Prelude.{◌≡◌, ℕ, ◌≤◌, Result, Ok, Err, length}
+use Rattle.std.specs.Prelude.{◌≡◌, ◌≢◌, ℕ, ◌≤◌, Result, Ok, Err, length}
 use Rattle.fs_calls.specs.declared.call.Call.{Call}
 use Rattle.fs_calls.specs.declared.reply.Reply.{Reply}
 use Rattle.fs_words.specs.declared.fault.FaultKind.{FaultKind}
 use Rattle.fs_words.specs.declared.fault.FaultKind.TheVariants as kind
 use Rattle.fs_laws.specs.OneCall.{IsNoReturn, StepsTo}
+use Rattle.fs_laws.specs.Progress.{GoesOn}
 use Rattle.fs_machine.specs.States.{State, Begins, Step}
 use Rattle.fs_core.specs.CoreValues.{CoreValue, state_of}
+use Rattle.fs_machine.specs.declared.answers.Refusal.{Refusal}
+use Rattle.fs_machine.specs.declared.answers.Refusal.TheVariants.{OutOfMemory, SeatBusy, Full}
 use Rattle.fs_machine.specs.declared.answers.Stepped.{Stepped}
 use Rattle.fs_machine.specs.declared.answers.Stepped.TheVariants.{Idle, Took, Busy, LetGo, Helped, Committed, CarriedOut, Returned}
 use Rattle.fs_embed.specs.Requests.{Asked}
@@ -20,37 +23,43 @@ use Rattle.fs_embed.specs.declared.calls.NotReturned.TheVariants as not_returned
 abbrev pub Opens : CoreValue → ℕ → Asked → ℕ → State → Type 0
 Opens old seat given number first = (call : Call) × (given (most_of old) ≡ Ok call) × Begins (state_of old) seat call (Ok number) first
 
--- the same, and nothing else happens
+-- the same, nothing else happens, and no memory was refused
 abbrev pub BeginsCall : CoreValue → ℕ → Asked → ℕ → CoreValue → Type 0
-BeginsCall old seat given number new = Opens old seat given number (state_of new)
+BeginsCall old seat given number new = Opens old seat given number (state_of new) × (new.refusals ≡ old.refusals)
 
 -- what is asked for is no call; out of memory says nothing of it
 abbrev pub IsNoCall : Result Call FaultKind → FaultKind → Type 0
 IsNoCall given kind.OutOfMemory = Unit {0}
 IsNoCall given k = given ≡ Err k
 
+-- that memory was refused is counted, and no other refusal is
+abbrev pub IsCounted : Refusal → ℕ → ℕ → Type 0
+IsCounted OutOfMemory old new = new ≢ old
+IsCounted SeatBusy old new = new ≡ old
+IsCounted Full old new = new ≡ old
+
 -- why the call that is asked for did not begin, and that nothing changed
 abbrev pub IsNotBegun : CoreValue → ℕ → Asked → NotBegun → CoreValue → Type 0
 IsNotBegun old seat given not_begun.NoSeat new = (length old.seats ≤ seat) × (new ≡ old)
 IsNotBegun old seat given (not_begun.Unread k) new = IsNoCall (given (most_of old)) k × (new ≡ old)
-IsNotBegun old seat given (not_begun.Refused refusal) new = (call : Call) × (given (most_of old) ≡ Ok call) × Begins (state_of old) seat call (Err refusal) (state_of new)
+IsNotBegun old seat given (not_begun.Refused refusal) new = (call : Call) × (given (most_of old) ≡ Ok call) × Begins (state_of old) seat call (Err refusal) (state_of new) × IsCounted refusal old.refusals new.refusals
 
 -- steps of a seat, none or more, of which none returns
 pub data Steps (seat : ℕ) : State → State → Type 0 where
   Still : {state : State} → Steps seat state state
   Then : {old middle new : State} (answer : Stepped) → IsNoReturn answer → Steps seat old middle → Step middle seat answer new → Steps seat old new
 
--- the call that is asked for begins under a number, and steps of its seat follow, up to the one that returns with this reply
+-- the call that is asked for begins under a number, and steps of its seat follow, up to the one that returns with this reply; no memory was refused
 abbrev pub RunsCall : CoreValue → ℕ → Asked → ℕ → Reply → CoreValue → Type 0
-RunsCall old seat given number reply new = (first : State) × Opens old seat given number first × StepsTo seat reply (state_of new) first
+RunsCall old seat given number reply new = (first : State) × Opens old seat given number first × StepsTo seat reply (state_of new) first × (new.refusals ≡ old.refusals)
 
 -- the next step of a seat finds a node held by this call, and changes nothing
 abbrev pub IsWaiting : State → ℕ → ℕ → Type 0
 IsWaiting state seat holder = (node : ℕ) × Step state seat (Busy node holder) state
 
--- the call that is asked for begins under a number, and steps of its seat follow, up to one that finds a node held by this call
+-- the call that is asked for begins under a number, and steps of its seat follow, up to one that finds a node held by this call; no memory was refused
 abbrev pub WaitsCall : CoreValue → ℕ → Asked → ℕ → ℕ → CoreValue → Type 0
-WaitsCall old seat given number holder new = (first : State) × Opens old seat given number first × Steps seat first (state_of new) × IsWaiting (state_of new) seat holder
+WaitsCall old seat given number holder new = (first : State) × Opens old seat given number first × Steps seat first (state_of new) × IsWaiting (state_of new) seat holder × (new.refusals ≡ old.refusals)
 
 -- why the call that is asked for did not return: it did not begin, and nothing changed; or it is under way and waits
 abbrev pub IsNotReturned : CoreValue → ℕ → Asked → NotReturned → CoreValue → Type 0
@@ -82,3 +91,11 @@ about_of (Returned r) = 0
 -- a step of a seat, told by two numbers
 abbrev pub StepsAs : CoreValue → ℕ → ℕ → ℕ → CoreValue → Type 0
 StepsAs old seat code about new = (answer : Stepped) × (code ≡ code_of answer) × (about ≡ about_of answer) × Step (state_of old) seat answer (state_of new)
+
+-- a step of a seat by which its call went on, told by two numbers
+abbrev pub GoesOnAs : CoreValue → ℕ → ℕ → ℕ → CoreValue → Type 0
+GoesOnAs old seat code about new = (answer : Stepped) × GoesOn answer × (code ≡ code_of answer) × (about ≡ about_of answer) × Step (state_of old) seat answer (state_of new)
+
+-- the step of a seat lets no call go on
+abbrev pub StandsStill : State → ℕ → Type 0
+StandsStill state seat = (answer : Stepped) × (new : State) × Step state seat answer new × (GoesOn answer → ⊥)

@@ -3,3 +3,4 @@ pub mod Looks
 pub mod Requests
 pub mod Runs
 pub mod Texts
+pub mod Statuses

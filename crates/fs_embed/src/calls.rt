@@ -2,9 +2,9 @@
 
 ghost use Rattle.std.specs.Prelude.{◌≡◌, ◌<◌, ◌≤◌, length, IfOk, OnOk, IfErr, IsSome, MatchOption, MatchBool};
 ghost use Rattle.fs_laws.specs.OneCall.{StepsTo};
-ghost use Rattle.fs_core.specs.CoreValues.{state_of};
+ghost use Rattle.fs_core.specs.CoreValues.{state_of, IsAtRest};
 ghost use Rattle.fs_embed.specs.Requests.{asked};
-ghost use Rattle.fs_embed.specs.Calls.{BeginsCall, IsNotBegun, RunsCall, IsNotReturned, Steps, IsWaiting, StepsAs, code_of, about_of};
+ghost use Rattle.fs_embed.specs.Calls.{BeginsCall, IsNotBegun, RunsCall, IsNotReturned, Steps, IsWaiting, StepsAs, StandsStill, GoesOnAs, code_of, about_of};
 
 use crate::request::Request;
 use fs_calls::Reply;
@@ -86,6 +86,7 @@ fn finish(core: &mut Core, seat: SeatNo) -> Result<Reply, CallNo>
     requires under_way { IsSome ((state_of core.old).on_seat seat) }
     ensures returned { IfOk result (λ reply. StepsTo seat reply (state_of core.new) (state_of core.old)) }
     ensures waits { IfErr result (λ holder. Steps seat (state_of core.old) (state_of core.new) × IsWaiting (state_of core.new) seat holder) }
+    ensures refusals { core.new.refusals ≡ core.old.refusals }
     ensures seats { length core.new.seats ≡ length core.old.seats }
 {
     'steps: loop {
@@ -147,4 +148,36 @@ pub fn step_seat(core: &mut Core, seat: SeatNo) -> Option<StepTold>
         return None;
     }
     Some(told(&core.step(seat)))
+}
+
+/// Does the step of a seat by which its call goes on, and tells what it did; `None` where the call waits, and where there is
+/// none.
+fn step_on(core: &mut Core, seat: SeatNo) -> Option<StepTold>
+    requires seat { seat < length core.old.seats }
+    ensures step { MatchOption result (StandsStill (state_of core.old) seat × (state_of core.new ≡ state_of core.old)) (λ step. GoesOnAs core.old seat step.code step.about core.new) }
+    ensures seats { length core.new.seats ≡ length core.old.seats }
+{
+    match core.step(seat) {
+        Stepped::Idle => None,
+        Stepped::Busy(_, _) => None,
+        stepped => Some(told(&stepped)),
+    }
+}
+
+/// Does one step of a call that does not wait, and tells its seat and what it did: the first seat whose call goes on. `None`
+/// exactly where no call is under way, so calls never wait for each other without end.
+pub fn step_any(core: &mut Core) -> Option<(SeatNo, StepTold)>
+    ensures never_stuck { MatchOption result (IsAtRest core.old × (state_of core.new ≡ state_of core.old)) (λ went. GoesOnAs core.old went.0 went.1.code went.1.about core.new) }
+    ensures seats { length core.new.seats ≡ length core.old.seats }
+{
+    core.told_of_progress();
+    core.told_of_numbers();
+    let seats = core.seats() as u64;
+    for number in 0..seats {
+        let seat = SeatNo::new(number);
+        if let Some(step) = step_on(core, seat) {
+            return Some((seat, step));
+        }
+    }
+    None
 }

@@ -1,13 +1,14 @@
 //! The work of a program that has AtomFS inside: calls asked for by lines or by their parts, and texts of what happened.
 //!
-//! A `Request` is a call that is asked for. `begin_call` begins it, `step_seat` does one step of a seat, and `run_call` runs
-//! a call from its begin to its return, or as far as it goes before it waits for a call of another seat. A request that is
-//! refused leaves the core as it was, and the answer says why. `reply_text`, `names_text`, `journal_text`, `opening_text`,
+//! A `Request` is a call that is asked for. `begin_call` begins it, `step_seat` does one step of a seat, `step_any` one of a
+//! call that does not wait, which there is as long as one is under way, and `run_call` runs a call from its begin to its
+//! return, or as far as it goes before it waits for a call of another seat. A request that is refused leaves the core as it
+//! was, and the answer says why: `status` has its number. `reply_text`, `names_text`, `journal_text`, `opening_text`,
 //! `whole_journal` and `tree_text` are texts of a core, and `names_behind` the part of a reply's names that fits; `run_text` and `check_text` have the work
 //! of the runners over bytes. No function has a `requires`.
 //!
 //! Enter at `run_call`. The definitions are in `specs/`: `Requests` says which call is asked for, `Calls` what begins,
-//! steps and calls do, by the machine of `fs_machine`, and `Texts` what the texts are.
+//! steps and calls do, by the machine of `fs_machine`, `Texts` what the texts are, and `Statuses` which number an answer has.
 #![tactic(auto)]
 
 mod calls;
@@ -16,12 +17,15 @@ mod names;
 mod pieces;
 mod request;
 mod runs;
+pub mod status;
 mod texts;
 
-pub use calls::{NotBegun, NotReturned, Returned, StepTold, begin_call, run_call, step_seat};
+pub use calls::{
+    NotBegun, NotReturned, Returned, StepTold, begin_call, run_call, step_any, step_seat,
+};
 pub use looks::kind_of;
 pub use names::{names_behind, names_text};
 pub use pieces::{begin_again, opening_text, whole_journal};
-pub use request::Request;
+pub use request::{Request, path_fault};
 pub use runs::{NoText, check_text, run_text};
 pub use texts::{copy_out, find_reply, journal_text, reply_text, tree_text};

@@ -1,8 +1,8 @@
 //! What a caller asks for: a call by its line, or by its parts.
 
-ghost use Rattle.std.specs.Prelude.{Ok};
+ghost use Rattle.std.specs.Prelude.{◌≡◌, Ok, IsOk, MatchOption};
 ghost use Rattle.fs_names.specs.Limits.{name_limit};
-ghost use Rattle.fs_names.specs.Reading.{reading};
+ghost use Rattle.fs_names.specs.Reading.{reading, FailsWith};
 ghost use Rattle.fs_words.specs.Reading.{or_bad_path};
 ghost use Rattle.fs_words.specs.code.Answers.{Gives};
 ghost use Rattle.fs_embed.specs.Requests.{asked, call_in, both_in};
@@ -64,6 +64,16 @@ fn path_in(alloc: Global, limits: Limits, bytes: &[u8]) -> Result<Path, FaultKin
         Ok(path) => Ok(path),
         Err(PathFault::OutOfMemory) => Err(FaultKind::OutOfMemory),
         Err(fault) => Err(FaultKind::BadPath(fault)),
+    }
+}
+
+/// What is wrong with bytes as a path by these limits, or out of memory; `None` where they spell one.
+pub fn path_fault(alloc: Global, limits: Limits, bytes: &[u8]) -> Option<PathFault>
+    ensures { MatchOption result (IsOk (reading (name_limit limits) bytes.now)) (λ fault. FailsWith fault (reading (name_limit limits) bytes.now)) }
+{
+    match Path::parse_with(alloc, bytes, limits) {
+        Ok(_) => None,
+        Err(fault) => Some(fault),
     }
 }
 

@@ -65,6 +65,12 @@ class Status(enum.IntEnum):
     TOO_LARGE = 25
     BAD_REPLY = 26
     BAD_START = 27
+    PATH_NOT_ABSOLUTE = 28
+    PATH_NUL = 29
+    PATH_NAME_TOO_LONG = 30
+    PATH_TOO_MANY_NAMES = 31
+    PATH_DOT = 32
+    PATH_TRAILING_SLASH = 33
 
     @property
     def kind(self) -> str:
@@ -142,6 +148,7 @@ _ARGUMENTS: Dict[str, List[Any]] = {
     "truncate": [*_ON, _NUMBER, _AT],
     "begin_call": [_AT, _NUMBER, _AT, _AT],
     "step": [_AT, _NUMBER, _AT, _AT],
+    "step_any": [_AT, _AT, _AT, _AT],
     "reply_done": [_AT, _NUMBER],
     "reply_stat": [_AT, _NUMBER, _AT],
     "reply_names": [_AT, _NUMBER, *_GIVEN, *_TOLD],
@@ -153,6 +160,7 @@ _ARGUMENTS: Dict[str, List[Any]] = {
     "tree": [_AT, *_TOLD],
     "run": [*_GIVEN, *_TOLD],
     "check": [*_GIVEN, *_TOLD],
+    "check_path": [*_GIVEN, ctypes.c_uint8],
 }
 
 

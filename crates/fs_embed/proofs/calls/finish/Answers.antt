@@ -6,7 +6,7 @@ use Rattle.fs_embed.proofs.Running.{steps_to, waits, keeps, less, no_return, goe
 use Rattle.fs_embed.proofs.calls.finish.Goals as goal
 
 pub steps-init : goal.steps-init
-steps-init c = record { seats = refl; under_way = c.requires.under_way; steps = Still }
+steps-init c = record { seats = refl; refusals = refl; under_way = c.requires.under_way; steps = Still }
 
 pub returns-in-Returned-clause-returned : goal.returns-in-Returned-clause-returned
 returns-in-Returned-clause-returned c = steps_to c.args.seat c.in-Returned.reply (state_of c.step.new.self) c.steps.invariant.steps (Returns c.in-Returned.ensures.step)
@@ -21,6 +21,7 @@ steps-smaller c = less c.args.seat c.step.result (state_of c.steps.core) (state_
 pub steps-preserved : goal.steps-preserved
 steps-preserved c = let on = no_return c.step.result c.in_default.not-Returned in record {
   seats = c.step.ensures.seats ∙ c.steps.invariant.seats;
+  refusals = c.step.ensures.refusals ∙ c.steps.invariant.refusals;
   under_way = ap is_some (keeps c.args.seat c.step.result (state_of c.steps.core) (state_of c.step.new.self) on c.step.ensures.step) ∙ c.steps.invariant.under_way;
   steps = Then c.step.result on c.steps.invariant.steps c.step.ensures.step;
 }

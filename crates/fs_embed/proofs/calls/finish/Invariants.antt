@@ -4,10 +4,11 @@ use Rattle.fs_core.specs.CoreValues.{state_of}
 use Rattle.fs_embed.specs.Calls.{Steps}
 use Rattle.fs_embed.proofs.calls.finish.Given as goal
 
--- steps of the seat led here, none of which returned, and its call is under way
+-- steps of the seat led here, none of which returned, its call is under way, and no memory was refused
 abbrev pub invariant-steps : goal.invariant-steps
 invariant-steps l = record {
   seats : length l.core.seats ≡ length l.fn.core.seats;
+  refusals : l.core.refusals ≡ l.fn.core.refusals;
   under_way : IsSome ((state_of l.core).on_seat l.fn.seat);
   steps : Steps l.fn.seat (state_of l.fn.core) (state_of l.core);
 }

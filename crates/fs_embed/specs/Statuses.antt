@@ -1,7 +1,9 @@
 -- Which number each answer has.
-use Rattle.std.specs.Prelude.{◌≡◌, ◌<◌, ◌≤◌, ◌+◌, ℕ, List, Result}
+use Rattle.std.specs.Prelude.{◌≡◌, ◌<◌, ◌≤◌, ◌+◌, ◌⊎◌, ℕ, List, Result}
 use Rattle.fs_calls.specs.declared.errno.Errno.{Errno}
 use Rattle.fs_calls.specs.declared.errno.Errno.TheVariants.{Enoent, Enotdir, Eexist, Enotempty, Eisdir, Einval, Ebusy, Eperm, Enospc, Efbig}
+use Rattle.fs_names.specs.declared.fault.PathFault.{PathFault}
+use Rattle.fs_names.specs.declared.fault.PathFault.TheVariants as path
 use Rattle.fs_machine.specs.declared.answers.Refusal.{Refusal}
 use Rattle.fs_machine.specs.declared.answers.Refusal.TheVariants as refusals
 use Rattle.fs_core.specs.declared.checkpoint.NoCheckpoint.{NoCheckpoint}
@@ -17,7 +19,7 @@ use Rattle.fs_embed.specs.declared.calls.NotReturned.TheVariants as not_returned
 use Rattle.fs_words.specs.declared.fault.FaultKind.{FaultKind}
 use Rattle.fs_words.specs.declared.fault.FaultKind.TheVariants as kind
 use Rattle.fs_words.specs.declared.fault.ScriptFault.{ScriptFault}
-use Rattle.atomfs_c.specs.declared.status.TheConstants.{UNTOLD, WAITS, CLOSED, NO_MEMORY, NO_SEAT, SEAT_BUSY, FULL, UNDER_WAY, BAD_HEADER, BAD_LINE, BAD_THREAD, THREAD_TWICE, BAD_PATH, BAD_NUMBER, BAD_HEX, NO_SCHEDULE, BAD_WORD, TOO_LARGE, BAD_REPLY, BAD_START, FAILED}
+use Rattle.fs_embed.specs.declared.status.TheConstants.{OK, UNTOLD, WAITS, CLOSED, ALREADY_OPEN, BAD_LIMIT, NO_MEMORY, NO_SEAT, SEAT_BUSY, FULL, NO_REPLY, UNDER_WAY, BAD_HEADER, BAD_LINE, BAD_THREAD, THREAD_TWICE, BAD_PATH, BAD_NUMBER, BAD_HEX, NO_SCHEDULE, BAD_WORD, TOO_LARGE, BAD_REPLY, BAD_START, PATH_NOT_ABSOLUTE, PATH_NUL, PATH_NAME_TOO_LONG, PATH_TOO_MANY_NAMES, PATH_DOT, PATH_TRAILING_SLASH, FAILED}
 
 -- a status of a call that has returned: done, or failed
 abbrev pub IsReturned : ℕ → Type 0
@@ -27,6 +29,22 @@ IsReturned status = UNTOLD < status → FAILED ≤ status
 pub record IsRefusal (status : ℕ) : Type 0 where
   pub above : CLOSED < status
   pub below : status < FAILED
+
+-- a status of the opening of a handle
+abbrev pub IsOfOpen : ℕ → Type 0
+IsOfOpen status = (status ≡ OK) ⊎ (status ≡ ALREADY_OPEN) ⊎ (status ≡ BAD_LIMIT) ⊎ (status ≡ NO_MEMORY)
+
+-- a status of a text of a handle
+abbrev pub IsOfText : ℕ → Type 0
+IsOfText status = (status < UNTOLD) ⊎ (status ≡ CLOSED) ⊎ (status ≡ NO_MEMORY)
+
+-- a status of the begin of a call
+abbrev pub IsOfBegin : ℕ → Type 0
+IsOfBegin status = (status ≡ OK) ⊎ (status ≡ CLOSED) ⊎ IsRefusal status
+
+-- a status of the reply of a call
+abbrev pub IsOfReply : ℕ → Type 0
+IsOfReply status = IsReturned status ⊎ (status ≡ NO_REPLY) ⊎ (status ≡ CLOSED)
 
 -- Linux's number of an error
 abbrev pub linux_number : Errno → ℕ
@@ -60,6 +78,16 @@ fault_status kind.TooLarge = TOO_LARGE
 fault_status kind.OutOfMemory = NO_MEMORY
 fault_status kind.BadReply = BAD_REPLY
 fault_status kind.BadStart = BAD_START
+
+-- of what is wrong with the bytes of a path
+abbrev pub path_status : PathFault → ℕ
+path_status path.NotAbsolute = PATH_NOT_ABSOLUTE
+path_status path.Nul = PATH_NUL
+path_status path.NameTooLong = PATH_NAME_TOO_LONG
+path_status path.TooManyNames = PATH_TOO_MANY_NAMES
+path_status path.Dot = PATH_DOT
+path_status path.TrailingSlash = PATH_TRAILING_SLASH
+path_status path.OutOfMemory = NO_MEMORY
 
 -- of a refusal of the core
 abbrev pub refusal_status : Refusal → ℕ

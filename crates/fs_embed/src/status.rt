@@ -1,11 +1,12 @@
-//! The numbers that exports answer.
+//! The numbers that a caller in another language is answered by.
 
 ghost use Rattle.std.specs.Prelude.{◌≡◌, ◌<◌, ◌≤◌};
-ghost use Rattle.atomfs_c.specs.Statuses.{IsReturned, IsRefusal, linux_number, failed_status, fault_status, refusal_status, begin_status};
+ghost use Rattle.fs_embed.specs.Statuses.{IsReturned, IsRefusal, linux_number, failed_status, fault_status, path_status, refusal_status, begin_status};
 
+use crate::calls::NotBegun;
 use fs_calls::Errno;
 use fs_core::Refusal;
-use fs_embed::NotBegun;
+use fs_names::PathFault;
 use fs_text::FaultKind;
 
 /// Done, and all that was asked for is told.
@@ -86,6 +87,25 @@ pub const BAD_REPLY: u8 = 26;
 /// The start tree of a journal is none.
 pub const BAD_START: u8 = 27;
 
+/// A path does not begin with a slash. The numbers from here on say why bytes are no path: the check of a path alone answers
+/// them, and every other function `BAD_PATH`.
+pub const PATH_NOT_ABSOLUTE: u8 = 28;
+
+/// A path has a byte zero.
+pub const PATH_NUL: u8 = 29;
+
+/// A name of a path has more bytes than the limits allow.
+pub const PATH_NAME_TOO_LONG: u8 = 30;
+
+/// A path has more than 64 names.
+pub const PATH_TOO_MANY_NAMES: u8 = 31;
+
+/// A name of a path is `.` or `..`.
+pub const PATH_DOT: u8 = 32;
+
+/// A path has a name, and ends with a slash.
+pub const PATH_TRAILING_SLASH: u8 = 33;
+
 /// The call returned with an error: this and Linux's number of the error.
 pub const FAILED: u8 = 128;
 
@@ -135,6 +155,21 @@ pub fn fault_status(kind: FaultKind) -> u8
         FaultKind::OutOfMemory => NO_MEMORY,
         FaultKind::BadReply => BAD_REPLY,
         FaultKind::BadStart => BAD_START,
+    }
+}
+
+/// The number of what is wrong with the bytes of a path.
+pub fn path_status(fault: PathFault) -> u8
+    ensures { result ≡ path_status fault }
+{
+    match fault {
+        PathFault::NotAbsolute => PATH_NOT_ABSOLUTE,
+        PathFault::Nul => PATH_NUL,
+        PathFault::NameTooLong => PATH_NAME_TOO_LONG,
+        PathFault::TooManyNames => PATH_TOO_MANY_NAMES,
+        PathFault::Dot => PATH_DOT,
+        PathFault::TrailingSlash => PATH_TRAILING_SLASH,
+        PathFault::OutOfMemory => NO_MEMORY,
     }
 }
 
