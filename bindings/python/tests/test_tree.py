@@ -390,6 +390,22 @@ class Seats(OfTree):
         maker.finish()
         self.assertEqual(self.tree.readdir("/b/d"), ["x"])
 
+    def test_step_any(self):
+        """Of two calls, the first of which waits for the second, the second goes on; then the first does."""
+        self.assertIsNone(self.tree.step_any())
+        one, other = self.tree.seat(), self.tree.seat()
+        number = other.begin.mkdir("/a")
+        self.assertEqual(other.step().did, Did.TAKE)
+        one.begin.rmdir("/a")
+        self.assertEqual(one.step(), atomfs.Step(Did.WAIT, number))
+        self.assertEqual(self.tree.step_any(), (other.number, atomfs.Step(Did.COMMIT, 0)))
+        went = list(iter(self.tree.step_any, None))
+        self.assertEqual([seat for seat, step in went if step.did == Did.RETURN], [one.number, other.number])
+        self.assertNotIn(Did.WAIT, [step.did for _, step in went])
+        self.assertIsNone(other.reply())
+        self.assertIsNone(one.reply())
+        self.assertFalse(self.tree.exists("/a"))
+
     def test_waits(self):
         """A call of the tree that meets a node of another seat stays under way, and the tree goes on with others."""
         self.tree.mkdir("/a")

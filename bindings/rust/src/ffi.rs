@@ -160,6 +160,7 @@ extern "C" {
         number: *mut u64,
     ) -> u8;
     pub fn atomfs_step(fs: *mut Handle, seat: u64, did: *mut u8, about: *mut u64) -> u8;
+    pub fn atomfs_step_any(fs: *mut Handle, seat: *mut u64, did: *mut u8, about: *mut u64) -> u8;
 
     pub fn atomfs_reply_done(fs: *mut Handle, number: u64) -> u8;
     pub fn atomfs_reply_stat(fs: *mut Handle, number: u64, stat: *mut RawStat) -> u8;

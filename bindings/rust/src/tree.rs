@@ -351,6 +351,32 @@ impl Tree {
         Ok(Did::of(did, about))
     }
 
+    /// Makes one step of a call that does not wait, whichever it is, and tells its seat. It tells none where no call is under
+    /// way, and only there: in a loop it brings every call to its return.
+    ///
+    /// ```
+    /// use atomfs::{Call, Did, Reply, Tree};
+    ///
+    /// let mut tree = Tree::new()?;
+    /// let (one, other) = (tree.seat()?, tree.seat()?);
+    /// tree.begin(other, &Call::mkdir("/a"))?;
+    /// tree.step(other)?;
+    /// tree.begin(one, &Call::rmdir("/a"))?;
+    /// assert_eq!(tree.step(one)?, Did::WaitsFor(1));
+    /// assert_eq!(tree.step_any()?, Some((other, Did::Committed)));
+    /// while tree.step_any()?.is_some() {}
+    /// assert_eq!((tree.reply(other)?, tree.reply(one)?), (Reply::Done, Reply::Done));
+    /// # Ok::<(), atomfs::Error>(())
+    /// ```
+    pub fn step_any(&mut self) -> Result<Option<(Seat, Did)>, Error> {
+        let (mut seat, mut did, mut about) = (0, 0, 0);
+        done(unsafe { ffi::atomfs_step_any(&mut *self.handle, &mut seat, &mut did, &mut about) })?;
+        Ok(match Did::of(did, about) {
+            Did::Idle => None,
+            did => Some((Seat(seat), did)),
+        })
+    }
+
     /// Makes the steps of the call on a seat up to its return, and tells its reply. `Error::Waits` says that the call of
     /// another seat has to go on first.
     pub fn finish(&mut self, seat: Seat) -> Result<Reply, Error> {

@@ -323,6 +323,18 @@ class Tree:
                 raise error_of(self._library, status)
         return Seat(self, number.value)
 
+    def step_any(self) -> Optional[Tuple[int, Step]]:
+        """Makes one step of a call that does not wait, whichever it is: the number of its seat, and what the step did.
+
+        It is `None` where no call is under way, and only there: in a loop it brings every call to its return.
+        """
+        seat, did, about = ctypes.c_uint64(), ctypes.c_uint8(), ctypes.c_uint64()
+        with self.lock:
+            at = ctypes.addressof(seat), ctypes.addressof(did), ctypes.addressof(about)
+            if status := self._library.step_any(self._at, *at):
+                raise error_of(self._library, status)
+        return (seat.value, Step(Did(did.value), about.value)) if did.value else None
+
 
 def _number(value: int, what: str) -> int:
     """An offset, a count or a size as the library takes it: what is greater than any is as great as the greatest."""
