@@ -20,6 +20,21 @@ from worked import TOUR
 # What is built, and what a clone of files alone does not have.
 NO_SOURCES = ".git", "out", "dist", "target", "__pycache__", "*.egg-info", "Cargo.lock"
 MOST_SECONDS = 600
+# The events of seed 7 of examples/moved_ancestor.script, and its first commits.
+WORDS = """\
+namer*2 mover writer*3 namer mover namer writer*2 mover namer mover*2
+writer*3 mover namer writer namer writer mover writer namer mover
+namer*2 mover namer*2 mover writer mover writer*2 namer mover writer
+namer writer*2 mover*4 namer*2 writer mover*3 writer*3 mover writer*4
+namer*2 mover*5 writer*2 mover writer*17
+"""
+COMMITS = """\
+7 namer#1 commits, adds /a%20b
+11 writer#3 commits, adds /work
+24 mover#2 commits, moves /work to /done
+29 namer#5 commits, moves /a%20b to /%C3%A9
+36 writer#4 commits, fails ENOENT
+"""
 
 
 class Clean(Case):
@@ -92,9 +107,12 @@ class Clean(Case):
         script = "< examples/moved_ancestor.script"
         self.same("seeds", self.succeeds(f"examples/run seeds --seed 1 --runs 3 {script}"), "seed 1 lawful\nseed 2 lawful\nseed 3 lawful\n")
         self.same("schedule", self.succeeds(f"examples/run schedule --seed 7 {script} > kept.script"), "")
+        self.same("kept.script", (self.clone / "kept.script").read_text().split("\nschedule\n")[1], WORDS)
         kept = self.succeeds("examples/run run < kept.script")
         self.same("the run of kept.script", kept, self.succeeds(f"examples/run run --seed 7 {script}"))
-        self.same("its trace ends with its tree", self.succeeds("examples/run trace < kept.script").partition("\ntree\n")[2], kept.partition("\ntree\n")[2])
+        told = self.succeeds("examples/run trace < kept.script")
+        self.same("its first commits", "".join(re.findall(r"^\d+ \S+ commits, .*\n", told, re.M)[:5]), COMMITS)
+        self.same("its trace ends with its tree", told.partition("\ntree\n")[2], kept.partition("\ntree\n")[2])
         self.same("draw", self.succeeds("examples/run draw < kept.script > kept.svg"), "")
         self.assertTrue((self.clone / "kept.svg").read_text().startswith("<svg "))
 
