@@ -457,10 +457,11 @@ class Grammar(Page):
     def test_replies(self):
         """A reply that can be read is that of a call which never began."""
         replies = [span for row in table(FORMATS, "Text", "Reply") for span in spans(row[0])]
-        self.each(((reply, text_of("atomfs-journal 1", f"return 1 {filled(reply)}")) for reply in replies), self.look_at_reply)
+        self.each(((reply, f"return 1 {filled(reply)}") for reply in replies), self.look_at_reply)
 
-    def look_at_reply(self, given):
-        self.same(given, run(given, "check"), Outcome(1, b"fault 1 ReturnUncommitted\n"))
+    def look_at_reply(self, entry):
+        given = text_of("atomfs-journal 1", entry)
+        self.same(given, run(given, "check"), Outcome(1, b"fault 1 ReturnUncommitted\n", text_of(f"atomfs: line 2: {entry}; no call 1 has begun")))
 
 
 class Commands(Page):
@@ -515,7 +516,7 @@ class Commands(Page):
 
     def look_at_journal(self, journal, prints):
         status = re.search(r"status (\d)", prints)
-        self.same(journal, run((ROOT / journal).read_bytes(), "check"), Outcome(int(status[1]) if status else 0, text_of(spans(prints)[0])))
+        self.same(journal, run((ROOT / journal).read_bytes(), "check")[:2], (int(status[1]) if status else 0, text_of(spans(prints)[0])))
 
     def look_at_script(self, script, _):
         status, output, _ = run((ROOT / script).read_bytes(), "run")
@@ -644,7 +645,8 @@ class EachCommand(Page):
             return self.same("the scripts that are not there", [word for word in words if not (ROOT / word).exists()], [])
         given = ROOT / given if given not in self.INPUTS else journal if words[0] == "check" else script
         outcome = run(given.read_bytes(), *words)
-        message = b"" if self.IN_PART.match(outcome.message) else outcome.message
+        # A check tells what is wrong beside the verdict.
+        message = b"" if self.IN_PART.match(outcome.message) or outcome.output.startswith(b"fault ") else outcome.message
         self.same("what it tells", message, b"")
 
     def look_at_promises(self, command):

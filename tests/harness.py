@@ -97,8 +97,8 @@ def told(ask, given):
 def spawned(words, given, **other):
     """The outcome of a process of its own, in which some of what `subprocess.run` takes may be other."""
     pipes = {"stdout": subprocess.PIPE, "stderr": subprocess.PIPE}
-    # Help and usage errors name the program as it was called.
-    done = subprocess.run(["atomfs", *words], executable=program(), input=given, timeout=MOST_SECONDS, **pipes | other)
+    # Help and usage errors name the program `atomfs`, whatever it is called by.
+    done = subprocess.run([program(), *words], input=given, timeout=MOST_SECONDS, **pipes | other)
     return Outcome(done.returncode, done.stdout or b"", done.stderr or b"")
 
 

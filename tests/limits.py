@@ -18,7 +18,7 @@ from harness import MOST_SECONDS, Case, Outcome, program, spawned, takes_a_proce
 TEXT, THREADS, CALLS, EVENTS = 16_777_216, 256, 65_536, 1_000_000
 FILE, ENTRIES, NAME, PATH = 65_536, 256, 32, 64
 # So much stack is enough for each command, on whatever input.
-STACK = 160 * 1024
+STACK = 128 * 1024
 # The largest file by the second limits.
 FILE_BY_SECOND = 1_048_576
 ROOM = 268_435_456

@@ -201,6 +201,42 @@ class Asked(Case):
             self.same("wrong_reply.journal", re.findall(r", due (\w+)", came), ["ok"])
 
 
+class Faults(Case):
+    """The call at the first fault of a journal is marked: by the kind, or by the reply that was due. A call that does not begin as its entry says, or not
+    before it, is drawn at that entry; and `--around` takes it."""
+
+    def look(self, journal, number, told):
+        for more in ((), ("--around", str(number))):
+            came = run(journal, "draw", *more)
+            if harness.compares:
+                texts = ElementTree.fromstring(came.output).iter(SVG + "text")
+                marked = [(text.text.split(" ")[0], text.find(SVG + "tspan").text) for text in texts if text.find(SVG + "tspan") is not None]
+                self.same(f"{journal.decode()}{more}", (came.status, marked), (1, [(f"#{number}", told)]))
+
+    def test_each_kind(self):
+        journals = {path.name: journal for path, journal in examples(JOURNALS, "journal")}
+        rows = [
+            ("begin_twice", 1, ", BeginTwice"),
+            ("seat_busy", 2, ", SeatBusy"),
+            ("commit_twice", 7, ", CommitTwice"),
+            ("return_before_its_commit", 1, ", ReturnUncommitted"),
+            ("return_twice", 7, ", ReturnTwice"),
+            ("wrong_names", 2, ", due names a"),
+        ]
+        begun_behind = b"atomfs-journal 1\nbegin 1 0 stat /\ncommit 7\nbegin 7 1 stat /\n"
+        busy = b"atomfs-journal 1\nbegin 7 0 stat /\nbegin 8 0 mkdir /a\ncommit 7\n"
+        others = ("begun behind", begun_behind, 7, ", CommitUnbegun"), ("on a busy seat", busy, 8, ", SeatBusy")
+        self.each([*((name, journals[name], *more) for name, *more in rows), *others], self.look)
+
+    def test_no_such_call(self):
+        """Where no entry begins it, there is no call to mark."""
+        for entry in (b"commit 7", b"return 7 ok"):
+            given = b"atomfs-journal 1\nbegin 1 0 stat /\n%s\n" % entry
+            came = run(given, "draw")
+            self.same(given.decode(), (came.status, b"<tspan" in came.output), (1, False) if harness.compares else (0, False))
+            self.same(given.decode(), run(given, "draw", "--around", "7"), harness.Outcome(2, b"", b"atomfs: there is no call 7\n"))
+
+
 class Checkpoints(Case):
     """A run in pieces is drawn whole, with a line at each checkpoint; a journal that starts at another tree is judged from there."""
 

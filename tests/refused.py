@@ -87,7 +87,7 @@ class Program(Preloaded):
             ("seeds", "seeds --seed 7 --runs 3", "helped_rename.script", b"seed 7 lawful\nseed 8 lawful\nseed 9 lawful\n"),
             ("check", "check", "errors_of_each_call.text", b"lawful\n"),
             ("threads", "threads", "errors_of_each_call.script", b"lawful calls 57\n"),
-            ("explain", "explain SeatBusy", "errors_of_each_call.script", b"SeatBusy: the seat's last call has not returned\n"),
+            ("explain", "explain Nul", "errors_of_each_call.script", b"Nul: a path has a byte zero\n\nIn a script, for    stat /a%00\nwrite               stat /a%2500\nbecause             no name has a byte zero, and `%25` is a `%`\n"),
         )
         self.each(rows, self.growths)
 

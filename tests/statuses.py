@@ -119,7 +119,7 @@ class Words(Case):
 
     def test_faults_of_the_input(self):
         self.all_end((
-            ("a journal that is not lawful", "check", WRONG, Outcome(1, b"fault 3 WrongReply\n")),
+            ("a journal that is not lawful", "check", WRONG, Outcome(1, b"fault 3 WrongReply\n", b"atomfs: line 4: return 1 failed EEXIST; call 1 is mkdir /a on seat 0; due: ok\n")),
             ("a script is checked", "check", of(HELPED), malformed("line 1: BadHeader")),
             ("nothing is checked", "check", b"", malformed("line 1: BadHeader")),
             ("a journal is run", "run", of(HELPED, "text"), malformed("line 1: BadHeader")),

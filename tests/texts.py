@@ -22,7 +22,10 @@ import grammar
 import model
 import harness
 from harness import DATA, Case, Outcome, atomfs, library, run
+from worked import RUNS, examples
 
+# How often each worked journal is changed.
+DRAWN_EACH = 12
 READERS = {"script": grammar.Script, "journal": grammar.journal}
 COMMANDS = {
     "script": (("run",), ("run", "--robin"), ("run", "--seed", "7"), ("seeds", "--seed", "7", "--runs", "1"), ("threads",)),
@@ -139,45 +142,63 @@ def written(text):
 
 
 class History:
-    """The entries of a journal so far, by the table of verdicts of docs/SPECIFICATION.md: an entry answers the kind of its fault, or None."""
+    """The entries of a journal so far, by the table of verdicts of docs/SPECIFICATION.md: an entry answers the kind of its fault and what it disagrees with, or
+    None. `told` has the words of the entry at a place."""
 
-    def __init__(self, start, version):
-        self.tree, self.calls, self.due, self.returned, self.last = model.Tree.of(start, version), {}, {}, set(), {}
+    def __init__(self, start, version, told):
+        self.tree, self.calls, self.due, self.last, self.told = model.Tree.of(start, version), {}, {}, {}, told
+        self.begun, self.committed, self.returned = {}, {}, {}
 
-    def begin(self, number, seat, *call):
+    def who(self, number):
+        seat, *words = self.calls.get(number, ("",))
+        return f"; call {number} is {cut(' '.join(words))} on seat {seat}" if words else f"; no call {number} has begun"
+
+    def begin(self, place, number, seat, *words):
         if number in self.calls:
-            return "BeginTwice"
+            return "BeginTwice", f"; call {number} began before, at {self.told(self.begun[number])}"
         if seat in self.last and self.last[seat] not in self.returned:
-            return "SeatBusy"
-        self.calls[number], self.last[seat] = call, number
+            return "SeatBusy", f"; seat {seat} has a call that has not returned, begun at {self.told(self.begun[self.last[seat]])}"
+        self.calls[number], self.last[seat], self.begun[number] = (seat, *words), number, place
 
-    def commit(self, number):
+    def commit(self, place, number):
         if number not in self.calls:
-            return "CommitUnbegun"
+            return "CommitUnbegun", self.who(number)
         if number in self.due:
-            return "CommitTwice"
-        self.due[number] = self.tree.apply(self.calls[number])
+            return "CommitTwice", f"{self.who(number)}; it committed before, at {self.told(self.committed[number])}"
+        self.due[number], self.committed[number] = self.tree.apply(self.calls[number][1:]), place
 
-    def returns(self, number, *reply):
+    def returns(self, place, number, *reply):
         if number not in self.due:
-            return "ReturnUncommitted"
+            return "ReturnUncommitted", self.who(number) + "; it has not committed" * (number in self.calls)
         if number in self.returned:
-            return "ReturnTwice"
+            return "ReturnTwice", f"{self.who(number)}; it returned before, at {self.told(self.returned[number])}"
         if self.due[number] != " ".join(reply):
-            return "WrongReply"
-        self.returned.add(number)
+            return "WrongReply", f"{self.who(number)}; due: {cut(self.due[number])}"
+        self.returned[number] = place
+
+
+def cut(words):
+    """Words in a message: of more than so many bytes the rest is left out."""
+    return f"{words[:240]}.." if len(words) > 240 else words
+
+
+def checked(text):
+    """What `atomfs check` makes of a journal, by the model: the line of the verdict, and the message."""
+    entries, (start, behind) = grammar.journal(text), grammar.start(text)
+    numbers = [number for number, line in enumerate(text.split(b"\n"), 1) if number > behind and line and not line.startswith(b"#")]
+    told = lambda place: f"line {numbers[place - 1]}: {cut(entries[place - 1])}"
+    history = History(start, model.VERSIONS[text.split(b"\n")[0].decode()], told)
+    take = {"begin": history.begin, "commit": history.commit, "return": history.returns}
+    for place, entry in enumerate(entries, 1):
+        kind, *words = entry.split(" ")
+        if fault := take[kind](place, *words):
+            return f"fault {place} {fault[0]}", f"atomfs: {told(place)}{fault[1]}\n".encode()
+    return "lawful", b""
 
 
 def verdict(text):
     """The line of the verdict on a journal, by the model."""
-    entries, (start, _) = grammar.journal(text), grammar.start(text)
-    history = History(start, model.VERSIONS[text.split(b"\n")[0].decode()])
-    take = {"begin": history.begin, "commit": history.commit, "return": history.returns}
-    for place, entry in enumerate(entries, 1):
-        kind, *words = entry.split(" ")
-        if fault := take[kind](*words):
-            return f"fault {place} {fault}"
-    return "lawful"
+    return checked(text)[0]
 
 
 class Rows:
@@ -272,10 +293,48 @@ class OfTheProgram(Rows, Case):
 
     def look_at_journal(self, text, _):
         """Its verdict is that of the journal that is written from its entries."""
-        self.same(text, run(text, "check"), run(written(text), "check"))
+        came, again = run(text, "check"), run(written(text), "check")
+        self.same(text, came[:2], again[:2])
+        self.same(text, came.message, checked(text)[1])
 
     def look_at_verdict(self, text, answer):
-        self.same(text, run(text, "check"), Outcome(int(answer != ["lawful"]), text_of(answer[0])))
+        self.same(text, run(text, "check"), Outcome(int(answer != ["lawful"]), text_of(answer[0]), checked(text)[1]))
+
+
+class Unlawful(Case):
+    """Journals of the worked runs in which entries were taken out, exchanged, doubled or given another reply: the verdict, and what is told of it."""
+
+    OTHERS = "ok", "failed ENOENT", "names q", "bytes 00", "wrote 3"
+
+    def changed(self, draw, journal):
+        lines = journal.split(b"\ntree\n", 1)[0].decode("latin-1").split("\n")
+        behind = lines.index("entries") + 1 if "entries" in lines else 1
+        head, entries = lines[:behind], lines[behind:]
+        for _ in range(draw.randint(1, 3)):
+            one, other = draw.randrange(len(entries)), draw.randrange(len(entries))
+            match draw.randrange(5):
+                case 0 if len(entries) > 1:
+                    del entries[one]
+                case 1:
+                    entries[one], entries[other] = entries[other], entries[one]
+                case 2:
+                    entries.insert(other, entries[one])
+                case 3 if entries[one].startswith("return "):
+                    entries[one] = f"{' '.join(entries[one].split(' ')[:2])} {draw.choice(self.OTHERS)}"
+                case 4:
+                    entries.insert(one, draw.choice(("# no entry", "")))
+        return "".join(f"{line}\n" for line in (*head, *entries)).encode("latin-1")
+
+    def look(self, text):
+        line, told = checked(text)
+        self.same(text, run(text, "check"), Outcome(int(line != "lawful"), text_of(line), told))
+
+    def test_drawn(self):
+        journals = [(path.name, text) for path, text in examples(RUNS, "text") if text.count(b"\nreturn ") > 2 and len(text) < 2_000]
+        rows = [(f"{name} {number}", self.changed(random.Random(f"{name} {number}"), text)) for name, text in journals for number in range(DRAWN_EACH)]
+        self.each(rows, self.look)
+        kinds = {checked(text)[0].split(" ")[-1] for _, text in rows}
+        self.same("the kinds that come", sorted(kinds), sorted(KINDS["verdict"]))
 
 
 def starting(version, *nodes):

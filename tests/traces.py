@@ -628,6 +628,15 @@ class Schedules(Case):
         script = f"atomfs 1\n{blocks}schedule\n".encode()
         self.same("60 threads with 250 calls each", run(script, "schedule", "--robin"), Outcome(4, b"", b"atomfs: the run takes more events than a script gives\n"))
 
+    def test_a_text_without_room(self):
+        """The words of its events are one byte more than the text has room for."""
+        harness.takes_a_process()
+        head, tail = b"atomfs 1\nthread t\nmkdir /a\n#", b"\nschedule\n"
+        for more, wanted in ((0, (0, b"")), (1, (4, b"atomfs: the script would have more than 16777216 bytes\n"))):
+            script = head + b"-" * (16_777_216 - len(head + tail + b"t*5\n") + more) + tail
+            came = run(script, "schedule", "--robin")
+            self.same(f"a script of {len(script)} bytes", (came.status, came.message), wanted)
+
     def test_a_schedule_is_named(self):
         self.same("atomfs schedule", run(CUT, "schedule").status, 2)
 

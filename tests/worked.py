@@ -2,9 +2,9 @@
 
 runs/ has scripts. NAME.script writes NAME.text by its own schedule, and then ends with the status of NAME.status; by round robin it writes
 NAME.robin.text, and by the threads that are drawn from 7 NAME.drawn.text, where these are others. journals/ has journals: the verdict on NAME.journal
-is NAME.verdict, and the status that of NAME.status. faults/ has texts that are neither: NAME.message is what is told of each, and NAME.status is 3.
-A status that no file has is 0. The scripts and journals of examples/ are looked at too, and the commands that the files of examples/tour/ show, of which
-tests/data/tour/ has what each writes.
+is NAME.verdict, what is told of it NAME.message, and the status that of NAME.status. faults/ has texts that are neither: NAME.message is what is told
+of each, and NAME.status is 3. A status that no file has is 0. The scripts and journals of examples/ are looked at too, and the commands that the files of
+examples/tour/ show, of which tests/data/tour/ has what each writes.
 """
 import os
 import pathlib
@@ -23,7 +23,7 @@ TOUR = EXAMPLES / "tour"
 # How many inputs a folder has, and what stands behind the name of one.
 FOLDERS = (
     ("runs", RUNS, 48, ("script", "text", "robin.text", "drawn.text", "status")),
-    ("journals", JOURNALS, 14, ("journal", "verdict", "status")),
+    ("journals", JOURNALS, 14, ("journal", "verdict", "message", "status")),
     ("faults", FAULTS, 44, ("script", "journal", "message", "status")),
 )
 RUN, ROBIN, DRAWN, THREADS, CHECK = ("run",), ("run", "--robin"), ("run", "--seed", "7"), ("threads",), ("check",)
@@ -120,8 +120,9 @@ class OfTheProgram(Case):
         )
 
     def test_journals(self):
-        rows = [(example, CHECK, journal, Outcome(status(example), beside(example, "verdict"))) for example, journal in examples(JOURNALS, "journal")]
-        for name, wanted in (("moved_ancestor", LAWFUL), ("wrong_reply", Outcome(1, b"fault 12 WrongReply\n"))):
+        rows = [(example, CHECK, journal, Outcome(status(example), beside(example, "verdict"), beside(example, "message"))) for example, journal in examples(JOURNALS, "journal")]
+        told = b"atomfs: line 14: return 3 failed ENOENT; call 3 is mkdir /a/d/x on seat 0; due: ok\n"
+        for name, wanted in (("moved_ancestor", LAWFUL), ("wrong_reply", Outcome(1, b"fault 12 WrongReply\n", told))):
             rows.append((EXAMPLES / name, CHECK, beside(EXAMPLES / name, "journal"), wanted))
         self.all_end(rows)
 

@@ -13,12 +13,12 @@ ghost use Rattle.fs_command.specs.Commands.{IsWithin};
 mod tests;
 
 use fs_command::{
-    Line, SharedLine, Subcommand, Topic, explanation, parse, report, report_draw, report_schedule,
-    status_of_run, status_of_unreadable_args, status_of_usage, status_of_verdict,
+    Line, SharedLine, Subcommand, Topic, explanation, parse, report, report_check, report_draw,
+    report_schedule, status_of_run, status_of_unreadable_args, status_of_usage, status_of_verdict,
 };
 use fs_draw::{DrawFault, draw_input};
 use fs_sched::{
-    Device, Progress, RunFault, Schedule, Silent, Sink, Source, check_journal, run_script,
+    Device, RunFault, Schedule, Silent, Sink, Source, Witness, check_journal, run_script,
     run_seeds, write_text,
 };
 use fs_share::Open;
@@ -33,7 +33,7 @@ use std::thread::Threads;
 use std::time::Clock;
 
 /// Runs a script, and answers the status.
-fn run<R: Source, W: Sink, P: Progress>(
+fn run<R: Source, W: Sink, P: Witness>(
     alloc: Global,
     reader: &mut R,
     writer: &mut W,
@@ -50,7 +50,7 @@ fn run<R: Source, W: Sink, P: Progress>(
 }
 
 /// Makes drawn runs of a script, and answers the status.
-fn seeds<R: Source, W: Sink, P: Progress>(
+fn seeds<R: Source, W: Sink, P: Witness>(
     alloc: Global,
     reader: &mut R,
     writer: &mut W,
@@ -80,17 +80,6 @@ fn threads<T: Threads + Wait + Clock + Sync, R: Source, W: Sink, G: Watch + Sync
     requires writes { W.failures writer.old < 2 ^ 64 - 1 }
 {
     match run_threads(rt, alloc, reader, writer, watch) {
-        Ok(lawful) => Ok(status_of_verdict(lawful)),
-        Err(fault) => Err(fault),
-    }
-}
-
-/// Checks a journal, and answers the status.
-fn check<R: Source, W: Sink>(alloc: Global, reader: &mut R, writer: &mut W) -> Result<u8, RunFault>
-    requires reads { R.failures reader.old < 2 ^ 64 - 1 }
-    requires writes { W.failures writer.old < 2 ^ 64 - 1 }
-{
-    match check_journal(alloc, reader, writer) {
         Ok(lawful) => Ok(status_of_verdict(lawful)),
         Err(fault) => Err(fault),
     }
@@ -246,7 +235,7 @@ fn perform<T: Threads + Wait + Clock + Sync, R: Source, W: Sink, E: Write>(
         Subcommand::Seeds(first, runs) => {
             seeds_shown(rt, alloc, reader, writer, (*first, *runs), terminal)
         }
-        Subcommand::Check => check(alloc, reader, writer),
+        Subcommand::Check => return report_check(errors, check_journal(alloc, reader, writer)),
         Subcommand::Explain(first, second) => explain(alloc, writer, *first, *second),
         Subcommand::Trace(order, every) => trace(alloc, reader, writer, *order, *every),
         Subcommand::Draw(order, call) => {

@@ -325,6 +325,7 @@ fn second_kind_argument<'a>(alloc: Global) -> Arg<'a> {
 fn explain_alone<'a>(alloc: Global) -> Command<'a> {
     Command::new(alloc, "explain")
         .about("Writes what the words of a message mean, and what to write instead")
+        .override_usage("atomfs explain <KIND> [KIND]")
         .after_help(EXPLAIN_STATUSES)
 }
 
@@ -340,6 +341,7 @@ fn program<'a>(alloc: Global) -> Command<'a> {
     Command::new(alloc, "atomfs")
         .version(VERSION)
         .about("A concurrent file tree in memory")
+        .override_usage("atomfs <COMMAND>")
         .after_help(STATUSES)
         .subcommand_required(true)
 }

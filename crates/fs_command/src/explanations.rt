@@ -235,30 +235,72 @@ because             the entries follow a line `entries`
 
 const BEGIN_TWICE: &str = "\
 BeginTwice: a call of this number began before
+
+next                atomfs check < FILE
+it tells            the line of the entry, and the begin before it
+
+next                atomfs draw --around CALL < FILE > run.svg
+it shows            the call of the entry, and those that overlap it
 ";
 
 const SEAT_BUSY: &str = "\
 SeatBusy: the seat's last call has not returned
+
+next                atomfs check < FILE
+it tells            the line of the entry, and the begin of the call that has not returned
+
+next                atomfs draw --around CALL < FILE > run.svg
+it shows            the call of the entry, and those that overlap it
 ";
 
 const COMMIT_UNBEGUN: &str = "\
 CommitUnbegun: no call of this number has begun
+
+next                atomfs check < FILE
+it tells            the line of the entry, and that no call of its number has begun
+
+next                atomfs draw --around CALL < FILE > run.svg
+it shows            the call of the entry, and those that overlap it
 ";
 
 const COMMIT_TWICE: &str = "\
 CommitTwice: the call has committed before
+
+next                atomfs check < FILE
+it tells            the line of the entry, its call, and the commit before it
+
+next                atomfs draw --around CALL < FILE > run.svg
+it shows            the call of the entry, and those that overlap it
 ";
 
 const RETURN_UNCOMMITTED: &str = "\
 ReturnUncommitted: the call has not committed, or never began
+
+next                atomfs check < FILE
+it tells            the line of the entry, and its call
+
+next                atomfs draw --around CALL < FILE > run.svg
+it shows            the call of the entry, and those that overlap it
 ";
 
 const RETURN_TWICE: &str = "\
 ReturnTwice: the call has returned before
+
+next                atomfs check < FILE
+it tells            the line of the entry, its call, and the return before it
+
+next                atomfs draw --around CALL < FILE > run.svg
+it shows            the call of the entry, and those that overlap it
 ";
 
 const WRONG_REPLY: &str = "\
 WrongReply: the reply differs from the one that is due: what the sequential tree replies after the calls committed before
+
+next                atomfs check < FILE
+it tells            the line of the entry, its call, and the reply that is due
+
+next                atomfs draw --around CALL < FILE > run.svg
+it shows            the call of the entry, and those that overlap it
 ";
 
 fn of_path(fault: PathFault) -> &'static str

@@ -1,7 +1,7 @@
 //! How far a command is, told on a terminal: one line, which is written anew in its place and erased at the end.
 
-use fs_core::Stepped;
-use fs_sched::Progress;
+use fs_core::{Core, Stepped};
+use fs_sched::{Moment, Witness};
 use fs_share::Gate;
 use fs_threads::Watch;
 use fs_words::Addition;
@@ -178,9 +178,17 @@ impl<'a, C: Clock> Line<'a, C> {
     }
 }
 
-impl<'a, C: Clock> Progress for Line<'a, C> {
+impl<'a, C: Clock> Witness for Line<'a, C> {
+    ghost Told = { λ _ _ _. Unit {0} };
+
     fn begins(&mut self, calls: usize) {
         self.calls = calls as u64;
+    }
+
+    // In the player's own code, so that a moment at which nobody looks is not made.
+    #[inline(always)]
+    fn saw(&mut self, _core: &Core, _moment: Moment) -> Result<(), AllocError> {
+        Ok(())
     }
 
     fn went_on(&mut self, events: u64, entries: usize) {

@@ -3,12 +3,12 @@
 ghost use Rattle.std.specs.Prelude.{◌≡◌, ◌≢◌, ◌⊎◌};
 ghost use Rattle.std.specs.IoError.{error_kind};
 ghost use Rattle.clap.specs.Values.{kind_of};
-ghost use Rattle.fs_command.specs.Statuses.{status_of, status_of_drawn, status_of_run, status_of_scheduled, status_of_verdict};
+ghost use Rattle.fs_command.specs.Statuses.{status_of, status_of_checked, status_of_drawn, status_of_run, status_of_scheduled, status_of_verdict};
 
 use clap::Error;
 use clap::error::ErrorKind;
 use fs_draw::DrawFault;
-use fs_sched::{RunEnd, RunFault};
+use fs_sched::{Checked, RunEnd, RunFault};
 use fs_threads::ThreadsFault;
 use fs_trace::ScheduleFault;
 use std::io::{self, ErrorKind as IoErrorKind, Write};
@@ -41,6 +41,23 @@ pub fn report<E: Write>(errors: &mut E, outcome: Result<u8, ThreadsFault>) -> u8
         ThreadsFault::Run(fault) => fault.status(),
         ThreadsFault::Lists(_) => 4,
     }
+}
+
+/// The status that a check came to, or that of its fault, whose message is written. Of a journal that is not lawful the message
+/// says what is wrong.
+pub fn report_check<E: Write>(errors: &mut E, outcome: Result<Checked, RunFault>) -> u8
+    ensures { result ≡ status_of_checked outcome }
+{
+    let checked = match outcome {
+        Ok(checked) => checked,
+        Err(fault) => return report(errors, Err(ThreadsFault::Run(fault))),
+    };
+    if !checked.lawful {
+        let _ = errors.write_all(b"atomfs: ");
+        let _ = errors.write_all(checked.reason.as_slice());
+        let _ = errors.write_all(b"\n");
+    }
+    status_of_verdict(checked.lawful)
 }
 
 /// The status that a schedule which is written came to, or that of its fault, whose message is written.

@@ -1,5 +1,5 @@
 -- Why there is no picture, and what is said of the input by what was read of it.
-use Rattle.std.proofs.Common.{◌≡◌, ◌≢◌, ℕ, ◌≤◌, ◌⊎◌, inl, inr, ⊎_elim, Bool, List, length, Option, Some, None, Err, refl, ap, sym}
+use Rattle.std.proofs.Common.{◌≡◌, ◌≢◌, ℕ, ◌≤◌, ◌⊎◌, inl, inr, ⊎_elim, Bool, List, length, Option, Some, None, Ok, Err, refl, ap, sym}
 use Rattle.std.specs.Prelude.{IfSome, ◌==◌}
 use Rattle.fs_words.specs.declared.fault.ScriptFault.{ScriptFault}
 use Rattle.fs_io.specs.declared.failure.Failure.{Failure}
@@ -14,8 +14,9 @@ use Rattle.fs_verdict.specs.declared.fault.RunFault.TheVariants as run
 use Rattle.fs_sched.specs.declared.schedule.Schedule.{Schedule}
 use Rattle.fs_verdict.proofs.CheckLemmas.{known_verdict, verdict_short}
 use Rattle.fs_sched.proofs.RunLemmas.{known_script, script_short}
-use Rattle.fs_record.specs.Recordings.{IsRecorded}
-use Rattle.fs_record.specs.declared.recorder.Recording.{Recording}
+use Rattle.fs_witness.specs.declared.moments.Moment.{Moment}
+use Rattle.fs_sched.specs.Watching.{Watches}
+use Rattle.fs_sched.specs.declared.watching.Ran.{Ran}
 use Rattle.fs_draw.specs.Faults.{fault_between}
 use Rattle.fs_draw.specs.Pictures.{IsOfRun, IsPictureOf, has_returned}
 use Rattle.fs_draw.specs.declared.fault.DrawFault.{DrawFault}
@@ -30,9 +31,9 @@ of_journal input run.OutOfMemory is = is
 of_journal input run.Full is = is
 of_journal input (run.UnderWay c) is = is
 
--- a run that was recorded is drawn, and the answer is whether each call returned
-pub run_drawn : (schedule : Schedule) (text : List ℕ) (script : Script) (recording : Recording) → IsRecorded schedule text script recording → IsOfRun schedule text (recording.end.returned == recording.end.calls)
-run_drawn schedule text script recording (is, recorded) = (script, is, recording.moments.items, recorded.last, recorded.tells, ap has_returned recorded.end)
+-- a run that was told is drawn, and the answer is whether each call returned
+pub run_drawn : {A : Type 0} (told : A → A → List Moment → Type 0) (schedule : Schedule) (text : List ℕ) (script : Script) (old new : A) (ran : Ran) → script_of text ≡ Ok script → Watches told schedule script old ran new → IsOfRun schedule text (ran.end.returned == ran.end.calls)
+run_drawn told schedule text script old new ran is w = (script, is, w.moments, w.last, w.tells, ap has_returned w.end)
 
 -- what has a picture is not too long
 pub picture_short : (schedule : Schedule) (text items out : List ℕ) (well : Bool) → text ≡ items → IsPictureOf schedule text well out → length items ≤ 16777216

@@ -7,8 +7,9 @@ use Rattle.fs_sched.specs.Checks.{is_lawful, verdict_of}
 use Rattle.fs_sched.specs.Runs.{Stage, end_of}
 use Rattle.fs_sched.specs.declared.running.RunEnd.{RunEnd}
 use Rattle.fs_sched.specs.declared.schedule.Schedule.{Schedule}
-use Rattle.fs_record.specs.Answers.{TellsRun, entries_told}
-use Rattle.fs_record.specs.declared.told.Moment.{Moment}
+use Rattle.fs_witness.specs.Moments.{entries_told}
+use Rattle.fs_sched.specs.Moments.{TellsRun}
+use Rattle.fs_witness.specs.declared.moments.Moment.{Moment}
 
 -- whether each call of a script returned
 abbrev pub has_returned : RunEnd → Bool

@@ -15,9 +15,9 @@ use crate::fault::DrawFault;
 use crate::picture::picture_of;
 use fs_io::{Made, Sink, Source, transform};
 use fs_journal::check_from;
-use fs_record::recorded;
 use fs_scene::{Scene, around, scene_of_journal, scene_of_run};
-use fs_sched::{RunFault, Schedule, is_lawful, journal_in};
+use fs_sched::{RunFault, Schedule, is_lawful, journal_in, script_in, watch};
+use fs_story::Teller;
 use std::alloc::{AllocError, Global};
 
 /// The fault where memory ran out.
@@ -39,16 +39,26 @@ fn of_script(alloc: Global, text: &[u8], schedule: Schedule) -> Result<Drawing, 
     ensures drawn { IfOk result (λ drawing. IsOfRun schedule text.now drawing.well) }
     ensures fault { (call : Option ℕ) → IfErr result (IsFaultOfPicture schedule call text.now) }
 {
-    let (script, recording) = match recorded(alloc, text, schedule) {
-        Ok(made) => made,
+    let script = match script_in(alloc, text) {
+        Ok(script) => script,
         Err(fault) => return Err(DrawFault::Run(fault)),
     };
-    let Ok(scene) = scene_of_run(alloc, &script, recording.moments.as_slice()) else {
+    let Ok(mut teller) = Teller::new(alloc, &script, false) else {
+        return Err(out_of_memory());
+    };
+    let ran = match watch(alloc, &script, schedule, &mut teller) {
+        Ok(ran) => ran,
+        Err(fault) => return Err(DrawFault::Run(fault)),
+    };
+    let Ok(story) = teller.story() else {
+        return Err(out_of_memory());
+    };
+    let Ok(scene) = scene_of_run(alloc, &script, &story) else {
         return Err(out_of_memory());
     };
     Ok(Drawing {
         scene,
-        well: recording.end.returned == recording.end.calls,
+        well: ran.end.returned == ran.end.calls,
     })
 }
 

@@ -78,5 +78,9 @@ pub(crate) fn write_tip(
         ink.raw(b"\ndue: ")?;
         ink.words(due.as_slice())?;
     }
+    if !card.fault.is_empty() {
+        ink.raw(b"\nfault: ")?;
+        ink.words(card.fault.as_slice())?;
+    }
     Ok(())
 }

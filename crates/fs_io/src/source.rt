@@ -10,7 +10,7 @@ use fs_words::TEXT_LIMIT;
 use std::alloc::Global;
 
 /// The most bytes that one read asks for.
-const PIECE: usize = 65_536;
+const PIECE: usize = 8_192;
 
 /// One byte more than a text has at most, which tells that a text is too long.
 const MOST: usize = TEXT_LIMIT + 1;

@@ -1,7 +1,7 @@
 //! What of each call stands in a row.
 
 use crate::places::{Place, Places};
-use crate::space::{Frame, add};
+use crate::space::{Frame, add, less};
 use fs_scene::{Card, Mark, Scene, What};
 use std::alloc::{AllocError, Global};
 
@@ -277,16 +277,28 @@ impl Rows {
         })
     }
 
-    /// A call begins in a lane.
-    fn begin(&mut self, alloc: Global, card: usize, lane: usize, x: u64) {
+    /// A call begins in a lane. Only in a journal that is not lawful one is under way there, whose bar ends before.
+    fn begin(
+        &mut self,
+        alloc: Global,
+        card: usize,
+        lane: usize,
+        x: u64,
+        row: &mut Row,
+    ) -> Result<(), AllocError> {
         if lane < self.lanes.len() {
             let live = &mut self.lanes[lane];
+            let before = less(x, 12).max(live.from);
+            if let Some(piece) = live.leave(alloc, before, false)? {
+                row.pieces.push(piece)?;
+            }
             live.part = Part::Walking;
             live.from = x;
             live.held.clear();
             live.wait = None;
             live.piece = Some(new_piece(alloc, card, lane, x, false));
         }
+        Ok(())
     }
 
     /// A call returns, and its piece is whole.
@@ -408,10 +420,7 @@ impl Rows {
         let lane = card.lane;
         self.pass_by(lane, mark, x)?;
         match mark.what {
-            What::Begin => {
-                self.begin(alloc, mark.card, lane, x);
-                Ok(())
-            }
+            What::Begin => self.begin(alloc, mark.card, lane, x, row),
             What::Take(node) => self.hold(alloc, lane, x, node, 0, mark.name.as_slice()),
             What::Wait(node, holder) => {
                 self.hold(alloc, lane, x, node, holder, mark.name.as_slice())

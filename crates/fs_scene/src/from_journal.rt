@@ -3,7 +3,7 @@
 use crate::scene::{Card, Fault, Mark, Scene, What};
 use fs_calls::Call;
 use fs_names::{CallNo, SeatNo};
-use fs_sched::push_verdict;
+use fs_sched::{call_of, due_reply, kind_text, push_verdict};
 use fs_script::Journal;
 use fs_text::{write_call, write_reply};
 use fs_timeline::{Entry, FaultKind, Verdict};
@@ -116,6 +116,25 @@ impl Reading {
         }
     }
 
+    /// A call begins in a lane; the answer is its place among the calls.
+    fn add_call(
+        &mut self,
+        at: u64,
+        number: CallNo,
+        lane: usize,
+        call: &Call,
+    ) -> Result<usize, AllocError> {
+        let mut words = Vec::new(self.alloc);
+        write_call(self.alloc, call, &mut words)?;
+        let card = self.scene.cards.len();
+        self.cards.insert(number.get(), card)?;
+        self.scene
+            .cards
+            .push(Card::new(self.alloc, number.get(), lane, words))?;
+        self.push_mark(at, card, What::Begin)?;
+        Ok(card)
+    }
+
     fn begin(
         &mut self,
         at: u64,
@@ -133,24 +152,7 @@ impl Reading {
         if self.set_busy(lane, true) {
             return Ok(false);
         }
-        let mut words = Vec::new(self.alloc);
-        write_call(self.alloc, call, &mut words)?;
-        let card = self.scene.cards.len();
-        self.cards.insert(number.get(), card)?;
-        self.scene.cards.push(Card {
-            number: number.get(),
-            lane,
-            words,
-            reply: Vec::new(self.alloc),
-            due: Vec::new(self.alloc),
-            first: 0,
-            last: 0,
-            order: 0,
-            commit: 0,
-            helper: None,
-            carried: 0,
-        })?;
-        self.push_mark(at, card, What::Begin)?;
+        let _ = self.add_call(at, number, lane, call)?;
         Ok(true)
     }
 
@@ -191,31 +193,71 @@ impl Reading {
             }
         }
     }
-}
 
-/// The words of the reply that was due to a call, by the commits up to its own.
-fn due_to(alloc: Global, journal: &Journal, number: CallNo) -> Result<Vec<u8>, AllocError> {
-    let mut tree = journal.start.copy()?;
-    let mut calls = BTreeMap::new(alloc);
-    let mut words = Vec::new(alloc);
-    for entry in journal.entries.as_slice() {
-        match entry {
-            Entry::Begin(other, _, call) => {
-                calls.insert(other.get(), call)?;
-            }
-            Entry::Commit(other) => {
-                if let Some(call) = calls.get(&other.get()) {
-                    let reply = tree.apply(alloc, call)?;
-                    if *other == number {
-                        write_reply(alloc, &reply, &mut words)?;
-                        return Ok(words);
-                    }
+    /// The place among the calls of the call of which an entry tells that does not fit. One that has not begun is drawn there: where
+    /// the entry begins it, or where an entry behind does. None where none does.
+    fn call_at_fault(
+        &mut self,
+        at: u64,
+        entry: &Entry,
+        entries: &[Entry],
+    ) -> Result<Option<usize>, AllocError> {
+        let number = call_of(entry);
+        if let Entry::Begin(_, seat, call) = entry {
+            return self.add_refused(at, number, *seat, call);
+        }
+        if let Some(card) = self.cards.get(&number.get()) {
+            return Ok(Some(*card));
+        }
+        for other in entries {
+            if let Entry::Begin(begun, seat, call) = other {
+                if *begun == number {
+                    return self.add_refused(at, number, *seat, call);
                 }
             }
-            Entry::Return(_, _) => {}
         }
+        Ok(None)
     }
-    Ok(words)
+
+    /// A call is drawn at an entry that does not fit.
+    fn add_refused(
+        &mut self,
+        at: u64,
+        number: CallNo,
+        seat: SeatNo,
+        call: &Call,
+    ) -> Result<Option<usize>, AllocError> {
+        let lane = match self.lanes.get(&seat.get()) {
+            Some(lane) => *lane,
+            None => return Ok(None),
+        };
+        if let Some(fault) = &mut self.scene.fault {
+            fault.mark = Some(self.scene.marks.len());
+        }
+        Ok(Some(self.add_call(at, number, lane, call)?))
+    }
+
+    /// Notes at the call of an entry that does not fit of which kind its fault is, where it is the first fault.
+    fn mark_fault(
+        &mut self,
+        at: u64,
+        entry: &Entry,
+        entries: &[Entry],
+        verdict: &Verdict,
+    ) -> Result<(), AllocError> {
+        let Verdict::Fault(place, kind) = verdict else {
+            return Ok(());
+        };
+        if *place as u64 != at {
+            return Ok(());
+        }
+        if let Some(card) = self.call_at_fault(at, entry, entries)? {
+            if let Some(card) = self.scene.cards.get_mut(card) {
+                card.fault.extend_from_slice(kind_text(*kind))?;
+            }
+        }
+        Ok(())
+    }
 }
 
 /// Notes at the call of a wrong reply which one was due.
@@ -230,7 +272,10 @@ fn set_due(alloc: Global, journal: &Journal, scene: &mut Scene) -> Result<(), Al
         return Ok(());
     };
     if let Some(Entry::Return(number, _)) = journal.entries.as_slice().get(*place) {
-        let due = due_to(alloc, journal, *number)?;
+        let mut due = Vec::new(alloc);
+        if let Some(reply) = due_reply(alloc, journal, *number)? {
+            write_reply(alloc, &reply, &mut due)?;
+        }
         let wrong = number.get();
         if let Some(at) = scene.cards.iter().position(|card| card.number == wrong) {
             scene.cards[at].due = due;
@@ -251,6 +296,7 @@ pub fn scene_of_journal(
     for entry in entries {
         at = at.saturating_add(1);
         if !reading.entry(at, entry)? {
+            reading.mark_fault(at, entry, entries, verdict)?;
             break;
         }
     }

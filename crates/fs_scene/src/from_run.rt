@@ -2,33 +2,10 @@
 
 use crate::labels::last_name;
 use crate::scene::{Card, Mark, Scene, What};
-use fs_core::Stepped;
-use fs_record::{Answer, Moment};
 use fs_script::Script;
-use fs_story::{Deed, Line, Story, tell_run};
+use fs_story::{Deed, Line, Story};
 use fs_text::{write_call, write_reply};
 use std::alloc::{AllocError, Global};
-
-/// The word at a place among words with a space between.
-fn word_at(words: &[u8], place: usize) -> &[u8] {
-    let mut rest = words;
-    for _ in 0..place {
-        match rest.iter().position(|byte| *byte == b' ') {
-            Some(at) => match rest.get(at.saturating_add(1)..) {
-                Some(behind) => rest = behind,
-                None => return &[],
-            },
-            None => return &[],
-        }
-    }
-    match rest.iter().position(|byte| *byte == b' ') {
-        Some(at) => match rest.get(..at) {
-            Some(word) => word,
-            None => rest,
-        },
-        None => rest,
-    }
-}
 
 /// How far a run is told: how many calls began, how many of them before the last checkpoint, and how many commits there were
 /// behind that.
@@ -78,11 +55,10 @@ fn what_of(line: &Line, so_far: &SoFar) -> Option<What> {
 }
 
 /// The last name of the node that a call takes or waits for; no bytes where a line tells of neither.
-fn name_at(what: What, words: &[u8]) -> &[u8] {
-    match what {
-        What::Take(_) => last_name(word_at(words, 2)),
-        What::Wait(_, _) => last_name(word_at(words, 3)),
-        _ => &[],
+fn name_of<'s>(line: &Line, story: &'s Story) -> &'s [u8] {
+    match story.words.get(line.path.from..line.path.end) {
+        Some(path) => last_name(path),
+        None => &[],
     }
 }
 
@@ -109,47 +85,20 @@ fn cards_of(alloc: Global, script: &Script, story: &Story) -> Result<Vec<Card>, 
                 write_call(alloc, call, &mut words)?;
             }
         }
-        cards.push(Card {
-            number: place.number,
-            lane: place.seat,
-            words,
-            reply: Vec::new(alloc),
-            due: Vec::new(alloc),
-            first: 0,
-            last: 0,
-            order: 0,
-            commit: 0,
-            helper: None,
-            carried: 0,
-        })?;
+        let mut card = Card::new(alloc, place.number, place.seat, words);
+        if let Some(Some(reply)) = story.replies.get(i) {
+            write_reply(alloc, reply, &mut card.reply)?;
+        }
+        cards.push(card)?;
     }
     Ok(cards)
 }
 
-/// The reply that a moment was answered, where it is a return of the call at a place among the calls.
-fn set_reply(
-    alloc: Global,
-    moment: Option<&Moment>,
-    card: usize,
-    scene: &mut Scene,
-) -> Result<(), AllocError> {
-    let Some(Moment::Event(told)) = moment else {
-        return Ok(());
-    };
-    if let Answer::Stepped(Stepped::Returned(reply)) = &told.answer {
-        if let Some(card) = scene.cards.get_mut(card) {
-            write_reply(alloc, reply, &mut card.reply)?;
-        }
-    }
-    Ok(())
-}
-
-/// Adds a line of the story, of which the moments tell the reply.
+/// Adds a line of the story.
 fn add_line(
     alloc: Global,
     line: &Line,
-    words: &[u8],
-    moments: &[Moment],
+    story: &Story,
     so_far: &mut SoFar,
     scene: &mut Scene,
 ) -> Result<(), AllocError> {
@@ -169,21 +118,14 @@ fn add_line(
         at,
         card,
         what,
-        name: Vec::from_slice(alloc, name_at(what, words))?,
+        name: Vec::from_slice(alloc, name_of(line, story))?,
     })?;
-    // Among the moments stand the checkpoints too.
-    let place = scene.checkpoints.len().saturating_add(line.number);
-    set_reply(alloc, moments.get(place.saturating_sub(1)), card, scene)
+    Ok(())
 }
 
-/// The scene of a run, of which these are the moments: all its pieces, one after the other.
-pub fn scene_of_run(
-    alloc: Global,
-    script: &Script,
-    moments: &[Moment],
-) -> Result<Scene, AllocError> {
-    let story = tell_run(alloc, script, moments, false)?;
-    let cards = cards_of(alloc, script, &story)?;
+/// The scene of a run that was told: all its pieces, one after the other.
+pub fn scene_of_run(alloc: Global, script: &Script, story: &Story) -> Result<Scene, AllocError> {
+    let cards = cards_of(alloc, script, story)?;
     let mut scene = Scene {
         lanes: lanes_of(alloc, script)?,
         calls: cards.len(),
@@ -199,12 +141,8 @@ pub fn scene_of_run(
         before: 0,
         commits: 0,
     };
-    let mut from = 0;
     for line in &story.lines {
-        if let Some(words) = story.words.get(from..line.end) {
-            add_line(alloc, line, words, moments, &mut so_far, &mut scene)?;
-        }
-        from = line.end;
+        add_line(alloc, line, story, &mut so_far, &mut scene)?;
     }
     Ok(scene)
 }

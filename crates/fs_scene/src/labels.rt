@@ -194,6 +194,15 @@ fn push_reply(card: &Card, label: &mut Label) -> Result<(), AllocError> {
     }
 }
 
+/// Adds the kind of the fault of an entry of a call.
+fn push_fault(card: &Card, label: &mut Label) -> Result<(), AllocError> {
+    if card.fault.is_empty() {
+        return Ok(());
+    }
+    label.failure.extend_from_slice(b", ")?;
+    label.failure.extend_from_slice(card.fault.as_slice())
+}
+
 /// The label of a call: where it begins, or in a later row.
 pub fn label_of(alloc: Global, card: &Card, again: bool, short: bool) -> Result<Label, AllocError> {
     let mut label = Label {
@@ -204,11 +213,11 @@ pub fn label_of(alloc: Global, card: &Card, again: bool, short: bool) -> Result<
         label.plain.extend_from_slice(&[ELLIPSIS, b' '])?;
     }
     push_number(card.number, &mut label.plain)?;
-    if again && short {
-        return Ok(label);
+    if !(again && short) {
+        label.plain.push(b' ')?;
+        push_call(card.words.as_slice(), &mut label.plain)?;
+        push_reply(card, &mut label)?;
     }
-    label.plain.push(b' ')?;
-    push_call(card.words.as_slice(), &mut label.plain)?;
-    push_reply(card, &mut label)?;
+    push_fault(card, &mut label)?;
     Ok(label)
 }

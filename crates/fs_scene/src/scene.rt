@@ -1,5 +1,7 @@
 //! What is drawn: lanes, calls, and the marks of what they did, in order.
 
+use std::alloc::Global;
+
 /// A sign in a text that is no byte of it: something was left out here.
 pub const ELLIPSIS: u8 = 1;
 
@@ -38,8 +40,8 @@ pub struct Mark {
 }
 
 /// A call: its number, which counts from 1 behind each checkpoint, its lane, its words, its reply's words (none where it did not
-/// return), the reply that was due where it is another one, and where it began, ended, took its place and was carried out.
-/// Numbers that are not there are 0.
+/// return), the reply that was due where it is another one, the kind of the fault where an entry of it has another fault, and where
+/// it began, ended, took its place and was carried out. Numbers that are not there are 0.
 #[derive(Drop)]
 pub struct Card {
     pub number: u64,
@@ -47,12 +49,33 @@ pub struct Card {
     pub words: Vec<u8>,
     pub reply: Vec<u8>,
     pub due: Vec<u8>,
+    pub fault: Vec<u8>,
     pub first: u64,
     pub last: u64,
     pub order: u64,
     pub commit: u64,
     pub helper: Option<usize>,
     pub carried: u64,
+}
+
+impl Card {
+    /// A call of which nothing is told yet but its number, its lane and its words.
+    pub fn new(alloc: Global, number: u64, lane: usize, words: Vec<u8>) -> Card {
+        Card {
+            number,
+            lane,
+            words,
+            reply: Vec::new(alloc),
+            due: Vec::new(alloc),
+            fault: Vec::new(alloc),
+            first: 0,
+            last: 0,
+            order: 0,
+            commit: 0,
+            helper: None,
+            carried: 0,
+        }
+    }
 }
 
 /// The fault of a journal: its words, and the mark at which it is; none where it is behind the last one.

@@ -7,7 +7,7 @@ use Rattle.fs_machine.specs.declared.answers.Stepped.TheVariants.{Idle, Took, Bu
 use Rattle.fs_sched.specs.Runs.{Stage, next_call, has_more, Event, Goes, Events}
 
 -- a step that does not answer Idle is one of a call on the seat
-asked : (s : State) (seat : ℕ) (answer : Stepped) (new : State) → Step s seat answer new → (answer ≡ Idle → ⊥) → (c : ℕ) × (s.on_seat seat ≡ Some c)
+pub asked : (s : State) (seat : ℕ) (answer : Stepped) (new : State) → Step s seat answer new → (answer ≡ Idle → ⊥) → (c : ℕ) × (s.on_seat seat ≡ Some c)
 asked s seat Idle new st other = absurd (other refl)
 asked s seat (Busy n d) new (c, op, m, held, e) other = (c, m.0)
 asked s seat (Took n) new (c, op, m, free, e) other = (c, m.0)

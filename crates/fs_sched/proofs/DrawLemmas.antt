@@ -1,9 +1,9 @@
 -- Drawn seats, one word after the other.
-use Rattle.std.proofs.Common.{◌≡◌, ℕ, zero, suc, ◌+◌, ◌-◌, ◌<◌, ◌%◌, [], ◌∷◌, refl, sym, ap, ap₂, ◌∙◌}
+use Rattle.std.proofs.Common.{◌≡◌, ℕ, zero, suc, ◌+◌, ◌-◌, ◌<◌, ◌%◌, ◌≤◌, [], ◌∷◌, map, arith, refl, sym, ap, ap₂, ◌∙◌}
 use Rattle.rand_core.specs.Steps.{first_words}
 use Rattle.rand_pcg.specs.Lcg.{Lcg}
 use Rattle.rand_pcg.specs.Pcg.{pcg32}
-use Rattle.fs_sched.specs.Schedules.{seats_from}
+use Rattle.fs_sched.specs.Schedules.{seats_from, one_event}
 use Rattle.fs_sched.specs.declared.schedule.TheConstants.{DRAW_LIMIT}
 use Rattle.fs_sched.specs.declared.seats.SeatsAhead.{SeatsAhead}
 use Rattle.fs_sched.specs.code.Ahead.{upcoming}
@@ -27,3 +27,6 @@ upcoming_from threads g seats e first is next k = upcoming_after first seats nex
 
 pub upcoming_more : (i seat : ℕ) (old new : SeatsAhead) → i < DRAW_LIMIT → ((k : ℕ) → upcoming (suc k) old ≡ seat ∷ upcoming k new) → upcoming (DRAW_LIMIT - i) old ≡ seat ∷ upcoming (DRAW_LIMIT - (i + 1)) new
 upcoming_more i seat old new less next = ap (λ (k : ℕ). upcoming k old) (one_less DRAW_LIMIT i less) ∙ next (DRAW_LIMIT - (i + 1))
+
+pub upcoming_end : (i : ℕ) (seats : SeatsAhead) → DRAW_LIMIT ≤ i → map one_event (upcoming (DRAW_LIMIT - i) seats) ≡ []
+upcoming_end i seats h = let e : DRAW_LIMIT - i ≡ 0 = omega (arith, h) in ap (λ (k : ℕ). map one_event (upcoming k seats)) e

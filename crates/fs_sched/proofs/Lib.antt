@@ -23,3 +23,5 @@ pub mod Done
 pub mod Reasons
 pub mod Starts
 pub mod ShortRuns
+pub mod Noting
+pub mod Telling

@@ -92,7 +92,7 @@ range_append a (suc m) n =
     let z : suc m + n ≡ suc (m + n) = omega arith in
     ap (range_with_len a) z ∙ ap (λ (xs : List ℕ). a ∷ xs) (range_append (a + 1) m n ∙ ap (λ (b : ℕ). range_with_len (a + 1) m ++ range_with_len b n) e)
 
-range_from : (from n : ℕ) → from ≤ n → range_with_len 0 n ≡ range_with_len 0 from ++ range_with_len from (n - from)
+pub range_from : (from n : ℕ) → from ≤ n → range_with_len 0 n ≡ range_with_len 0 from ++ range_with_len from (n - from)
 range_from from n h =
     let e : n ≡ from + (n - from) = omega (arith, h) in
     let z : 0 + from ≡ from = omega arith in

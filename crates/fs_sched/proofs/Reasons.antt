@@ -1,5 +1,5 @@
 -- Why a run has no text.
-use Rattle.std.proofs.Common.{◌≡◌, ℕ, List, Option, Some, None, Ok, sym, ap, ◌∙◌}
+use Rattle.std.proofs.Common.{◌≡◌, ℕ, ◌<◌, ◌≤◌, ⊎_elim, List, length, Option, Some, None, Ok, sym, ap, subst, ◌∙◌, arith}
 use Rattle.std.specs.Prelude.{IfSome}
 use Rattle.fs_script.specs.Script.{script_of}
 use Rattle.fs_script.specs.declared.script.Script.{Script}
@@ -33,3 +33,8 @@ of_input schedule input (faults.UnderWay c) is = absurd is
 pub known_stop : (r : Option (List ℕ)) (text items : List ℕ) (schedule : Schedule) (fault : RunFault) → text ≡ items → IfSome r (IsSameText items) → ReachesStop schedule text fault → IfSome r (λ input. ReachesStop schedule input fault)
 known_stop None text items schedule fault e s stop = tt
 known_stop (Some input) text items schedule fault e s stop = (stop.0, sym (script_same items input s) ∙ sym (ap script_of e) ∙ stop.1, stop.2)
+
+-- what is said of the text that was read is said of the input, where that is not too long
+pub known : (P : List ℕ → Type 0) (r : Option (List ℕ)) (text items : List ℕ) → text ≡ items → length items ≤ 16777216 → IfSome r (IsSameText items) → P text → IfSome r P
+known P None text items e short s p = tt
+known P (Some input) text items e short s p = ⊎_elim (λ same. subst P (e ∙ same) p) (λ long. absurd (let l : 16777216 < length items = long.0 in omega (arith, l, short))) s

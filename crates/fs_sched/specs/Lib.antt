@@ -4,7 +4,10 @@ pub mod Devices
 pub mod Schedules
 pub mod RunTexts
 pub mod Runs
+pub mod Gives
+pub mod Moments
 pub mod Seeds
 pub mod EachRun
+pub mod Watching
 pub mod Laws
 pub mod code

@@ -4,3 +4,4 @@ pub mod Counts
 pub mod Ahead
 pub mod Mades
 pub mod Done
+pub mod Notes

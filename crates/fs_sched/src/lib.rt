@@ -5,7 +5,8 @@
 //! `Write` is answered only if the reader or the writer failed during this call. The check of journals, `check_journal`, and
 //! the faults of all runners are those of `fs_verdict`, handed on.
 //!
-//! `run_script` and `run_seeds` tell a `Progress` how far they are; `Silent` is told nothing, and costs nothing.
+//! All of them play a script in one place, `Play`, which tells a `Witness` each moment where it comes; `watch` plays a script for
+//! its witness alone. `Silent` is told nothing, and costs nothing.
 //!
 //! Enter at these two, with a `Device` around a reader and a writer, or with a text in memory at `run_bytes`. The definitions
 //! are in `specs/`: `Schedules` and `Runs` (events by each schedule), `RunTexts`, `EachRun` (what is said of every run),
@@ -17,23 +18,24 @@ mod input;
 pub mod laws;
 mod pieces;
 mod play;
-mod progress;
 mod run_texts;
 mod running;
 mod schedule;
 mod seats;
 mod seeding;
+mod watching;
 
 pub use fs_io::{Device, Failed, Sink, Source, device};
 pub use fs_verdict::{
-    RunFault, check_bytes, check_journal, is_lawful, journal_in, push_verdict, run_fault,
-    write_text,
+    Checked, RunFault, call_of, check_bytes, check_journal, due_reply, is_lawful, journal_in,
+    kind_text, push_verdict, run_fault, write_text,
 };
+pub use fs_witness::{Answer, Moment, Silent, Told, Witness};
 pub use input::script_in;
 pub use play::{checkpoint_fault, refusal_fault, seated};
-pub use progress::{Progress, Silent};
 pub use run_texts::{Counts, EntryKind, counts_of, number_of, push_counts};
 pub use running::{RunEnd, run_bytes, run_end, run_script};
 pub use schedule::{DRAW_LIMIT, Draws, Schedule};
 pub use seats::Divisor;
 pub use seeding::{RUN_LIMIT, SEED_LIMIT, run_seeds};
+pub use watching::{Ran, watch};

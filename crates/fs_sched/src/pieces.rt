@@ -1,20 +1,22 @@
 //! A script's run, word by word: a checkpoint ends a piece of it, and begins the next.
 
-ghost use Rattle.std.specs.Prelude.{◌≡◌, ℕ, [], List, IfOk, OnOk, IfErr, length};
+ghost use Rattle.std.specs.Prelude.{◌≡◌, ◌∷◌, ℕ, [], List, IfOk, OnOk, IfErr, length};
 ghost use Rattle.fs_calls.specs.declared.call.Call.{Call};
 ghost use Rattle.fs_sched.specs.Runs.{start, Does, Words, RunsFrom, StopsAt, StopsInWords, StopsFrom};
 ghost use Rattle.fs_sched.specs.Schedules.{words_by};
+ghost use Rattle.fs_sched.specs.Gives.{single_words, given_words, words_before};
+ghost use Rattle.fs_sched.specs.code.Notes.{Notes, NotesCut, NotesRun};
 ghost use Rattle.fs_sched.specs.code.Counts.{AreCapped};
 ghost use Rattle.fs_sched.specs.code.Stages.{stage_of, IsMarked, IsWhy};
 ghost use Rattle.fs_sched.specs.code.Done.{HasDone};
 
 use crate::play::Play;
-use crate::progress::Progress;
 use crate::run_texts::{Counts, counts_of};
 use crate::schedule::Schedule;
 use fs_names::Limits;
 use fs_script::{CallLists, Script, Word};
 use fs_verdict::RunFault;
+use fs_witness::{Moment, Witness};
 use std::alloc::{AllocError, Global};
 
 /// A run in its last piece, and how many entries the pieces before had.
@@ -44,83 +46,105 @@ impl Pieces {
         Ok(Pieces { play, told })
     }
 
+    /// The timeline begins again, where no call is under way. Its entries are counted, and told.
+    fn checkpoint<W: Witness>(&mut self, alloc: Global, witness: &mut W) -> Result<(), RunFault>
+        ensures notes { (lists : List (List Call)) → OnOk result (Notes W.Told lists (stage_of self.old.play) witness.old (Word.Checkpoint ∷ []) (stage_of self.new.play) witness.new) }
+        ensures done { (lists : List (List Call)) → OnOk result (HasDone (Does lists (stage_of self.old.play) Word.Checkpoint) self.old self.new) }
+        ensures seats { (lists : List (List Call)) → IsMarked lists self.old.play → OnOk result (IsMarked lists self.new.play) }
+        ensures why { (lists : List (List Call)) → IfErr result (IsWhy (StopsAt lists (stage_of self.old.play) Word.Checkpoint)) }
+    {
+        let entries = match self.play.begin_again(alloc) {
+            Ok(entries) => entries,
+            Err(fault) => return Err(fault),
+        };
+        self.told = self.told.plus(counts_of(&entries));
+        match witness.saw(&self.play.core, Moment::Checkpoint(entries)) {
+            Ok(()) => Ok(()),
+            Err(_) => Err(RunFault::OutOfMemory),
+        }
+    }
+
     /// What a word does.
-    fn word(&mut self, alloc: Global, lists: &CallLists, word: Word) -> Result<(), RunFault>
+    fn word<W: Witness>(
+        &mut self,
+        alloc: Global,
+        lists: &CallLists,
+        word: Word,
+        witness: &mut W,
+    ) -> Result<(), RunFault>
         requires { IsMarked lists.now self.old.play }
+        ensures notes { OnOk result (Notes W.Told lists.now (stage_of self.old.play) witness.old (single_words word) (stage_of self.new.play) witness.new) }
         ensures done { OnOk result (HasDone (Does lists.now (stage_of self.old.play) word) self.old self.new) }
         ensures seats { OnOk result (IsMarked lists.now self.new.play) }
         ensures why { IfErr result (IsWhy (StopsAt lists.now (stage_of self.old.play) word)) }
     {
         match word {
-            Word::Events(seat, times) => self.play.events(alloc, lists, seat, times),
-            Word::Checkpoint => match self.play.begin_again(alloc) {
-                Ok(entries) => {
-                    self.told = self.told.plus(counts_of(&entries));
-                    Ok(())
-                }
-                Err(fault) => Err(fault),
-            },
+            Word::Events(seat, times) => self.play.events(alloc, lists, seat, times, witness),
+            Word::Checkpoint => self.checkpoint(alloc, witness),
             Word::Finish => Ok(()),
         }
     }
 
     /// What words do, from left to right.
-    fn words<P: Progress>(
+    fn words<W: Witness>(
         &mut self,
         alloc: Global,
         lists: &CallLists,
         words: &[Word],
-        progress: &mut P,
+        witness: &mut W,
     ) -> Result<(), RunFault>
         requires { IsMarked lists.now self.old.play }
+        ensures notes { OnOk result (Notes W.Told lists.now (stage_of self.old.play) witness.old (given_words words.now) (stage_of self.new.play) witness.new) }
         ensures done { OnOk result (HasDone (Words lists.now (stage_of self.old.play) words.now) self.old self.new) }
         ensures seats { OnOk result (IsMarked lists.now self.new.play) }
         ensures why { IfErr result (IsWhy (StopsInWords lists.now (stage_of self.old.play) words.now)) }
     {
         for word in words {
-            self.word(alloc, lists, *word)?;
-            progress.went_on(events_of(*word), self.play.core.timeline().len());
+            self.word(alloc, lists, *word, witness)?;
+            witness.went_on(events_of(*word), self.play.core.timeline().len());
         }
         Ok(())
     }
 
     /// The events before rounds to the end.
-    fn before<P: Progress>(
+    fn before<W: Witness>(
         &mut self,
         alloc: Global,
         script: &Script,
         schedule: Schedule,
-        progress: &mut P,
+        witness: &mut W,
     ) -> Result<(), RunFault>
         requires { IsMarked script.now.lists self.old.play }
+        ensures notes { OnOk result (NotesCut W.Told script.now.lists (stage_of self.old.play) witness.old (words_before schedule script.now.words (length script.now.lists)) (stage_of self.new.play) witness.new) }
         ensures done { OnOk result (HasDone (Words script.now.lists (stage_of self.old.play) (words_by schedule script.now.words (length script.now.lists))) self.old self.new) }
         ensures seats { OnOk result (IsMarked script.now.lists self.new.play) }
         ensures why { IfErr result (IsWhy (StopsInWords script.now.lists (stage_of self.old.play) (words_by schedule script.now.words (length script.now.lists)))) }
     {
         match schedule {
             Schedule::Given => {
-                self.words(alloc, &script.lists, script.words.as_slice(), progress)
+                self.words(alloc, &script.lists, script.words.as_slice(), witness)
             }
             Schedule::RoundRobin => Ok(()),
-            Schedule::Seeded(seed) => self.play.drawn(alloc, &script.lists, seed, progress),
+            Schedule::Seeded(seed) => self.play.drawn(alloc, &script.lists, seed, witness),
         }
     }
 
     /// All events of a script by a schedule.
-    pub(crate) fn run<P: Progress>(
+    pub(crate) fn run<W: Witness>(
         &mut self,
         alloc: Global,
         script: &Script,
         schedule: Schedule,
-        progress: &mut P,
+        witness: &mut W,
     ) -> Result<(), RunFault>
         requires { IsMarked script.now.lists self.old.play }
+        ensures notes { OnOk result (NotesRun W.Told schedule script.now (stage_of self.old.play) witness.old (stage_of self.new.play) witness.new) }
         ensures run { OnOk result (HasDone (RunsFrom schedule script.now (stage_of self.old.play)) self.old self.new) }
         ensures why { IfErr result (IsWhy (StopsFrom schedule script.now (stage_of self.old.play))) }
     {
-        self.before(alloc, script, schedule, progress)?;
+        self.before(alloc, script, schedule, witness)?;
         if schedule.goes_on(script.words.as_slice()) {
-            self.play.finish(alloc, &script.lists, progress)?;
+            self.play.finish(alloc, &script.lists, witness)?;
         }
         Ok(())
     }

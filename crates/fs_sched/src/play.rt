@@ -1,24 +1,26 @@
 //! A script's run, event by event.
 
-ghost use Rattle.std.specs.Prelude.{◌≡◌, ◌<◌, ◌≤◌, ◌+◌, ◌-◌, ◌^◌, ℕ, [], IfOk, OnOk, OnErr, IfErr, IsErrOf, Ok, Err, true, false, List, length, get_or, replicate, slice_set};
+ghost use Rattle.std.specs.Prelude.{◌≡◌, ◌≢◌, ◌<◌, ◌≤◌, ◌+◌, ◌-◌, ◌^◌, ◌∷◌, ◌++◌, ℕ, [], IfOk, OnOk, OnErr, IfErr, IsErrOf, Ok, Err, None, true, false, List, length, map, get_or, replicate, slice_set};
 ghost use Rattle.std.specs.List.{range_with_len};
 ghost use Rattle.fs_names.specs.declared.limits.TheConstants.{NODE_LIMIT};
 ghost use Rattle.fs_calls.specs.declared.call.Call.{Call};
 ghost use Rattle.fs_core.specs.CoreValues.{state_of};
 ghost use Rattle.fs_machine.specs.States.{empty, Begins};
 ghost use Rattle.fs_sched.specs.Runs.{start, has_more, Event, Events, Round, ToEnd, Does, IsRefused, Stops, StopsInRounds, StopsAt};
-ghost use Rattle.fs_sched.specs.Schedules.{drawn_seats};
+ghost use Rattle.fs_sched.specs.Schedules.{drawn_seats, one_event};
+ghost use Rattle.fs_witness.specs.Moments.{Hears, event_of, spent_of};
+ghost use Rattle.fs_sched.specs.code.Notes.{Happens, Notes, NotesCut, NotesToEnd};
 ghost use Rattle.fs_sched.specs.code.Stages.{stage_of, IsSeated, IsMarked, AreOver, IsRefusal, IsWhy, fault_of_checkpoint};
 
-use crate::progress::Progress;
 use crate::schedule::DRAW_LIMIT;
 use crate::seats::SeatsAhead;
 use fs_calls::Call;
 use fs_core::{Core, NoCheckpoint, Refusal, Stepped};
-use fs_names::{Limits, NODE_LIMIT, SeatNo};
+use fs_names::{CallNo, Limits, NODE_LIMIT, SeatNo};
 use fs_script::{CallLists, Word};
 use fs_timeline::Entry;
 use fs_verdict::RunFault;
+use fs_witness::{Answer, Moment, Told, Witness};
 use std::alloc::{AllocError, Global};
 
 /// The core, with a seat for each thread, how many calls of each thread have begun, and which threads were found to be
@@ -124,11 +126,11 @@ impl Play {
         seat: usize,
         begun: usize,
         call: &Call,
-    ) -> Result<(), RunFault>
+    ) -> Result<CallNo, RunFault>
         requires seat { seat < length self.old.begun.items }
         requires seats { seat < length self.old.core.seats }
         requires few { begun < 2 ^ 64 - 1 }
-        ensures begins { OnOk result ((c : ℕ) × Begins (state_of self.old.core) seat call.now (Ok c) (state_of self.new.core)) }
+        ensures begins { IfOk result (λ number. Begins (state_of self.old.core) seat call.now (Ok number) (state_of self.new.core)) }
         ensures counted { OnOk result (self.new.begun.items ≡ slice_set self.old.begun.items seat (begun + 1)) }
         ensures seats { length self.new.core.seats ≡ length self.old.core.seats }
         ensures same { OnErr result (self.new.begun.items ≡ self.old.begun.items) }
@@ -137,23 +139,29 @@ impl Play {
         ensures full { IsErrOf result RunFault.Full → Begins (state_of self.old.core) seat call.now (Err Refusal.Full) (state_of self.old.core) }
     {
         match self.core.begin(alloc, SeatNo::new(seat as u64), call) {
-            Ok(_) => {
+            Ok(number) => {
                 self.begun[seat] = begun + 1;
-                Ok(())
+                Ok(number)
             }
             Err(refusal) => Err(refusal_fault(refusal)),
         }
     }
 
     /// The next call of a thread begins, where one is left; else the thread is over, and marked. The answer is whether one
-    /// was left.
+    /// was left; then the witness is told.
     #[inline]
-    fn start(&mut self, alloc: Global, lists: &CallLists, seat: usize) -> Result<bool, RunFault>
+    fn start<W: Witness>(
+        &mut self,
+        alloc: Global,
+        lists: &CallLists,
+        seat: usize,
+        before: usize,
+        witness: &mut W,
+    ) -> Result<bool, RunFault>
         requires seats { IsMarked lists.now self.old }
         requires seat { seat < length lists.now }
         requires free { (state_of self.old.core).on_seat seat ≡ None }
-        ensures event { OnOk result (Event lists.now (stage_of self.old) seat (stage_of self.new)) }
-        ensures more { IfOk result (λ more. more ≡ has_more lists.now (stage_of self.old) seat) }
+        ensures event { IfOk result (λ more. Happens W.Told lists.now (stage_of self.old) witness.old before seat more (stage_of self.new) witness.new) }
         ensures seats { OnOk result (IsMarked lists.now self.new) }
         ensures fault { IfErr result IsRefusal }
         ensures full { IsErrOf result RunFault.Full → IsRefused lists.now (stage_of self.old) seat }
@@ -164,20 +172,26 @@ impl Play {
             self.over[seat] = true;
             return Ok(false);
         }
-        match self.begin(alloc, seat, at, &calls[at]) {
-            Ok(()) => Ok(true),
-            Err(fault) => Err(fault),
-        }
+        let number = self.begin(alloc, seat, at, &calls[at])?;
+        self.tell_behind(before, seat, Answer::Begun(number), witness)?;
+        Ok(true)
     }
 
-    /// An event of a thread, and whether the thread had anything to do. Of one that is not marked the core is asked for a
-    /// step at once: that it is idle says that no call is under way.
+    /// An event of a thread, and whether the thread had anything to do. Then the witness is told, first of so many threads that
+    /// have nothing to do. Of one that is not marked the core is asked for a step at once: that it is idle says that no call is
+    /// under way.
     #[inline(always)]
-    fn event(&mut self, alloc: Global, lists: &CallLists, seat: usize) -> Result<bool, RunFault>
+    fn happen<W: Witness>(
+        &mut self,
+        alloc: Global,
+        lists: &CallLists,
+        seat: usize,
+        before: usize,
+        witness: &mut W,
+    ) -> Result<bool, RunFault>
         requires seats { IsMarked lists.now self.old }
         requires seat { seat < length lists.now }
-        ensures event { OnOk result (Event lists.now (stage_of self.old) seat (stage_of self.new)) }
-        ensures more { IfOk result (λ more. more ≡ has_more lists.now (stage_of self.old) seat) }
+        ensures event { IfOk result (λ more. Happens W.Told lists.now (stage_of self.old) witness.old before seat more (stage_of self.new) witness.new) }
         ensures seats { OnOk result (IsMarked lists.now self.new) }
         ensures fault { IfErr result IsRefusal }
         ensures full { IsErrOf result RunFault.Full → IsRefused lists.now (stage_of self.old) seat }
@@ -185,31 +199,118 @@ impl Play {
         if self.over[seat] {
             return Ok(false);
         }
-        match self.core.step(SeatNo::new(seat as u64)) {
-            Stepped::Idle => self.start(alloc, lists, seat),
-            _ => Ok(true),
+        let stepped = self.core.step(SeatNo::new(seat as u64));
+        if let Stepped::Idle = stepped {
+            return self.start(alloc, lists, seat, before, witness);
+        }
+        self.tell_behind(before, seat, Answer::Stepped(stepped), witness)?;
+        Ok(true)
+    }
+
+    /// The witness is told what an event was answered.
+    #[inline(always)]
+    fn tell<W: Witness>(&self, seat: usize, answer: Answer, witness: &mut W) -> Result<(), RunFault>
+        ensures told { OnOk result (Hears W.Told witness.old (event_of seat answer ∷ []) witness.new) }
+        ensures fault { IfErr result IsRefusal }
+        ensures memory { result ≢ Err RunFault.Full }
+    {
+        match witness.saw(&self.core, Moment::Event(Told { seat, answer })) {
+            Ok(()) => Ok(()),
+            Err(_) => Err(RunFault::OutOfMemory),
         }
     }
 
+    /// The same behind the events of so many threads that have nothing to do.
+    #[inline(always)]
+    fn tell_behind<W: Witness>(
+        &self,
+        before: usize,
+        seat: usize,
+        answer: Answer,
+        witness: &mut W,
+    ) -> Result<(), RunFault>
+        ensures told { OnOk result (Hears W.Told witness.old (map spent_of (range_with_len 0 before) ++ event_of seat answer ∷ []) witness.new) }
+        ensures fault { IfErr result IsRefusal }
+        ensures memory { result ≢ Err RunFault.Full }
+    {
+        self.tell_over(before, witness)?;
+        self.tell(seat, answer, witness)
+    }
+
+    /// An event of a thread, told.
+    #[inline(always)]
+    fn event<W: Witness>(
+        &mut self,
+        alloc: Global,
+        lists: &CallLists,
+        seat: usize,
+        witness: &mut W,
+    ) -> Result<(), RunFault>
+        requires seats { IsMarked lists.now self.old }
+        requires seat { seat < length lists.now }
+        ensures notes { OnOk result (Notes W.Told lists.now (stage_of self.old) witness.old (one_event seat ∷ []) (stage_of self.new) witness.new) }
+        ensures seats { OnOk result (IsMarked lists.now self.new) }
+        ensures fault { IfErr result IsRefusal }
+        ensures full { IsErrOf result RunFault.Full → IsRefused lists.now (stage_of self.old) seat }
+    {
+        if self.happen(alloc, lists, seat, 0, witness)? {
+            return Ok(());
+        }
+        self.tell(seat, Answer::Spent, witness)
+    }
+
+    /// The witness is told of so many events of a thread that has nothing to do.
+    #[inline(always)]
+    fn tell_spent<W: Witness>(
+        &self,
+        seat: usize,
+        times: u64,
+        witness: &mut W,
+    ) -> Result<(), RunFault>
+        ensures told { OnOk result (Hears W.Told witness.old (replicate times (spent_of seat)) witness.new) }
+        ensures fault { IfErr result IsRefusal }
+        ensures memory { result ≢ Err RunFault.Full }
+    {
+        for _ in 0..times {
+            self.tell(seat, Answer::Spent, witness)?;
+        }
+        Ok(())
+    }
+
+    /// The witness is told of an event of each thread before one, which have nothing to do.
+    #[inline(always)]
+    fn tell_over<W: Witness>(&self, first: usize, witness: &mut W) -> Result<(), RunFault>
+        ensures told { OnOk result (Hears W.Told witness.old (map spent_of (range_with_len 0 first)) witness.new) }
+        ensures fault { IfErr result IsRefusal }
+        ensures memory { result ≢ Err RunFault.Full }
+    {
+        for seat in 0..first {
+            self.tell(seat, Answer::Spent, witness)?;
+        }
+        Ok(())
+    }
+
     /// So many events of a thread; those of a thread that is not there are nothing.
-    pub(crate) fn events(
+    pub(crate) fn events<W: Witness>(
         &mut self,
         alloc: Global,
         lists: &CallLists,
         seat: usize,
         times: u64,
+        witness: &mut W,
     ) -> Result<(), RunFault>
         requires { IsMarked lists.now self.old }
+        ensures notes { OnOk result (Notes W.Told lists.now (stage_of self.old) witness.old (replicate times (one_event seat)) (stage_of self.new) witness.new) }
         ensures events { OnOk result (Events lists.now (stage_of self.old) (replicate times seat) (stage_of self.new)) }
         ensures seats { OnOk result (IsMarked lists.now self.new) }
         ensures fault { IfErr result IsRefusal }
         ensures full { IsErrOf result RunFault.Full → Stops lists.now (stage_of self.old) (replicate times seat) }
     {
         if seat >= self.begun.len() {
-            return Ok(());
+            return self.tell_spent(seat, times, witness);
         }
         for _ in 0..times {
-            self.event(alloc, lists, seat)?;
+            self.event(alloc, lists, seat, witness)?;
         }
         Ok(())
     }
@@ -227,14 +328,15 @@ impl Play {
     }
 
     /// Events of threads that are drawn from a number, until none has anything to do or the limit is reached.
-    pub(crate) fn drawn<P: Progress>(
+    pub(crate) fn drawn<W: Witness>(
         &mut self,
         alloc: Global,
         lists: &CallLists,
         seed: u64,
-        progress: &mut P,
+        witness: &mut W,
     ) -> Result<(), RunFault>
         requires { IsMarked lists.now self.old }
+        ensures notes { OnOk result (NotesCut W.Told lists.now (stage_of self.old) witness.old (map one_event (drawn_seats seed (length lists.now) DRAW_LIMIT)) (stage_of self.new) witness.new) }
         ensures events { OnOk result (Events lists.now (stage_of self.old) (drawn_seats seed (length lists.now) DRAW_LIMIT) (stage_of self.new)) }
         ensures seats { OnOk result (IsMarked lists.now self.new) }
         ensures fault { IfErr result IsRefusal }
@@ -248,8 +350,8 @@ impl Play {
         let mut seats = SeatsAhead::new(seed, threads);
         for _ in 0..DRAW_LIMIT {
             let seat = seats.next_seat();
-            self.event(alloc, lists, seat)?;
-            progress.went_on(1, self.core.timeline().len());
+            self.event(alloc, lists, seat, witness)?;
+            witness.went_on(1, self.core.timeline().len());
             first = self.first_after(lists, first, seat);
             if first >= threads {
                 return Ok(());
@@ -259,53 +361,61 @@ impl Play {
     }
 
     /// One event of each thread, of which those before `first` are over.
-    fn round(&mut self, alloc: Global, lists: &CallLists, first: usize) -> Result<(), RunFault>
+    fn round<W: Witness>(
+        &mut self,
+        alloc: Global,
+        lists: &CallLists,
+        first: usize,
+        witness: &mut W,
+    ) -> Result<(), RunFault>
         requires seats { IsMarked lists.now self.old }
         requires over { AreOver lists.now (stage_of self.old) first }
         requires within { first ≤ length lists.now }
-        ensures round { OnOk result (Round lists.now (stage_of self.old) (stage_of self.new)) }
+        ensures notes { OnOk result (Notes W.Told lists.now (stage_of self.old) witness.old (map one_event (range_with_len 0 (length lists.now))) (stage_of self.new) witness.new) }
         ensures seats { OnOk result (IsMarked lists.now self.new) }
         ensures fault { IfErr result IsRefusal }
         ensures full { IsErrOf result RunFault.Full → Stops lists.now (stage_of self.old) (range_with_len 0 (length lists.now)) }
     {
+        self.tell_over(first, witness)?;
         for seat in first..self.begun.len() {
-            self.event(alloc, lists, seat)?;
+            self.event(alloc, lists, seat, witness)?;
         }
         Ok(())
     }
 
     /// Events of the last thread, until it has nothing to do. Those before it are over, so each is a round.
-    fn last_alone<P: Progress>(
+    fn last_alone<W: Witness>(
         &mut self,
         alloc: Global,
         lists: &CallLists,
         last: usize,
-        progress: &mut P,
+        witness: &mut W,
     ) -> Result<(), RunFault>
         requires seats { IsMarked lists.now self.old }
         requires over { AreOver lists.now (stage_of self.old) last }
         requires last { length lists.now ≡ last + 1 }
-        ensures ended { OnOk result (ToEnd lists.now (stage_of self.old) (stage_of self.new)) }
+        ensures notes { OnOk result (NotesToEnd W.Told lists.now (stage_of self.old) witness.old (stage_of self.new) witness.new) }
         ensures fault { IfErr result IsRefusal }
         ensures full { IsErrOf result RunFault.Full → StopsInRounds lists.now (stage_of self.old) }
     {
         'rounds: loop {
             self.core.told();
-            if !self.event(alloc, lists, last)? {
+            if !self.happen(alloc, lists, last, last, witness)? {
                 return Ok(());
             }
-            progress.went_on(1, self.core.timeline().len());
+            witness.went_on(1, self.core.timeline().len());
         }
     }
 
     /// Rounds until no thread has anything to do.
-    pub(crate) fn finish<P: Progress>(
+    pub(crate) fn finish<W: Witness>(
         &mut self,
         alloc: Global,
         lists: &CallLists,
-        progress: &mut P,
+        witness: &mut W,
     ) -> Result<(), RunFault>
         requires { IsMarked lists.now self.old }
+        ensures notes { OnOk result (NotesToEnd W.Told lists.now (stage_of self.old) witness.old (stage_of self.new) witness.new) }
         ensures ended { OnOk result (ToEnd lists.now (stage_of self.old) (stage_of self.new)) }
         ensures fault { IfErr result IsRefusal }
         ensures full { IsErrOf result RunFault.Full → StopsInRounds lists.now (stage_of self.old) }
@@ -317,11 +427,11 @@ impl Play {
                 return Ok(());
             }
             if first + 1 == self.begun.len() {
-                return self.last_alone(alloc, lists, first, progress);
+                return self.last_alone(alloc, lists, first, witness);
             }
             self.core.told();
-            self.round(alloc, lists, first)?;
-            progress.went_on(self.begun.len() as u64, self.core.timeline().len());
+            self.round(alloc, lists, first, witness)?;
+            witness.went_on(self.begun.len() as u64, self.core.timeline().len());
         }
     }
 }

@@ -1,27 +1,29 @@
 //! The runner that runs a script.
 
-ghost use Rattle.std.specs.Prelude.{◌≡◌, ◌≢◌, ◌+◌, ◌-◌, ◌<◌, ◌≤◌, ◌^◌, ℕ, List, min, map, Ok, Err, IfOk, OnOk, OnErr, IfErr, IfSome, IsErrOf};
+ghost use Rattle.std.specs.Prelude.{◌≡◌, ◌≢◌, ◌+◌, ◌-◌, ◌<◌, ◌≤◌, ◌^◌, ℕ, List, length, min, map, Ok, Err, IfOk, OnOk, OnErr, IfErr, IfSome, IsErrOf};
 ghost use Rattle.std.specs.Io.KnownBytes.{Appends, IsAtEnd};
 ghost use Rattle.fs_timeline.specs.declared.entry.Entry.{Entry};
 ghost use Rattle.fs_words.specs.declared.fault.ScriptFault.{ScriptFault};
 ghost use Rattle.fs_script.specs.Script.{script_of};
 ghost use Rattle.fs_script.specs.declared.limits.TheConstants.{CALL_LIMIT};
 ghost use Rattle.fs_sched.specs.Devices.{WritesBeginning};
-ghost use Rattle.fs_sched.specs.Runs.{calls_in, end_of, IsOutput, IsRunOf, IsFaultOfRun, IsWhole, HasFinish, ReachesStop};
+ghost use Rattle.fs_sched.specs.Runs.{start, calls_in, end_of, IsOutput, IsRunOf, IsFaultOfRun, IsWhole, HasFinish, ReachesStop};
 ghost use Rattle.fs_sched.specs.EachRun.{AreOfTheRun, RunsAreReadAgain, EachIsReadAgain};
 ghost use Rattle.fs_sched.specs.code.Counts.{AreCounts};
 ghost use Rattle.fs_sched.specs.code.Mades.{IsRead, MakesRun};
 ghost use Rattle.fs_sched.specs.code.Done.{IsRun, IsStop};
+ghost use Rattle.fs_sched.specs.code.Notes.{NotesRun};
+ghost use Rattle.fs_sched.specs.code.Stages.{stage_of};
 
 use crate::input::script_in;
 use crate::pieces::Pieces;
-use crate::progress::{Progress, Silent};
 use crate::run_texts::{Counts, counted_text};
 use crate::schedule::Schedule;
 use fs_calls::Call;
 use fs_io::{Made, Sink, Source, transform};
 use fs_script::Script;
 use fs_verdict::RunFault;
+use fs_witness::{Silent, Witness};
 use std::alloc::Global;
 
 /// How a run ended: how many calls began, took their place and returned, of how many calls of the script.
@@ -64,13 +66,14 @@ pub fn run_end(script: &Script, counts: Counts) -> RunEnd
 }
 
 /// A run of a script that was read, from its first event to its last.
-pub(crate) fn play<P: Progress>(
+pub(crate) fn play<W2: Witness>(
     alloc: Global,
     script: &Script,
     schedule: Schedule,
-    progress: &mut P,
+    witness: &mut W2,
 ) -> Result<Pieces, RunFault>
     requires few { calls_in script.now.lists ≤ CALL_LIMIT }
+    ensures told { IfOk result (λ run. NotesRun W2.Told schedule script.now (start script.now.limits (length script.now.lists)) witness.old (stage_of run.play) witness.new) }
     ensures runs { IfOk result (IsRun schedule script.now) }
     ensures fault { IfErr result (IsStop schedule script.now) }
 {
@@ -79,26 +82,26 @@ pub(crate) fn play<P: Progress>(
     };
     let calls = count_calls(script.lists.as_slice());
     run.play.core.make_room(calls);
-    progress.begins(calls);
-    match run.run(alloc, script, schedule, progress) {
+    witness.begins(calls);
+    match run.run(alloc, script, schedule, witness) {
         Ok(()) => Ok(run),
         Err(fault) => Err(fault),
     }
 }
 
 /// The text of a run of a script, and how it ended. The script is let go before the text is made.
-fn make_text<P: Progress>(
+fn make_text<W2: Witness>(
     alloc: Global,
     script: Script,
     schedule: Schedule,
-    progress: &mut P,
+    witness: &mut W2,
 ) -> Result<Made<RunEnd>, RunFault>
     requires few { calls_in script.lists ≤ CALL_LIMIT }
     ensures output { IfOk result (λ made. IsOutput schedule script made.end made.text.items) }
     ensures again { OnOk result (IsRead script → RunsAreReadAgain schedule script) }
     ensures fault { IfErr result (IsStop schedule script) }
 {
-    let run = match play(alloc, &script, schedule, progress) {
+    let run = match play(alloc, &script, schedule, witness) {
         Ok(run) => run,
         Err(fault) => return Err(fault),
     };
@@ -115,17 +118,17 @@ fn make_text<P: Progress>(
 }
 
 /// The same of the script that a text has, which is let go once it is read.
-fn text_of_script<P: Progress>(
+fn text_of_script<W2: Witness>(
     alloc: Global,
     text: Vec<u8>,
     schedule: Schedule,
-    progress: &mut P,
+    witness: &mut W2,
 ) -> Result<Made<RunEnd>, RunFault>
     ensures { MakesRun schedule text.items result }
 {
     let script = script_in(alloc, text.as_slice())?;
     drop(text);
-    make_text(alloc, script, schedule, progress)
+    make_text(alloc, script, schedule, witness)
 }
 
 /// The text of a run of a script in memory, as `run_script` writes it. The script is read where it stands, and the text is
@@ -148,12 +151,12 @@ pub fn run_bytes(alloc: Global, script: &[u8], schedule: Schedule) -> Result<Vec
 /// Reads a script to its end, runs it by a schedule, and writes the text of the run, which is made before its first
 /// byte is written. The answer says how many calls began, took their place and returned, in all pieces of the run; the text
 /// is that of the last piece. Whoever is told of progress hears of each round, drawn event and word.
-pub fn run_script<R: Source, W: Sink, P: Progress>(
+pub fn run_script<R: Source, W: Sink, W2: Witness>(
     alloc: Global,
     reader: &mut R,
     writer: &mut W,
     schedule: Schedule,
-    progress: &mut P,
+    witness: &mut W2,
 ) -> Result<RunEnd, RunFault>
     requires reads { R.failures reader.old < 2 ^ 64 - 1 }
     requires writes { W.failures writer.old < 2 ^ 64 - 1 }
@@ -188,7 +191,7 @@ pub fn run_script<R: Source, W: Sink, P: Progress>(
         writer,
         |text| -> Result<Made<RunEnd>, RunFault>
             ensures { MakesRun schedule text.items result }
-        { text_of_script(alloc, text, schedule, progress) },
+        { text_of_script(alloc, text, schedule, witness) },
     )?;
     Ok(end)
 }

@@ -14,7 +14,6 @@ ghost use Rattle.fs_sched.specs.code.Stages.{stage_of};
 
 use crate::input::script_in;
 use crate::play::Play;
-use crate::progress::{Progress, Silent};
 use crate::running::play;
 use crate::schedule::Schedule;
 use fs_io::{Made, Sink, Source, transform};
@@ -23,6 +22,7 @@ use fs_script::Script;
 use fs_text::Addition;
 use fs_timeline::Verdict;
 use fs_verdict::{RunFault, is_lawful, push_verdict};
+use fs_witness::{Silent, Witness};
 use std::alloc::{AllocError, Global};
 
 /// The greatest number that a first run is drawn from.
@@ -83,12 +83,12 @@ fn push_run(
 }
 
 /// The lines of so many runs, drawn from a number, the next one, and so on, and whether each says that its run is lawful.
-fn make_lines<P: Progress>(
+fn make_lines<W2: Witness>(
     alloc: Global,
     script: &Script,
     seed: u64,
     runs: u64,
-    progress: &mut P,
+    witness: &mut W2,
 ) -> Result<Made<bool>, RunFault>
     requires few { calls_in script.now.lists ≤ CALL_LIMIT }
     requires seed { seed ≤ SEED_LIMIT }
@@ -104,7 +104,7 @@ fn make_lines<P: Progress>(
             Ok(well) => lawful = lawful && well,
             Err(fault) => return Err(fault),
         }
-        progress.has_run(run + 1, runs);
+        witness.has_run(run + 1, runs);
     }
     Ok(Made {
         text: lines.kept(),
@@ -113,12 +113,12 @@ fn make_lines<P: Progress>(
 }
 
 /// The same of the script that a text has, which is let go once it is read.
-fn lines_of_script<P: Progress>(
+fn lines_of_script<W2: Witness>(
     alloc: Global,
     text: Vec<u8>,
     seed: u64,
     runs: u64,
-    progress: &mut P,
+    witness: &mut W2,
 ) -> Result<Made<bool>, RunFault>
     requires seed { seed ≤ SEED_LIMIT }
     requires runs { runs ≤ RUN_LIMIT }
@@ -126,19 +126,19 @@ fn lines_of_script<P: Progress>(
 {
     let script = script_in(alloc, text.as_slice())?;
     drop(text);
-    make_lines(alloc, &script, seed, runs, progress)
+    make_lines(alloc, &script, seed, runs, witness)
 }
 
 /// Reads a script to its end, runs it so many times, by the threads that are drawn from a number, the next one, and so
 /// on, has each run's journal checked, and writes a line for each: `seed`, the number, and the verdict. The answer is
 /// whether each is lawful, and by the clauses it is. All lines are made before the first byte is written. Whoever is told of progress hears of each run.
-pub fn run_seeds<R: Source, W: Sink, P: Progress>(
+pub fn run_seeds<R: Source, W: Sink, W2: Witness>(
     alloc: Global,
     reader: &mut R,
     writer: &mut W,
     seed: u64,
     runs: u64,
-    progress: &mut P,
+    witness: &mut W2,
 ) -> Result<bool, RunFault>
     requires reads { R.failures reader.old < 2 ^ 64 - 1 }
     requires writes { W.failures writer.old < 2 ^ 64 - 1 }
@@ -170,7 +170,7 @@ pub fn run_seeds<R: Source, W: Sink, P: Progress>(
             requires seed { seed ≤ SEED_LIMIT }
             requires runs { runs ≤ RUN_LIMIT }
             ensures { MakesRuns seed runs text.items result }
-        { lines_of_script(alloc, text, seed, runs, progress) },
+        { lines_of_script(alloc, text, seed, runs, witness) },
     )?;
     Ok(lawful)
 }

@@ -1,47 +1,44 @@
--- Moments that are shown one after the other, as the loop does it.
-use Rattle.std.proofs.Common.{◌≡◌, ℕ, ◌+◌, ◌<◌, ◌≤◌, ◌==◌, Bool, true, false, List, [], ◌∷◌, ◌++◌, length, drop, get_or, set, map, Option, None, refl, sym, ap, ◌∙◌, append_assoc, append-nil, arith}
+-- Moments that are shown one after the other.
+use Rattle.std.proofs.Common.{◌≡◌, ℕ, ◌+◌, ◌<◌, ◌≤◌, ◌==◌, Bool, true, false, List, [], ◌∷◌, ◌++◌, length, drop, get_or, set, map, Option, None, refl, sym, ap, ap₂, ◌∙◌, subst, append_assoc, append-nil, arith}
 use Rattle.std.specs.Prelude.{if◌then◌else◌}
 use Rattle.std.proofs.lemmas.Bool.{eqb-true, eqb-false}
 use Rattle.std.proofs.lemmas.List.{map-append, at_drop_more, at_drop_all, get_or-set_same, get_or-set_other}
 use Rattle.fs_story.specs.Shown.{deed_shown, deed_told, last_wait, number_after, shown, shown_from, shown_one, wait_of, with_moment}
-use Rattle.fs_story.specs.code.Waiting.{AreWaits}
+use Rattle.fs_story.specs.code.Waiting.{AreWaits, with_moments, number_behind, HasShown}
 use Rattle.fs_story.specs.declared.shown.Waits.{Waits}
-use Rattle.fs_story.specs.declared.story.Line.{Line}
-use Rattle.fs_record.specs.declared.told.Moment.{Moment}
-use Rattle.fs_record.specs.declared.told.Moment.TheVariants.{Event, Checkpoint}
-use Rattle.fs_record.specs.declared.told.Told.{Told}
+use Rattle.fs_story.specs.declared.story.Teller.{Teller}
+use Rattle.fs_witness.specs.declared.moments.Moment.{Moment}
+use Rattle.fs_witness.specs.declared.moments.Moment.TheVariants.{Event, Checkpoint}
+use Rattle.fs_witness.specs.declared.moments.Told.{Told}
 
--- the lines so far and those of what is left are all
-abbrev pub Shows : Bool → List Moment → List Moment → ℕ → List Line → Waits → Type 0
-Shows every all rest number lines waits = (before : List Told) × AreWaits waits before × (map deed_shown lines ++ map deed_told (shown_from every before number rest) ≡ map deed_told (shown every all))
+-- one moment more is shown behind the others
+pub shown_more : (every : Bool) (before : List Told) (number : ℕ) (ms : List Moment) (m : Moment) → shown_from every before number (ms ++ m ∷ []) ≡ shown_from every before number ms ++ shown_one every (with_moments before ms) (number_behind number ms) m
+shown_more every before number [] m = append-nil (shown_one every before number m)
+shown_more every before number (x ∷ ms) m =
+    ap (λ (l : List (ℕ × Moment)). shown_one every before number x ++ l) (shown_more every (with_moment before x) (number_after number x) ms m)
+    ∙ sym (append_assoc (shown_one every before number x) (shown_from every (with_moment before x) (number_after number x) ms) (shown_one every (with_moments (with_moment before x) ms) (number_behind (number_after number x) ms) m))
 
-pub shows_start : (every : Bool) (all : List Moment) (lines : List Line) (waits : Waits) → lines ≡ [] → AreWaits waits [] → Shows every all all 1 lines waits
-shows_start every all lines waits none w = ([], w, ap (λ (l : List Line). map deed_shown l ++ map deed_told (shown every all)) none)
+pub with_more : (before : List Told) (ms : List Moment) (m : Moment) → with_moments before (ms ++ m ∷ []) ≡ with_moment (with_moments before ms) m
+with_more before [] m = refl
+with_more before (x ∷ ms) m = with_more (with_moment before x) ms m
 
-pub shows_more : (every : Bool) (all : List Moment) (i number next : ℕ) (m : Moment) (lines more : List Line) (waits new : Waits) → i < length all → m ≡ get_or all i m → next ≡ number_after number m → ((before : List Told) → AreWaits waits before → AreWaits new (with_moment before m))
-    → ((before : List Told) → AreWaits waits before → map deed_shown more ≡ map deed_shown lines ++ map deed_told (shown_one every before number m)) → Shows every all (drop i all) number lines waits → Shows every all (drop (i + 1) all) next more new
-shows_more every all i number next m lines more waits new less is is_next keeps adds (before, w, e) =
-    let rest : List Moment = drop (i + 1) all in
-    let left : List (ℕ × Moment) = shown_from every (with_moment before m) (number_after number m) rest in (
-      with_moment before m,
-      keeps before w,
-      ap (λ (n : ℕ). map deed_shown more ++ map deed_told (shown_from every (with_moment before m) n rest)) is_next
-          ∙ ap (λ l. l ++ map deed_told left) (adds before w)
-          ∙ append_assoc (map deed_shown lines) (map deed_told (shown_one every before number m)) (map deed_told left)
-          ∙ ap (λ l. map deed_shown lines ++ l) (sym (map-append deed_told (shown_one every before number m) left))
-          ∙ ap (λ (u : Moment). map deed_shown lines ++ map deed_told (shown_from every before number (u ∷ rest))) is
-          ∙ ap (λ l. map deed_shown lines ++ l) (sym (at_drop_more (λ (r : List Moment). map deed_told (shown_from every before number r)) all i m less))
-          ∙ e,
-    )
+pub number_more : (number : ℕ) (ms : List Moment) (m : Moment) → number_behind number (ms ++ m ∷ []) ≡ number_after (number_behind number ms) m
+number_more number [] m = refl
+number_more number (x ∷ ms) m = number_more (number_after number x) ms m
 
--- a moment more, and no more than an event more
-pub number_less : (number place : ℕ) (m : Moment) (next : ℕ) → next ≡ number_after number m → number ≤ place + 1 → next ≤ place + 1 + 1
-number_less number place (Event t) next e less = omega (arith, e, less)
-number_less number place (Checkpoint entries) next e less = omega (arith, e, less)
-
-pub shows_end : (every : Bool) (all : List Moment) (i number : ℕ) (lines : List Line) (waits : Waits) → length all ≤ i → Shows every all (drop i all) number lines waits → map deed_shown lines ≡ map deed_told (shown every all)
-shows_end every all i number lines waits past (before, w, e) =
-    sym (append-nil (map deed_shown lines)) ∙ ap (λ l. map deed_shown lines ++ l) (sym (at_drop_all (λ (r : List Moment). map deed_told (shown_from every before number r)) all i past)) ∙ e
+-- a teller that goes on by a moment has shown it too
+pub shows_more : (every : Bool) (ms : List Moment) (m : Moment) (old new : Teller) → HasShown every old ms → new.every ≡ old.every → new.number ≡ number_after old.number m → ((before : List Told) → AreWaits old.waits before → AreWaits new.waits (with_moment before m))
+    → ((before : List Told) → AreWaits old.waits before → map deed_shown new.page.lines.items ≡ map deed_shown old.page.lines.items ++ map deed_told (shown_one old.every before old.number m)) → HasShown every new (ms ++ m ∷ [])
+shows_more every ms m old new has every_is number waits lines = record {
+  every_is = every_is ∙ has.every_is;
+  number = number ∙ ap (λ (n : ℕ). number_after n m) has.number ∙ sym (number_more 1 ms m);
+  waits = subst (AreWaits new.waits) (sym (with_more [] ms m)) (waits (with_moments [] ms) has.waits);
+  lines = lines (with_moments [] ms) has.waits
+      ∙ ap₂ (λ (b : Bool) (n : ℕ). map deed_shown old.page.lines.items ++ map deed_told (shown_one b (with_moments [] ms) n m)) has.every_is has.number
+      ∙ ap (λ l. l ++ map deed_told (shown_one every (with_moments [] ms) (number_behind 1 ms) m)) has.lines
+      ∙ sym (map-append deed_told (shown_from every [] 1 ms) (shown_one every (with_moments [] ms) (number_behind 1 ms) m))
+      ∙ ap (map deed_told) (sym (shown_more every [] 1 ms m));
+}
 
 -- the wait of one thread is set, and those of the others stay
 pub waits_set : (items new : List (Option (ℕ × ℕ))) (t : Told) (before : List Told) → t.seat < length items → ((seat : ℕ) → get_or items seat None ≡ last_wait before seat) → new ≡ set items t.seat (wait_of t.answer) → (seat : ℕ) → get_or new seat None ≡ last_wait (t ∷ before) seat

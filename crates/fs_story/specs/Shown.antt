@@ -1,15 +1,16 @@
 -- Which moments of a run are shown: each event, or those that tell something new; and each checkpoint.
-use Rattle.std.specs.Prelude.{ℕ, Bool, true, false, ◌==◌, ◌&&◌, ◌||◌, not, ◌+◌, List, [], ◌∷◌, ◌++◌, Option, Some, None, if◌then◌else◌}
+use Rattle.std.specs.Prelude.{ℕ, ◌≡◌, map, Bool, true, false, ◌==◌, ◌&&◌, ◌||◌, not, ◌+◌, List, [], ◌∷◌, ◌++◌, Option, Some, None, if◌then◌else◌}
 use Rattle.fs_machine.specs.declared.answers.Stepped.{Stepped}
 use Rattle.fs_machine.specs.declared.answers.Stepped.TheVariants as step
 use Rattle.fs_story.specs.declared.story.Deed.{Deed}
 use Rattle.fs_story.specs.declared.story.Deed.TheVariants as deed
 use Rattle.fs_story.specs.declared.story.Line.{Line}
-use Rattle.fs_record.specs.declared.told.Answer.{Answer}
-use Rattle.fs_record.specs.declared.told.Answer.TheVariants.{Spent, Begun, Stepped as OfStep}
-use Rattle.fs_record.specs.declared.told.Moment.{Moment}
-use Rattle.fs_record.specs.declared.told.Moment.TheVariants.{Event, Checkpoint}
-use Rattle.fs_record.specs.declared.told.Told.{Told}
+use Rattle.fs_story.specs.declared.story.Story.{Story}
+use Rattle.fs_witness.specs.declared.moments.Answer.{Answer}
+use Rattle.fs_witness.specs.declared.moments.Answer.TheVariants.{Spent, Begun, Stepped as OfStep}
+use Rattle.fs_witness.specs.declared.moments.Moment.{Moment}
+use Rattle.fs_witness.specs.declared.moments.Moment.TheVariants.{Event, Checkpoint}
+use Rattle.fs_witness.specs.declared.moments.Told.{Told}
 
 -- what an event waited for, where it waited: the node, and the call that holds it
 abbrev pub wait_of : Answer → Option (ℕ × ℕ)
@@ -90,3 +91,7 @@ deed_told event = (event.0, (seat_at event.1, deed_at event.1))
 -- what a line says of its moment
 abbrev pub deed_shown : Line → ℕ × (Option ℕ × Deed)
 deed_shown line = (line.number, (line.seat, line.deed))
+
+-- a story tells what is to be shown of moments, and nothing else
+abbrev pub Tells : Bool → Story → List Moment → Type 0
+Tells every story ms = map deed_shown story.lines.items ≡ map deed_told (shown every ms)

@@ -1,11 +1,11 @@
 //! A script's run in words.
 //!
-//! `tell_run` goes through the moments of a run that `fs_record` has recorded, and tells each in words, with paths in place of
-//! node numbers: an event by what its thread's call did, a checkpoint by the number of the next call. By its clause it shows each
-//! checkpoint, and each event or each that tells something new; by `laws::every_is_all` the first are all. The words themselves
-//! are tested, and not proved.
+//! A `Teller` is a witness: the player tells it each moment of a run where it comes, and it puts that into words, with paths in
+//! place of node numbers: an event by what its thread's call did, a checkpoint by the number of the next call. By its clauses it
+//! shows each checkpoint, and each event or each that tells something new; by `laws::every_is_all` the first are all. The words
+//! themselves are tested, and not proved.
 //!
-//! Enter at `tell_run`. The definitions are in `specs/`: `Shown` (which moments are shown) and `Laws`; `docs/FORMATS.md` has the
+//! Enter at `Teller`. The definitions are in `specs/`: `Shown` (which moments are shown) and `Laws`; `docs/FORMATS.md` has the
 //! grammar of the words. `specs/code/` ties the code to them, and changes no meaning.
 #![tactic(auto)]
 
@@ -16,4 +16,4 @@ mod paths;
 mod shown;
 mod story;
 
-pub use story::{CallPlace, Deed, Line, Standing, Story, tell_run};
+pub use story::{CallPlace, Deed, Line, Part, Standing, Story, Teller};

@@ -3,12 +3,12 @@
 ghost use Rattle.std.specs.Prelude.{◌≡◌, ◌<◌, ◌∷◌, [], ℕ, List, None, IfOk, OnOk, get_or, length};
 ghost use Rattle.fs_story.specs.Shown.{is_news, is_wait_for, last_wait, wait_of};
 ghost use Rattle.fs_story.specs.code.Waiting.{AreWaits};
-ghost use Rattle.fs_record.specs.declared.told.Told.{Told};
+ghost use Rattle.fs_witness.specs.declared.moments.Told.{Told};
 
 use fs_core::Stepped;
 use fs_names::CallNo;
 use fs_nodes::NodeNo;
-use fs_record::{Answer, Told};
+use fs_witness::{Answer, Told};
 use std::alloc::{AllocError, Global};
 
 /// What the last event of each thread waited for, where it waited: the node, and the call that holds it. A thread of which no

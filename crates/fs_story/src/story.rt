@@ -1,10 +1,11 @@
 //! The events of a run, told in words.
 
-ghost use Rattle.std.specs.Prelude.{◌≡◌, ◌<◌, ◌-◌, ◌^◌, ◌∷◌, ◌++◌, [], List, None, map, IfOk, OnOk};
-ghost use Rattle.fs_story.specs.Shown.{deed_of, deed_of_step, deed_shown, deed_told, number_after, shown, shown_one, with_moment};
-ghost use Rattle.fs_story.specs.code.Waiting.{AreWaits};
-ghost use Rattle.fs_record.specs.declared.told.Moment.TheVariants.{Event};
-ghost use Rattle.fs_record.specs.declared.told.Told.{Told};
+ghost use Rattle.std.specs.Prelude.{◌≡◌, ◌∷◌, ◌++◌, [], Bool, List, None, map, IfOk, OnOk};
+ghost use Rattle.fs_witness.specs.declared.moments.Moment.{Moment};
+ghost use Rattle.fs_witness.specs.declared.moments.Moment.TheVariants.{Event};
+ghost use Rattle.fs_witness.specs.declared.moments.Told.{Told};
+ghost use Rattle.fs_story.specs.Shown.{deed_of, deed_of_step, deed_shown, deed_told, shown_one, Tells};
+ghost use Rattle.fs_story.specs.code.Waiting.{AreWaits, HasShown};
 
 use crate::effect::{Effect, effect_of};
 use crate::holdings::{Held, let_go, meaning, position, take};
@@ -12,13 +13,12 @@ use crate::paths::{path_of, paths_of};
 use crate::shown::Waits;
 use fs_calls::{Call, Reply};
 use fs_core::{Core, Stepped};
-use fs_names::{CallNo, Path, SeatNo};
-use fs_nodes::NodeNo;
-use fs_record::{Answer, Moment, Told};
-use fs_sched::seated;
+use fs_names::{CallNo, Path};
+use fs_nodes::{NodeNo, Store};
 use fs_script::{CallLists, Script, ThreadNames};
 use fs_seq::SeqTree;
 use fs_text::{errno_text, write_call, write_reply};
+use fs_witness::{Answer, Moment, Told, Witness};
 use itoa::Buffer;
 use std::alloc::{AllocError, Global};
 
@@ -60,6 +60,24 @@ pub struct Line {
     pub deed: Deed,
     /// Where its words end in the words of the story.
     pub end: usize,
+    /// Where the path of its node stands in the words of the story; of no bytes where it has no node.
+    pub path: Part,
+}
+
+/// A part of the words of a story: where it begins, and where it ends.
+#[derive(Clone, Copy, Debug, PartialEq, Eq)]
+pub struct Part {
+    pub from: usize,
+    pub end: usize,
+}
+
+impl Part {
+    /// No words.
+    pub fn none() -> Part
+        ensures { result ≡ record { from = 0; end = 0 } }
+    {
+        Part { from: 0, end: 0 }
+    }
 }
 
 /// A call of a run: its number, its thread, and its place among the calls of that.
@@ -77,14 +95,41 @@ pub struct Standing {
     pub call: u64,
 }
 
-/// The moments of a run that are shown, with their words one after the other; the calls in the order in which they began; and how
-/// far each thread came.
+/// The moments of a run that are shown, with their words one after the other; the calls in the order in which they began, with
+/// what each returned; and how far each thread came.
 #[derive(Drop)]
 pub struct Story {
     pub lines: Vec<Line>,
     pub words: Vec<u8>,
     pub calls: Vec<CallPlace>,
+    pub replies: Vec<Option<Reply>>,
     pub threads: Vec<Standing>,
+}
+
+/// The lines so far, and their words one after the other.
+#[derive(Drop)]
+struct Page {
+    lines: Vec<Line>,
+    words: Vec<u8>,
+}
+
+/// What an event did, and where the words have the path of its node.
+#[derive(Clone, Copy)]
+struct Said {
+    deed: Deed,
+    path: Part,
+}
+
+impl Said {
+    /// An event that has no node.
+    fn of(deed: Deed) -> Said
+        ensures { result.deed ≡ deed }
+    {
+        Said {
+            deed,
+            path: Part::none(),
+        }
+    }
 }
 
 /// A thread in a run: how many of its calls have begun, the number of its call under way, and what that holds.
@@ -95,23 +140,23 @@ struct Thread {
     held: Vec<Held>,
 }
 
-/// A run that is gone through once more, as its events were answered: the calls so far with what they change, and how many of
-/// them began before the last checkpoint.
+/// Who puts a run into words: the calls so far with what they change and what they returned, and how many of them began before
+/// the last checkpoint.
 #[derive(Drop)]
-struct Teller<'a> {
+struct Voice<'a> {
     alloc: Global,
     names: &'a ThreadNames,
     lists: &'a CallLists,
-    core: Core,
     tree: SeqTree,
     threads: Vec<Thread>,
     calls: Vec<CallPlace>,
     effects: Vec<Effect>,
+    replies: Vec<Option<Reply>>,
     before: usize,
 }
 
-impl<'a> Teller<'a> {
-    fn new(alloc: Global, script: &'a Script) -> Result<Teller<'a>, AllocError> {
+impl<'a> Voice<'a> {
+    fn new(alloc: Global, script: &'a Script) -> Result<Voice<'a>, AllocError> {
         let count = script.lists.as_slice().len();
         let mut threads = Vec::new(alloc);
         for _ in 0..count {
@@ -121,15 +166,15 @@ impl<'a> Teller<'a> {
                 held: Vec::new(alloc),
             })?;
         }
-        Ok(Teller {
+        Ok(Voice {
             alloc,
             names: &script.names,
             lists: &script.lists,
-            core: seated(alloc, script.limits, count)?,
             tree: SeqTree::with_limits(alloc, script.limits)?,
             threads,
             calls: Vec::new(alloc),
             effects: Vec::new(alloc),
+            replies: Vec::new(alloc),
             before: 0,
         })
     }
@@ -199,40 +244,51 @@ impl<'a> Teller<'a> {
         push_number(number, line)
     }
 
-    fn push_path(&self, node: NodeNo, line: &mut Vec<u8>) -> Result<(), AllocError> {
-        match path_of(self.alloc, self.core.store(), node)? {
+    fn push_path(&self, store: &Store, node: NodeNo, line: &mut Vec<u8>) -> Result<(), AllocError> {
+        match path_of(self.alloc, store, node)? {
             Some(path) => line.extend_from_slice(path.as_slice()),
             None => Ok(()),
         }
     }
 
+    /// The same, and where the path stands.
+    fn push_node(
+        &self,
+        store: &Store,
+        node: NodeNo,
+        line: &mut Vec<u8>,
+    ) -> Result<Part, AllocError> {
+        let from = line.len();
+        self.push_path(store, node, line)?;
+        Ok(Part {
+            from,
+            end: line.len(),
+        })
+    }
+
     /// What the first path of a call means now, or the second.
     fn push_meaning(
         &self,
+        store: &Store,
         seat: usize,
         path: &Path,
         is_second: bool,
         line: &mut Vec<u8>,
     ) -> Result<(), AllocError> {
-        let word = meaning(
-            self.alloc,
-            self.core.store(),
-            self.held(seat),
-            path,
-            is_second,
-        )?;
+        let word = meaning(self.alloc, store, self.held(seat), path, is_second)?;
         line.extend_from_slice(word.as_slice())
     }
 
     /// The path of the position of a thread's call.
     fn push_position(
         &self,
+        store: &Store,
         seat: usize,
         call: &Call,
         line: &mut Vec<u8>,
     ) -> Result<(), AllocError> {
         match position(self.held(seat), call) {
-            Some(node) => self.push_path(node, line),
+            Some(node) => self.push_path(store, node, line),
             None => Ok(()),
         }
     }
@@ -240,44 +296,57 @@ impl<'a> Teller<'a> {
     /// A word, and what the first path of a call means now.
     fn push_one(
         &self,
+        store: &Store,
         seat: usize,
         word: &[u8],
         call: &Call,
         line: &mut Vec<u8>,
     ) -> Result<(), AllocError> {
         line.extend_from_slice(word)?;
-        self.push_meaning(seat, paths_of(call).0, false, line)
+        self.push_meaning(store, seat, paths_of(call).0, false, line)
     }
 
     /// The same with a second word, and the second path.
     fn push_both(
         &self,
+        store: &Store,
         seat: usize,
         words: (&[u8], &[u8]),
         call: &Call,
         line: &mut Vec<u8>,
     ) -> Result<(), AllocError> {
-        self.push_one(seat, words.0, call, line)?;
+        self.push_one(store, seat, words.0, call, line)?;
         line.extend_from_slice(words.1)?;
-        self.push_meaning(seat, paths_of(call).1, true, line)
+        self.push_meaning(store, seat, paths_of(call).1, true, line)
     }
 
     /// What the call under way of a thread changes.
-    fn push_effect(&self, seat: usize, line: &mut Vec<u8>) -> Result<(), AllocError> {
+    fn push_effect(
+        &self,
+        store: &Store,
+        seat: usize,
+        line: &mut Vec<u8>,
+    ) -> Result<(), AllocError> {
         let number = self.under_way(seat);
         let Some(call) = self.call_of(number) else {
             return Ok(());
         };
         match self.effect(number) {
-            Effect::Adds => self.push_one(seat, b"adds ", call, line),
-            Effect::Removes => self.push_one(seat, b"removes ", call, line),
+            Effect::Adds => self.push_one(store, seat, b"adds ", call, line),
+            Effect::Removes => self.push_one(store, seat, b"removes ", call, line),
             Effect::Changes => {
                 line.extend_from_slice(b"changes ")?;
-                self.push_position(seat, call, line)
+                self.push_position(store, seat, call, line)
             }
-            Effect::Moves => self.push_both(seat, (b"moves ", b" to "), call, line),
-            Effect::MovesOver => self.push_both(seat, (b"moves ", b" over "), call, line),
-            Effect::Exchanges => self.push_both(seat, (b"exchanges ", b" with "), call, line),
+            Effect::Moves => self.push_both(store, seat, (b"moves ", b" to "), call, line),
+            Effect::MovesOver => self.push_both(store, seat, (b"moves ", b" over "), call, line),
+            Effect::Exchanges => self.push_both(
+                store,
+                seat,
+                (b"exchanges ", b" with "),
+                call,
+                line,
+            ),
             Effect::ChangesNothing => line.extend_from_slice(b"changes nothing"),
             Effect::Answers => line.extend_from_slice(b"answers"),
             Effect::Fails(errno) => {
@@ -287,63 +356,32 @@ impl<'a> Teller<'a> {
         }
     }
 
-    /// The next call of a thread begins once more.
-    fn begin_again(&mut self, seat: usize, number: u64) -> Result<(), AllocError> {
-        if seat >= self.threads.len() || seat >= self.core.seats() {
-            return Ok(());
-        }
-        let at = self.threads[seat].begun;
-        let Some(call) = self.lists.of(seat).get(at) else {
+    /// The next call of a thread begins.
+    fn begin(&mut self, seat: usize, number: u64) -> Result<(), AllocError> {
+        let Some(thread) = self.threads.get_mut(seat) else {
             return Ok(());
         };
-        if self
-            .core
-            .begin(self.alloc, SeatNo::new(seat as u64), call)
-            .is_err()
-        {
-            return Err(AllocError);
-        }
-        self.threads[seat].begun = at.saturating_add(1);
-        self.threads[seat].call = number;
+        let at = thread.begun;
+        thread.begun = at.saturating_add(1);
+        thread.call = number;
         self.calls.push(CallPlace { number, seat, at })?;
         self.effects.push(Effect::ChangesNothing)?;
+        self.replies.push(None)?;
         Ok(())
-    }
-
-    /// The step of a thread's call is done once more.
-    fn step_again(&mut self, seat: usize) {
-        if seat < self.core.seats() {
-            let _ = self.core.step(SeatNo::new(seat as u64));
-        }
-    }
-
-    /// The checkpoint is done once more.
-    fn checkpoint_again(&mut self) -> Result<(), AllocError> {
-        if self.core.checkpoint(self.alloc).is_err() {
-            return Err(AllocError);
-        }
-        self.before = self.calls.len();
-        Ok(())
-    }
-
-    /// An event that is not shown happens once more. It is an idle turn, or a wait.
-    fn pass_over(&mut self, told: &Told) {
-        if let Answer::Stepped(_) = &told.answer {
-            self.step_again(told.seat);
-        }
     }
 
     fn tell_take(
         &mut self,
+        store: &Store,
         seat: usize,
         node: NodeNo,
         line: &mut Vec<u8>,
-    ) -> Result<(), AllocError> {
+    ) -> Result<Part, AllocError> {
         if let Some(call) = self.call_of(self.under_way(seat)) {
             if seat < self.threads.len() {
                 take(
                     self.alloc,
-                    self.core.store(),
+                    store,
                     paths_of(call),
                     node,
                     &mut self.threads[seat].held,
@@ -351,23 +389,26 @@ impl<'a> Teller<'a> {
             }
         }
         line.extend_from_slice(b" takes ")?;
-        self.push_path(node, line)
+        self.push_node(store, node, line)
     }
 
     fn tell_wait(
         &self,
+        store: &Store,
         node: NodeNo,
         holder: CallNo,
         line: &mut Vec<u8>,
-    ) -> Result<(), AllocError> {
+    ) -> Result<Part, AllocError> {
         line.extend_from_slice(b" waits for ")?;
-        self.push_path(node, line)?;
+        let path = self.push_node(store, node, line)?;
         line.extend_from_slice(b" held by ")?;
-        self.push_who(holder.get(), line)
+        self.push_who(holder.get(), line)?;
+        Ok(path)
     }
 
     fn tell_let_go(
         &mut self,
+        store: &Store,
         seat: usize,
         node: NodeNo,
         line: &mut Vec<u8>,
@@ -380,7 +421,7 @@ impl<'a> Teller<'a> {
             None => Vec::new(self.alloc),
         };
         line.extend_from_slice(b" lets ")?;
-        match path_of(self.alloc, self.core.store(), node)? {
+        match path_of(self.alloc, store, node)? {
             None => {
                 line.extend_from_slice(taken.as_slice())?;
                 line.extend_from_slice(b" go, removed")
@@ -407,26 +448,41 @@ impl<'a> Teller<'a> {
         Ok(())
     }
 
-    fn tell_help(&mut self, helped: CallNo, line: &mut Vec<u8>) -> Result<(), AllocError> {
+    fn tell_help(
+        &mut self,
+        store: &Store,
+        helped: CallNo,
+        line: &mut Vec<u8>,
+    ) -> Result<(), AllocError> {
         self.commit(helped.get())?;
         line.extend_from_slice(b" helps ")?;
         self.push_who(helped.get(), line)?;
         line.extend_from_slice(b", commits it at ")?;
         match (self.place_of(helped.get()), self.call_of(helped.get())) {
-            (Some(place), Some(call)) => self.push_position(place.seat, call, line),
+            (Some(place), Some(call)) => self.push_position(store, place.seat, call, line),
             _ => Ok(()),
         }
     }
 
-    fn tell_commit(&mut self, seat: usize, line: &mut Vec<u8>) -> Result<(), AllocError> {
+    fn tell_commit(
+        &mut self,
+        store: &Store,
+        seat: usize,
+        line: &mut Vec<u8>,
+    ) -> Result<(), AllocError> {
         self.commit(self.under_way(seat))?;
         line.extend_from_slice(b" commits, ")?;
-        self.push_effect(seat, line)
+        self.push_effect(store, seat, line)
     }
 
-    fn tell_carry_out(&self, seat: usize, line: &mut Vec<u8>) -> Result<(), AllocError> {
+    fn tell_carry_out(
+        &self,
+        store: &Store,
+        seat: usize,
+        line: &mut Vec<u8>,
+    ) -> Result<(), AllocError> {
         line.extend_from_slice(b" carries out, ")?;
-        self.push_effect(seat, line)
+        self.push_effect(store, seat, line)
     }
 
     fn tell_return(
@@ -445,25 +501,29 @@ impl<'a> Teller<'a> {
 
     fn tell_step(
         &mut self,
+        store: &Store,
         seat: usize,
         stepped: &Stepped,
         line: &mut Vec<u8>,
-    ) -> Result<Deed, AllocError>
-        ensures { IfOk result (λ deed. deed ≡ deed_of_step stepped.now) }
+    ) -> Result<Said, AllocError>
+        ensures { IfOk result (λ said. said.deed ≡ deed_of_step stepped.now) }
     {
-        self.step_again(seat);
         self.push_who(self.under_way(seat), line)?;
+        let mut path = Part::none();
         match stepped {
             Stepped::Idle => {}
-            Stepped::Took(node) => self.tell_take(seat, *node, line)?,
-            Stepped::Busy(node, holder) => self.tell_wait(*node, *holder, line)?,
-            Stepped::LetGo(node) => self.tell_let_go(seat, *node, line)?,
-            Stepped::Helped(helped) => self.tell_help(*helped, line)?,
-            Stepped::Committed => self.tell_commit(seat, line)?,
-            Stepped::CarriedOut => self.tell_carry_out(seat, line)?,
+            Stepped::Took(node) => path = self.tell_take(store, seat, *node, line)?,
+            Stepped::Busy(node, holder) => path = self.tell_wait(store, *node, *holder, line)?,
+            Stepped::LetGo(node) => self.tell_let_go(store, seat, *node, line)?,
+            Stepped::Helped(helped) => self.tell_help(store, *helped, line)?,
+            Stepped::Committed => self.tell_commit(store, seat, line)?,
+            Stepped::CarriedOut => self.tell_carry_out(store, seat, line)?,
             Stepped::Returned(reply) => self.tell_return(seat, reply, line)?,
         }
-        Ok(deed_of(stepped))
+        Ok(Said {
+            deed: deed_of(stepped),
+            path,
+        })
     }
 
     fn tell_begin(
@@ -471,121 +531,179 @@ impl<'a> Teller<'a> {
         seat: usize,
         number: u64,
         line: &mut Vec<u8>,
-    ) -> Result<Deed, AllocError>
-        ensures { IfOk result (λ deed. deed ≡ Deed.Begins) }
+    ) -> Result<Said, AllocError>
+        ensures { IfOk result (λ said. said.deed ≡ Deed.Begins) }
     {
-        self.begin_again(seat, number)?;
+        self.begin(seat, number)?;
         self.push_who(number, line)?;
         line.extend_from_slice(b" begins ")?;
         if let Some(call) = self.call_of(number) {
             write_call(self.alloc, call, line)?;
         }
-        Ok(Deed::Begins)
+        Ok(Said::of(Deed::Begins))
     }
 
-    fn tell_idle(&self, seat: usize, line: &mut Vec<u8>) -> Result<Deed, AllocError>
-        ensures { IfOk result (λ deed. deed ≡ Deed.Idles) }
+    fn tell_idle(&self, seat: usize, line: &mut Vec<u8>) -> Result<Said, AllocError>
+        ensures { IfOk result (λ said. said.deed ≡ Deed.Idles) }
     {
         if let Some(name) = self.names.name(seat) {
             line.extend_from_slice(name)?;
         }
         line.extend_from_slice(b" has nothing left")?;
-        Ok(Deed::Idles)
+        Ok(Said::of(Deed::Idles))
     }
 
-    /// Does an event once more, adds its words, and answers what it did.
-    fn tell(&mut self, told: &Told, line: &mut Vec<u8>) -> Result<Deed, AllocError>
-        ensures { IfOk result (λ deed. deed ≡ deed_of told.now.answer) }
+    /// Adds the words of an event, which left the nodes so, and answers what it did.
+    fn tell(&mut self, store: &Store, told: &Told, line: &mut Vec<u8>) -> Result<Said, AllocError>
+        ensures { IfOk result (λ said. said.deed ≡ deed_of told.now.answer) }
     {
         match &told.answer {
             Answer::Spent => self.tell_idle(told.seat, line),
             Answer::Begun(number) => self.tell_begin(told.seat, number.get(), line),
-            Answer::Stepped(stepped) => self.tell_step(told.seat, stepped, line),
+            Answer::Stepped(stepped) => self.tell_step(store, told.seat, stepped, line),
         }
     }
 
-    /// The same of an event that is shown, which is counted from 1.
-    fn show(&mut self, number: usize, told: &Told, story: &mut Story) -> Result<(), AllocError>
-        ensures { OnOk result (map deed_shown story.new.lines.items ≡ map deed_shown story.old.lines.items ++ deed_told (number, Event told.now) ∷ []) }
+    /// Keeps what the call of a number returned.
+    fn keep_reply(&mut self, number: u64, answer: Answer) {
+        let Answer::Stepped(Stepped::Returned(reply)) = answer else {
+            return;
+        };
+        let Some(at) = self.index_of(number) else {
+            return;
+        };
+        if let Some(place) = self.replies.get_mut(at) {
+            *place = Some(reply);
+        }
+    }
+
+    /// Shows an event, which is counted from 1.
+    fn show(
+        &mut self,
+        store: &Store,
+        number: usize,
+        told: Told,
+        page: &mut Page,
+    ) -> Result<(), AllocError>
+        ensures { OnOk result (map deed_shown page.new.lines.items ≡ map deed_shown page.old.lines.items ++ deed_told (number, Event told) ∷ []) }
     {
-        let before = self.under_way(told.seat);
-        let deed = self.tell(told, &mut story.words)?;
-        let call = if deed == Deed::Begins {
-            self.under_way(told.seat)
+        let seat = told.seat;
+        let before = self.under_way(seat);
+        let said = self.tell(store, &told, &mut page.words)?;
+        let call = if said.deed == Deed::Begins {
+            self.under_way(seat)
         } else {
             before
         };
-        story.lines.push(Line {
+        page.lines.push(Line {
             number,
-            seat: Some(told.seat),
+            seat: Some(seat),
             call,
-            deed,
-            end: story.words.len(),
+            deed: said.deed,
+            end: page.words.len(),
+            path: said.path,
         })?;
+        self.keep_reply(call, told.answer);
         Ok(())
     }
 
-    /// The same of a checkpoint, before the event of a number.
-    fn show_checkpoint(&mut self, number: usize, story: &mut Story) -> Result<(), AllocError>
-        ensures { OnOk result (map deed_shown story.new.lines.items ≡ map deed_shown story.old.lines.items ++ (number, (None, Deed.Checkpoint)) ∷ []) }
+    /// Shows a checkpoint, before the event of a number.
+    fn show_checkpoint(&mut self, number: usize, page: &mut Page) -> Result<(), AllocError>
+        ensures { OnOk result (map deed_shown page.new.lines.items ≡ map deed_shown page.old.lines.items ++ (number, (None, Deed.Checkpoint)) ∷ []) }
     {
-        self.checkpoint_again()?;
-        story.words.extend_from_slice(b", the next call is #1")?;
-        story.lines.push(Line {
+        self.before = self.calls.len();
+        page.words.extend_from_slice(b", the next call is #1")?;
+        page.lines.push(Line {
             number,
             seat: None,
             call: 0,
             deed: Deed::Checkpoint,
-            end: story.words.len(),
+            end: page.words.len(),
+            path: Part::none(),
         })?;
         Ok(())
     }
+}
+
+/// Tells a run as its moments come: each event, or those that tell something new, and each checkpoint.
+#[derive(Drop)]
+pub struct Teller<'a> {
+    voice: Voice<'a>,
+    every: bool,
+    number: usize,
+    waits: Waits,
+    page: Page,
+}
+
+impl<'a> Teller<'a> {
+    /// Before the first moment of a run of a script. It shows every event, or those that tell something new.
+    pub fn new(alloc: Global, script: &'a Script, every: bool) -> Result<Teller<'a>, AllocError>
+        ensures { IfOk result (λ teller. HasShown every teller []) }
+    {
+        Ok(Teller {
+            voice: Voice::new(alloc, script)?,
+            every,
+            number: 1,
+            waits: Waits::new(alloc),
+            page: Page {
+                lines: Vec::new(alloc),
+                words: Vec::new(alloc),
+            },
+        })
+    }
 
     /// Goes on by an event, and shows it where it tells something new or every one is asked for.
-    fn go_on(
-        &mut self,
-        number: usize,
-        told: &Told,
-        every: bool,
-        waits: &mut Waits,
-        story: &mut Story,
-    ) -> Result<(), AllocError>
-        ensures waits { (before : List Told) → AreWaits waits.old before → OnOk result (AreWaits waits.new (told.now ∷ before)) }
-        ensures lines { (before : List Told) → AreWaits waits.old before → OnOk result (map deed_shown story.new.lines.items ≡ map deed_shown story.old.lines.items ++ map deed_told (shown_one every before number (Event told.now))) }
+    fn go_on(&mut self, store: &Store, told: Told) -> Result<(), AllocError>
+        ensures waits { (before : List Told) → AreWaits self.old.waits before → OnOk result (AreWaits self.new.waits (told ∷ before)) }
+        ensures lines { (before : List Told) → AreWaits self.old.waits before → OnOk result (map deed_shown self.new.page.lines.items ≡ map deed_shown self.old.page.lines.items ++ map deed_told (shown_one self.old.every before self.old.number (Event told))) }
+        ensures every { self.new.every ≡ self.old.every }
+        ensures number { self.new.number ≡ self.old.number }
     {
-        let news = waits.is_news(told)?;
-        if every || news {
-            return self.show(number, told, story);
+        let news = self.waits.is_news(&told)?;
+        if self.every || news {
+            return self.voice.show(store, self.number, told, &mut self.page);
         }
-        self.pass_over(told);
         Ok(())
     }
 
-    /// Goes on by a moment, before which an event would have this number, and answers the number of the next event.
-    fn go_on_by(
-        &mut self,
-        number: usize,
-        moment: &Moment,
-        every: bool,
-        waits: &mut Waits,
-        story: &mut Story,
-    ) -> Result<usize, AllocError>
-        requires { number < 2 ^ 64 - 1 }
-        ensures number { IfOk result (λ next. next ≡ number_after number moment.now) }
-        ensures waits { (before : List Told) → AreWaits waits.old before → OnOk result (AreWaits waits.new (with_moment before moment.now)) }
-        ensures lines { (before : List Told) → AreWaits waits.old before → OnOk result (map deed_shown story.new.lines.items ≡ map deed_shown story.old.lines.items ++ map deed_told (shown_one every before number moment.now)) }
+    /// What was told.
+    pub fn story(self) -> Result<Story, AllocError>
+        ensures { (every : Bool) (ms : List Moment) → HasShown every self.entry ms → IfOk result (λ story. Tells every story ms) }
     {
+        let threads = standings(self.voice.alloc, self.voice.threads.as_slice())?;
+        Ok(Story {
+            lines: self.page.lines,
+            words: self.page.words,
+            calls: self.voice.calls,
+            replies: self.voice.replies,
+            threads,
+        })
+    }
+}
+
+impl<'a> Witness for Teller<'a> {
+    ghost Told = { λ first teller ms. HasShown first.every teller ms };
+
+    fn begins(&mut self, _calls: usize) {}
+
+    fn saw(&mut self, core: &Core, moment: Moment) -> Result<(), AllocError> {
+        // No run has so many events.
+        if self.number == usize::MAX {
+            return Err(AllocError);
+        }
         match moment {
             Moment::Event(told) => {
-                self.go_on(number, told, every, waits, story)?;
-                Ok(number + 1)
+                self.go_on(core.store(), told)?;
+                self.number += 1;
+                Ok(())
             }
-            Moment::Checkpoint(_) => {
-                self.show_checkpoint(number, story)?;
-                Ok(number)
-            }
+            Moment::Checkpoint(_) => self.voice.show_checkpoint(self.number, &mut self.page),
         }
     }
+
+    fn went_on(&mut self, _events: u64, _entries: usize) {}
+
+    fn has_run(&mut self, _done: u64, _runs: u64) {}
 }
 
 /// What a step did.
@@ -609,18 +727,6 @@ fn push_number(number: u64, line: &mut Vec<u8>) -> Result<(), AllocError> {
     line.extend_from_slice(buffer.format(number).as_bytes())
 }
 
-/// Nothing told yet.
-fn nothing_told(alloc: Global) -> Story
-    ensures { result.lines.items ≡ [] }
-{
-    Story {
-        lines: Vec::new(alloc),
-        words: Vec::new(alloc),
-        calls: Vec::new(alloc),
-        threads: Vec::new(alloc),
-    }
-}
-
 /// How far each thread came.
 fn standings(alloc: Global, threads: &[Thread]) -> Result<Vec<Standing>, AllocError> {
     let mut standings = Vec::new(alloc);
@@ -631,29 +737,4 @@ fn standings(alloc: Global, threads: &[Thread]) -> Result<Vec<Standing>, AllocEr
         })?;
     }
     Ok(standings)
-}
-
-/// Tells the moments of a run: each event, or those that tell something new, and each checkpoint.
-pub fn tell_run(
-    alloc: Global,
-    script: &Script,
-    moments: &[Moment],
-    every: bool,
-) -> Result<Story, AllocError>
-    ensures { IfOk result (λ story. map deed_shown story.lines.items ≡ map deed_told (shown every moments.now)) }
-{
-    let mut waits = Waits::new(alloc);
-    let mut teller = Teller::new(alloc, script)?;
-    let mut story = nothing_told(alloc);
-    let mut number = 1;
-    for place in 0..moments.len() {
-        number = teller.go_on_by(number, &moments[place], every, &mut waits, &mut story)?;
-    }
-    let threads = standings(alloc, teller.threads.as_slice())?;
-    Ok(Story {
-        lines: story.lines,
-        words: story.words,
-        calls: teller.calls,
-        threads,
-    })
 }

@@ -11,7 +11,7 @@ use Rattle.fs_story.specs.Shown.{deed_shown, deed_told, shown}
 use Rattle.fs_trace.specs.Traces.{AreLines, IsTraceText, line_head, thread_line}
 use Rattle.fs_trace.specs.code.LineTexts.{AddsLine, AddsLines, IsTraceHead}
 use Rattle.fs_story.specs.declared.story.Line.{Line}
-use Rattle.fs_record.specs.declared.told.Moment.{Moment}
+use Rattle.fs_witness.specs.declared.moments.Moment.{Moment}
 
 -- what lines begin with
 abbrev pub heads_of : List Line → List (List ℕ)

@@ -1,22 +1,30 @@
--- What is made of a run that was recorded.
-use Rattle.std.proofs.Common.{◌≡◌, ℕ, Bool, List, ap, sym, subst, ◌∙◌}
+-- What is made of a run that was told.
+use Rattle.std.proofs.Common.{◌≡◌, ℕ, Bool, List, [], ap, sym, subst, ◌∙◌}
 use Rattle.fs_core.specs.CoreValues.{state_of}
 use Rattle.fs_machine.specs.States.{State}
 use Rattle.fs_script.specs.Script.{script_of}
 use Rattle.fs_script.specs.declared.script.Script.{Script}
+use Rattle.std.specs.Prelude.{Ok}
+use Rattle.fs_witness.specs.declared.moments.Moment.{Moment}
+use Rattle.fs_sched.specs.Watching.{Watches}
 use Rattle.fs_sched.specs.declared.schedule.Schedule.{Schedule}
-use Rattle.fs_record.specs.Recordings.{IsRecorded}
-use Rattle.fs_record.specs.declared.recorder.Recording.{Recording}
+use Rattle.fs_sched.specs.declared.watching.Ran.{Ran}
+use Rattle.fs_story.specs.code.Waiting.{HasShown}
+use Rattle.fs_story.specs.declared.story.Teller.{Teller}
 use Rattle.fs_trace.specs.Traces.{IsTraceOf, IsTraceText}
 
+-- what a teller has shown of a run is what the run's moments are
+pub told_all : (every : Bool) (schedule : Schedule) (script : Script) (old new : Teller) (ran : Ran) → HasShown every old [] → (w : Watches (λ (first : Teller) teller ms. HasShown first.every teller ms) schedule script old ran new) → HasShown every new w.moments
+told_all every schedule script old new ran none w = subst (λ (b : Bool). HasShown b new w.moments) none.every_is (w.hears old [] (subst (λ (b : Bool). HasShown b old []) (sym none.every_is) none))
+
 -- its trace is one of the script that was read
-pub trace_made : (schedule : Schedule) (every : Bool) (given text made : List ℕ) (script : Script) (recording : Recording) → given ≡ text → IsRecorded schedule given script recording → IsTraceText every script.names recording.moments.items (state_of recording.core) made → IsTraceOf schedule every text recording.end made
-trace_made schedule every given text made script recording e (is, run) trace = (
+pub trace_made : (schedule : Schedule) (every : Bool) (given text made : List ℕ) (script : Script) (old new : Teller) (ran : Ran) → given ≡ text → script_of given ≡ Ok script → (w : Watches (λ (first : Teller) teller ms. HasShown first.every teller ms) schedule script old ran new) → IsTraceText every script.names w.moments (state_of ran.core) made → IsTraceOf schedule every text ran.end made
+trace_made schedule every given text made script old new ran e is w trace = (
   script,
   sym (ap script_of e) ∙ is,
-  recording.moments.items,
-  run.last,
-  run.tells,
-  run.end,
-  subst (λ (s : State). IsTraceText every script.names recording.moments.items s made) (sym run.core) trace,
+  w.moments,
+  w.last,
+  w.tells,
+  w.end,
+  subst (λ (s : State). IsTraceText every script.names w.moments s made) (sym w.core) trace,
 )

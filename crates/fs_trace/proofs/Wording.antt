@@ -3,7 +3,7 @@ use Rattle.std.proofs.Common.{◌≡◌, ℕ, zero, suc, ◌+◌, ◌-◌, ◌<�
 use Rattle.std.proofs.lemmas.List.{at_drop_more, at_drop_all, replicate-append-replicate, take-append-drop}
 use Rattle.fs_script.specs.declared.script.Word.{Word}
 use Rattle.fs_sched.specs.Schedules.{one_event}
-use Rattle.fs_record.specs.Gives.{given_words, single_words}
+use Rattle.fs_sched.specs.Gives.{given_words, single_words}
 use Rattle.fs_trace.specs.Traces.{AreWordTexts, IsGap, word_text}
 use Rattle.fs_trace.specs.code.WordTexts.{AddsWords, IsBeginning}
 

@@ -7,12 +7,13 @@ use Rattle.fs_verdict.specs.declared.fault.RunFault.TheVariants as run
 use Rattle.fs_sched.specs.declared.schedule.Schedule.{Schedule}
 use Rattle.fs_sched.specs.Runs.{IsFaultOfRun}
 use Rattle.fs_trace.specs.declared.fault.ScheduleFault.{ScheduleFault}
-use Rattle.fs_trace.specs.declared.fault.ScheduleFault.TheVariants.{Run, TooManyEvents}
+use Rattle.fs_trace.specs.declared.fault.ScheduleFault.TheVariants.{Run, TooManyEvents, TooLong}
 
 -- the status after a fault: that of the run, 4 where a script has no room for the events
 abbrev pub status_of_schedule : ScheduleFault → ℕ
 status_of_schedule (Run fault) = status_of_fault fault
 status_of_schedule TooManyEvents = 4
+status_of_schedule TooLong = 4
 
 -- the fault between a reader and a writer
 abbrev pub fault_between : Failure ScheduleFault → ScheduleFault
@@ -21,7 +22,8 @@ fault_between failure.Write = Run run.Write
 fault_between failure.OutOfMemory = Run run.OutOfMemory
 fault_between (failure.Unmade f) = f
 
--- the fault of a schedule that is written: why the run is not recorded, or too many events
+-- the fault of a schedule that is written: why the run is not recorded, or no room for its events
 abbrev pub IsFaultOfSchedule : Schedule → List ℕ → ScheduleFault → Type 0
 IsFaultOfSchedule schedule input (Run fault) = IsFaultOfRun schedule input fault
 IsFaultOfSchedule schedule input TooManyEvents = Unit {0}
+IsFaultOfSchedule schedule input TooLong = Unit {0}

@@ -13,9 +13,12 @@ pub enum ScheduleFault {
     /// The run has no end, or a device failed.
     #[error("{0}")]
     Run(RunFault),
-    /// The run takes more events than a script may give, or their words more bytes than a text may have.
+    /// The run takes more events than a script may give.
     #[error("the run takes more events than a script gives")]
     TooManyEvents,
+    /// The script with the words of its events has more bytes than a text may have.
+    #[error("the script would have more than 16777216 bytes")]
+    TooLong,
 }
 
 impl ScheduleFault {
@@ -25,7 +28,7 @@ impl ScheduleFault {
     {
         match self {
             ScheduleFault::Run(fault) => fault.status(),
-            ScheduleFault::TooManyEvents => 4,
+            ScheduleFault::TooManyEvents | ScheduleFault::TooLong => 4,
         }
     }
 }

@@ -10,11 +10,11 @@ ghost use Rattle.fs_trace.specs.Traces.{IsScheduleOf, IsTraceOf};
 ghost use Rattle.fs_trace.specs.code.Mades.{MakesSchedule, MakesTrace};
 
 use crate::fault::ScheduleFault;
-use crate::script_text::script_text;
+use crate::script_text::{RunWords, script_text};
 use crate::trace_text::trace_text;
 use fs_io::{Made, Sink, Source, transform};
-use fs_record::recorded;
-use fs_sched::{RunEnd, RunFault, Schedule};
+use fs_sched::{RunEnd, RunFault, Schedule, script_in, watch};
+use fs_story::Teller;
 use std::alloc::Global;
 
 /// The text of the trace of a script's run, and how that ended.
@@ -26,13 +26,14 @@ fn trace_of(
 ) -> Result<Made<RunEnd>, RunFault>
     ensures { MakesTrace schedule every text.items result }
 {
-    let (script, recording) = recorded(alloc, text.as_slice(), schedule)?;
+    let script = script_in(alloc, text.as_slice())?;
     drop(text);
-    match trace_text(alloc, &script, &recording, every) {
-        Ok(text) => Ok(Made {
-            text,
-            end: recording.end,
-        }),
+    let Ok(mut teller) = Teller::new(alloc, &script, every) else {
+        return Err(RunFault::OutOfMemory);
+    };
+    let ran = watch(alloc, &script, schedule, &mut teller)?;
+    match trace_text(alloc, &script, teller, &ran.core) {
+        Ok(text) => Ok(Made { text, end: ran.end }),
         Err(_) => Err(RunFault::OutOfMemory),
     }
 }
@@ -41,19 +42,21 @@ fn trace_of(
 fn schedule_of(alloc: Global, text: Vec<u8>, schedule: Schedule) -> Result<Made<()>, ScheduleFault>
     ensures { MakesSchedule schedule text.items result }
 {
-    let (script, recording) = match recorded(alloc, text.as_slice(), schedule) {
-        Ok(made) => made,
+    let script = match script_in(alloc, text.as_slice()) {
+        Ok(script) => script,
         Err(fault) => return Err(ScheduleFault::Run(fault)),
     };
-    match script_text(
-        alloc,
-        text.as_slice(),
-        &script,
-        recording.moments.as_slice(),
-    ) {
-        Ok(Some(text)) => Ok(Made { text, end: () }),
-        Ok(None) => Err(ScheduleFault::TooManyEvents),
-        Err(_) => Err(ScheduleFault::Run(RunFault::OutOfMemory)),
+    let mut words = RunWords::new(alloc);
+    let ran = watch(alloc, &script, schedule, &mut words);
+    if words.are_too_many() {
+        return Err(ScheduleFault::TooManyEvents);
+    }
+    if let Err(fault) = ran {
+        return Err(ScheduleFault::Run(fault));
+    }
+    match script_text(alloc, text.as_slice(), &script, words) {
+        Ok(text) => Ok(Made { text, end: () }),
+        Err(fault) => Err(fault),
     }
 }
 

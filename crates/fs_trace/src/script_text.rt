@@ -1,14 +1,20 @@
 //! A script with other words.
 
-ghost use Rattle.std.specs.Prelude.{◌≡◌, ◌++◌, ◌∷◌, [], ℕ, List, IfOk, IfSome, OnOk, get_or};
+ghost use Rattle.std.specs.Prelude.{◌≡◌, ◌++◌, ◌∷◌, [], ℕ, List, IfOk, IfErr, IfSome, OnOk, get_or};
+ghost use Rattle.fs_witness.specs.declared.moments.Moment.{Moment};
+ghost use Rattle.fs_sched.specs.Gives.{single_words, given_words};
 ghost use Rattle.fs_sched.specs.Schedules.{one_event};
-ghost use Rattle.fs_record.specs.Gives.{single_words, given_words};
+ghost use Rattle.fs_sched.specs.declared.schedule.Schedule.{Schedule};
+ghost use Rattle.fs_trace.specs.Faults.{IsFaultOfSchedule};
 ghost use Rattle.fs_trace.specs.Traces.{busy_event, busy_words, times_text, word_text, AreWordTexts, IsGap, IsScheduleText};
 ghost use Rattle.fs_trace.specs.code.WordTexts.{AddsWords, IsBeginning};
 
-use fs_record::{Answer, Moment, Told};
+use crate::fault::ScheduleFault;
+use fs_core::Core;
+use fs_sched::RunFault;
 use fs_script::limits::EVENT_LIMIT;
 use fs_script::{Script, ThreadNames, Word};
+use fs_witness::{Answer, Moment, Told, Witness};
 use fs_words::lines::cut_line;
 use fs_words::{Addition, TEXT_LIMIT};
 use std::alloc::{AllocError, Global};
@@ -66,26 +72,55 @@ fn push_moment(moment: &Moment, words: &mut Vec<Word>) -> Result<(), AllocError>
     }
 }
 
-/// The words of a run's moments, without idle turns.
-fn words_of(alloc: Global, moments: &[Moment]) -> Result<Vec<Word>, AllocError>
-    ensures { IfOk result (λ words. given_words words.items ≡ busy_words moments.now) }
-{
-    let mut words = Vec::new(alloc);
-    for moment in moments {
-        push_moment(moment, &mut words)?;
-    }
-    Ok(words)
+/// The words of a run's moments so far, without idle turns, and how many events they give.
+#[derive(Drop)]
+pub(crate) struct RunWords {
+    words: Vec<Word>,
+    events: u64,
 }
 
-/// Whether a script may give as many events.
-fn is_within(words: &[Word]) -> bool {
-    let mut events = 0u64;
-    for word in words {
-        if let Word::Events(_, times) = word {
-            events = events.saturating_add(*times);
+impl RunWords {
+    /// Before the first moment.
+    pub(crate) fn new(alloc: Global) -> RunWords
+        ensures { given_words result.words.items ≡ busy_words [] }
+    {
+        RunWords {
+            words: Vec::new(alloc),
+            events: 0,
         }
     }
-    events <= EVENT_LIMIT
+
+    /// Whether they give more events than a script may.
+    pub(crate) fn are_too_many(&self) -> bool {
+        self.events > EVENT_LIMIT
+    }
+}
+
+impl Witness for RunWords {
+    ghost Told = { λ first words moments. given_words words.words.items ≡ busy_words moments };
+
+    fn begins(&mut self, _calls: usize) {}
+
+    /// A run that takes more events than a script may give ends there.
+    fn saw(&mut self, _core: &Core, moment: Moment) -> Result<(), AllocError> {
+        self.events = self.events.saturating_add(events_of(&moment));
+        if self.are_too_many() {
+            return Err(AllocError);
+        }
+        push_moment(&moment, &mut self.words)
+    }
+
+    fn went_on(&mut self, _events: u64, _entries: usize) {}
+
+    fn has_run(&mut self, _done: u64, _runs: u64) {}
+}
+
+/// How many events a moment is of a thread that had something to do.
+fn events_of(moment: &Moment) -> u64 {
+    match moment {
+        Moment::Event(told) if !matches!(told.answer, Answer::Spent) => 1,
+        _ => 0,
+    }
 }
 
 /// The part of a script's text up to its line `schedule`, without the line feed behind that.
@@ -191,25 +226,34 @@ fn push_words(
     Ok(())
 }
 
-/// A script's text with the moments of a run as its words; none where a script cannot give so many.
+/// A script's text with other words.
+fn with_words(
+    alloc: Global,
+    input: &[u8],
+    names: &ThreadNames,
+    words: &[Word],
+) -> Result<Vec<u8>, AllocError>
+    ensures { (moments : List Moment) → given_words words.now ≡ busy_words moments → IfOk result (λ text. IsScheduleText input.now names.now moments text.items) }
+{
+    let mut text = Vec::from_slice(alloc, blocks_of(input))?;
+    push_words(alloc, names, words, &mut text)?;
+    text.push(b'\n')?;
+    Ok(text)
+}
+
+/// A script's text with the moments of a run as its words; or why a script has no room for these.
 pub(crate) fn script_text(
     alloc: Global,
     input: &[u8],
     script: &Script,
-    moments: &[Moment],
-) -> Result<Option<Vec<u8>>, AllocError>
-    ensures { IfOk result (λ made. IfSome made (λ text. IsScheduleText input.now script.now.names moments.now text.items)) }
+    words: RunWords,
+) -> Result<Vec<u8>, ScheduleFault>
+    ensures made { (moments : List Moment) → given_words words.words.items ≡ busy_words moments → IfOk result (λ text. IsScheduleText input.now script.now.names moments text.items) }
+    ensures fault { (schedule : Schedule) (given : List ℕ) → IfErr result (IsFaultOfSchedule schedule given) }
 {
-    let words = words_of(alloc, moments)?;
-    if !is_within(words.as_slice()) {
-        return Ok(None);
+    match with_words(alloc, input, &script.names, words.words.as_slice()) {
+        Ok(text) if text.len() > TEXT_LIMIT => Err(ScheduleFault::TooLong),
+        Ok(text) => Ok(text),
+        Err(_) => Err(ScheduleFault::Run(RunFault::OutOfMemory)),
     }
-    let mut text = Vec::from_slice(alloc, blocks_of(input))?;
-    push_words(alloc, &script.names, words.as_slice(), &mut text)?;
-    text.push(b'\n')?;
-    Ok(if text.len() > TEXT_LIMIT {
-        None
-    } else {
-        Some(text)
-    })
 }

@@ -1,18 +1,20 @@
 //! The text of a trace.
 
-ghost use Rattle.std.specs.Prelude.{◌≡◌, ◌++◌, [], IfOk, OnOk, map};
+ghost use Rattle.std.specs.Prelude.{◌≡◌, ◌++◌, [], Bool, List, IfOk, OnOk, map};
 ghost use Rattle.std.specs.List.{flat_map};
 ghost use Rattle.fs_core.specs.CoreValues.{state_of};
-ghost use Rattle.fs_story.specs.Shown.{deed_shown};
+ghost use Rattle.fs_witness.specs.declared.moments.Moment.{Moment};
+ghost use Rattle.fs_story.specs.Shown.{deed_shown, Tells};
+ghost use Rattle.fs_story.specs.code.Waiting.{HasShown};
 ghost use Rattle.fs_trace.specs.Traces.{head_of, line_head, thread_line, IsTraceText};
 ghost use Rattle.fs_trace.specs.code.LineTexts.{AddsLine, AddsLines, IsTraceHead};
 
 use crate::script_text::name_of;
 use fs_calls::Call;
-use fs_record::{Moment, Recording};
+use fs_core::Core;
 use fs_sched::{counts_of, push_counts};
 use fs_script::{Script, ThreadNames, write_tree};
-use fs_story::{Deed, Line, Standing, Story, tell_run};
+use fs_story::{Deed, Line, Standing, Story, Teller};
 use fs_text::write_call;
 use fs_words::Addition;
 use std::alloc::{AllocError, Global};
@@ -140,37 +142,32 @@ fn left_text(alloc: Global, script: &Script, story: &Story) -> Result<Vec<u8>, A
 }
 
 /// The text of a trace up to its tree: the threads, each moment that is shown, and what did not return.
-fn head_text(
-    alloc: Global,
-    script: &Script,
-    moments: &[Moment],
-    every: bool,
-) -> Result<Vec<u8>, AllocError>
-    ensures { IfOk result (λ head. IsTraceHead every script.now.names moments.now head.items) }
+fn head_text(alloc: Global, script: &Script, story: &Story) -> Result<Vec<u8>, AllocError>
+    ensures { (every : Bool) (moments : List Moment) → Tells every story.now moments → IfOk result (λ head. IsTraceHead every script.now.names moments head.items) }
 {
-    let story = tell_run(alloc, script, moments, every)?;
     let mut head = Addition::new(Vec::new(alloc));
     head.push(b"atomfs-trace 1\n")?;
     push_threads(&script.names, &mut head)?;
     push_lines(story.lines.as_slice(), story.words.as_slice(), &mut head)?;
-    let left = left_text(alloc, script, &story)?;
+    let left = left_text(alloc, script, story)?;
     head.push(left.as_slice())?;
     Ok(head.kept())
 }
 
-/// The text of the trace of a run: each event in words, or those that tell something new, and behind them what did not return
-/// and the end of the run's own text.
-pub(crate) fn trace_text(
+/// The text of the trace of a run that was told: each event in words, or those that tell something new, and behind them what did
+/// not return and the end of the run's own text.
+pub(crate) fn trace_text<'a>(
     alloc: Global,
     script: &Script,
-    recording: &Recording,
-    every: bool,
+    teller: Teller<'a>,
+    core: &Core,
 ) -> Result<Vec<u8>, AllocError>
-    ensures { IfOk result (λ text. IsTraceText every script.now.names recording.now.moments.items (state_of recording.now.core) text.items) }
+    ensures { (every : Bool) (moments : List Moment) → HasShown every teller.entry moments → IfOk result (λ text. IsTraceText every script.now.names moments (state_of core.now) text.items) }
 {
-    let mut text = head_text(alloc, script, recording.moments.as_slice(), every)?;
-    write_tree(alloc, recording.core.store(), &mut text)?;
+    let story = teller.story()?;
+    let mut text = head_text(alloc, script, &story)?;
+    write_tree(alloc, core.store(), &mut text)?;
     let mut last = Addition::new(text);
-    push_counts(counts_of(recording.core.timeline()), &mut last)?;
+    push_counts(counts_of(core.timeline()), &mut last)?;
     Ok(last.kept())
 }

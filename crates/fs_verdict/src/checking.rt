@@ -1,21 +1,22 @@
 //! The runner that checks a journal.
 
-ghost use Rattle.std.specs.Prelude.{◌≡◌, ◌≢◌, ◌+◌, ◌-◌, ◌<◌, ◌^◌, ℕ, List, Ok, Err, IfOk, OnOk, OnErr, IfErr, IfSome, IsErrOf};
+ghost use Rattle.std.specs.Prelude.{◌≡◌, ◌≢◌, ◌+◌, ◌-◌, ◌<◌, ◌^◌, [], ℕ, List, true, Ok, Err, IfOk, OnOk, OnErr, IfErr, IfSome, IsErrOf};
 ghost use Rattle.std.specs.Io.KnownBytes.{Appends, IsAtEnd};
 ghost use Rattle.fs_timeline.specs.Verdicts.{verdict};
 ghost use Rattle.fs_script.specs.Journals.{journal_of};
 ghost use Rattle.fs_words.specs.declared.fault.ScriptFault.{ScriptFault};
 ghost use Rattle.fs_verdict.specs.Checks.{is_lawful, verdict_line, verdict_of};
 ghost use Rattle.fs_verdict.specs.Devices.{IsFaultOf, WritesBeginningOf};
-ghost use Rattle.fs_verdict.specs.code.Judged.{IsJudged, MakesVerdict};
+ghost use Rattle.fs_verdict.specs.code.Judged.{IsAnswer, MakesVerdict};
 
 use crate::fault::{RunFault, run_fault};
-use crate::verdict_line::{is_lawful, verdict_line};
+use crate::reason::reason_of;
+use crate::verdict_line::verdict_line;
 use fs_io::{Made, Sink, Source, transform};
 use fs_journal::check_from;
 use fs_script::{Journal, read_journal};
 use fs_timeline::Verdict;
-use std::alloc::Global;
+use std::alloc::{AllocError, Global};
 
 /// The journal that a text has, or why there is none.
 pub fn journal_in(alloc: Global, text: &[u8]) -> Result<Journal, RunFault>
@@ -39,26 +40,60 @@ fn verdict_on(alloc: Global, journal: &Journal) -> Result<Verdict, RunFault>
     }
 }
 
-/// The line of the verdict on a journal, and whether it is lawful.
-fn judged(alloc: Global, journal: Journal) -> Result<Made<bool>, RunFault>
-    ensures ok { IfOk result (IsJudged (verdict journal.start journal.entries.items)) }
+/// What is answered of a journal that was checked.
+#[derive(Drop)]
+pub struct Checked {
+    /// Whether it is lawful.
+    pub lawful: bool,
+    /// What is wrong with it, in words; no bytes where it is lawful.
+    pub reason: Vec<u8>,
+}
+
+/// What is answered of a journal that has this verdict, with its text.
+fn answer_of(
+    alloc: Global,
+    text: &[u8],
+    journal: &Journal,
+    verdict: &Verdict,
+) -> Result<Checked, AllocError>
+    ensures { IfOk result (IsAnswer verdict.now) }
+{
+    match verdict {
+        Verdict::Lawful => Ok(Checked {
+            lawful: true,
+            reason: Vec::new(alloc),
+        }),
+        Verdict::Fault(place, kind) => Ok(Checked {
+            lawful: false,
+            reason: reason_of(alloc, text, journal, place.saturating_sub(1), *kind)?,
+        }),
+    }
+}
+
+/// The line of a verdict.
+fn line_of(alloc: Global, verdict: &Verdict) -> Result<Vec<u8>, RunFault>
+    ensures ok { IfOk result (λ line. line.items ≡ verdict_line verdict.now) }
     ensures err { IfErr result (λ fault. fault ≡ RunFault.OutOfMemory) }
 {
-    let verdict = verdict_on(alloc, &journal)?;
-    let end = is_lawful(&verdict);
-    match verdict_line(alloc, &verdict) {
-        Ok(text) => Ok(Made { text, end }),
+    match verdict_line(alloc, verdict) {
+        Ok(line) => Ok(line),
         Err(_) => Err(RunFault::OutOfMemory),
     }
 }
 
-/// The same of a journal text, which is let go once it is read.
-fn check_text(alloc: Global, text: Vec<u8>) -> Result<Made<bool>, RunFault>
-    ensures { MakesVerdict text.items result }
+/// The line of the verdict on the journal that a text has, and what is answered of it.
+fn check_text(alloc: Global, text: &[u8]) -> Result<Made<Checked>, RunFault>
+    ensures { MakesVerdict text.now result }
 {
-    let journal = journal_in(alloc, text.as_slice())?;
-    drop(text);
-    judged(alloc, journal)
+    let journal = journal_in(alloc, text)?;
+    let verdict = verdict_on(alloc, &journal)?;
+    let Ok(end) = answer_of(alloc, text, &journal, &verdict) else {
+        return Err(RunFault::OutOfMemory);
+    };
+    Ok(Made {
+        text: line_of(alloc, &verdict)?,
+        end,
+    })
 }
 
 /// The line of the verdict on a journal in memory, as `check_journal` writes it. The journal is read where it stands.
@@ -67,23 +102,24 @@ pub fn check_bytes(alloc: Global, journal: &[u8]) -> Result<Vec<u8>, RunFault>
     ensures fault { IfErr result (IsFaultOf (verdict_of journal.now)) }
 {
     let read = journal_in(alloc, journal)?;
-    let made = judged(alloc, read)?;
-    Ok(made.text)
+    let verdict = verdict_on(alloc, &read)?;
+    line_of(alloc, &verdict)
 }
 
 /// Reads a journal to its end and writes the verdict on it, from its start tree, in one line: `lawful`, or `fault` with the place of the
-/// first entry that does not fit, counted from 1, and the kind of its fault. The answer is whether it is lawful. The
-/// line is made before its first byte is written.
+/// first entry that does not fit, counted from 1, and the kind of its fault. The answer is whether it is lawful, and what is wrong
+/// with it in words. The line is made before its first byte is written.
 pub fn check_journal<R: Source, W: Sink>(
     alloc: Global,
     reader: &mut R,
     writer: &mut W,
-) -> Result<bool, RunFault>
+) -> Result<Checked, RunFault>
     requires reads { R.failures reader.old < 2 ^ 64 - 1 }
     requires writes { W.failures writer.old < 2 ^ 64 - 1 }
 
     // What is answered and written is this function of what was read.
-    ensures verdict { IfOk result (λ lawful. (v : Verdict) × IfSome (R.remaining reader.old) (λ input. verdict_of input ≡ Ok v) × (lawful ≡ is_lawful v) × Appends (W.contents writer.old) (W.contents writer.new) (verdict_line v)) }
+    ensures verdict { IfOk result (λ checked. (v : Verdict) × IfSome (R.remaining reader.old) (λ input. verdict_of input ≡ Ok v) × (checked.lawful ≡ is_lawful v) × Appends (W.contents writer.old) (W.contents writer.new) (verdict_line v)) }
+    ensures quiet { IfOk result (λ checked. checked.lawful ≡ true → checked.reason.items ≡ []) }
     ensures end { OnOk result (IsAtEnd (R.remaining reader.new)) }
     ensures input { (f : ScriptFault) → result ≡ Err (RunFault.Input f) → IfSome (R.remaining reader.old) (λ input. verdict_of input ≡ Err f) }
 
@@ -97,13 +133,13 @@ pub fn check_journal<R: Source, W: Sink>(
     ensures nothing { result ≢ Err RunFault.Write → OnErr result (writer.new ≡ writer.old) }
     ensures beginning { IsErrOf result RunFault.Write → IfSome (R.remaining reader.old) (λ input. WritesBeginningOf verdict_line (verdict_of input) (W.contents writer.old) (W.contents writer.new)) }
 {
-    let lawful = transform(
+    let checked = transform(
         alloc,
         reader,
         writer,
-        |text| -> Result<Made<bool>, RunFault>
+        |text| -> Result<Made<Checked>, RunFault>
             ensures { MakesVerdict text.items result }
-        { check_text(alloc, text) },
+        { check_text(alloc, text.as_slice()) },
     )?;
-    Ok(lawful)
+    Ok(checked)
 }

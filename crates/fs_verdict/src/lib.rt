@@ -1,7 +1,7 @@
 //! The runner that checks a journal, and the faults of all runners.
 //!
-//! `check_journal` reads a journal to its end and writes the verdict on it, in one line; `check_bytes` answers the line for a
-//! journal in memory. The line is made before its first byte is written, and `Read` or `Write` is answered only if the reader
+//! `check_journal` reads a journal to its end and writes the verdict on it, in one line, and answers what is wrong with it in words;
+//! `check_bytes` answers the line for a journal in memory. The line is made before its first byte is written, and `Read` or `Write` is answered only if the reader
 //! or the writer failed during this call. `RunFault` is why a runner ended without its whole text written; its `Full` and
 //! `UnderWay` are for those that run scripts (`fs_sched`).
 //!
@@ -11,10 +11,12 @@
 
 mod checking;
 mod fault;
+mod reason;
 mod sink;
 mod verdict_line;
 
-pub use checking::{check_bytes, check_journal, journal_in};
+pub use checking::{Checked, check_bytes, check_journal, journal_in};
 pub use fault::{RunFault, run_fault};
+pub use reason::{call_of, due_reply};
 pub use sink::write_text;
-pub use verdict_line::{is_lawful, push_verdict};
+pub use verdict_line::{is_lawful, kind_text, push_verdict};

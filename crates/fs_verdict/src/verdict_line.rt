@@ -14,7 +14,8 @@ pub fn is_lawful(verdict: &Verdict) -> bool
     matches!(verdict, Verdict::Lawful)
 }
 
-fn kind_text(kind: FaultKind) -> &'static [u8]
+/// The word of a kind of fault.
+pub fn kind_text(kind: FaultKind) -> &'static [u8]
     ensures { result.now ≡ kind_word kind }
 {
     match kind {

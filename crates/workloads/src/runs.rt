@@ -157,10 +157,10 @@ fn add_run(alloc: Global, script: &[u8], schedule: Schedule, digest: &mut Digest
         bail!("a script that was drawn did not run");
     }
     let mut verdict = Device::new(Vec::new(alloc));
-    let Ok(true) = check_journal(alloc, &mut Device::new(text.inner.as_slice()), &mut verdict)
-    else {
-        bail!("the journal of a run was not lawful");
-    };
+    match check_journal(alloc, &mut Device::new(text.inner.as_slice()), &mut verdict) {
+        Ok(checked) if checked.lawful => {}
+        _ => bail!("the journal of a run was not lawful"),
+    }
     digest.add_bytes(&text.inner);
     digest.add_bytes(&verdict.inner);
     Ok(())

@@ -2,7 +2,7 @@
 use Rattle.std.specs.Prelude.{ℕ, ◌≡◌, Bool, List, ◌++◌, codes}
 use Rattle.std.specs.List.{flat_map}
 use Rattle.fs_trace.specs.Traces.{thread_line, AreLines, heads_shown}
-use Rattle.fs_record.specs.declared.told.Moment.{Moment}
+use Rattle.fs_witness.specs.declared.moments.Moment.{Moment}
 
 -- a text has a line behind it that begins so
 abbrev pub AddsLine : List ℕ → List ℕ → List ℕ → Type 0

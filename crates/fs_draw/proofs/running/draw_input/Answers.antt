@@ -1,8 +1,7 @@
 use Rattle.std.proofs.Common.{◌≡◌, ◌≢◌, ⊎_elim, Err, refl, ap, sym, subst}
 use Rattle.fs_io.specs.declared.failure.Failure.TheVariants as failure
 use Rattle.fs_verdict.specs.declared.fault.RunFault.TheVariants as run
-use Rattle.fs_sched.proofs.Reasons.{known_stop}
-use Rattle.fs_record.proofs.Reasons.{known}
+use Rattle.fs_sched.proofs.Reasons.{known, known_stop}
 use Rattle.fs_draw.specs.Faults.{IsFaultOfPicture}
 use Rattle.fs_draw.specs.Pictures.{IsPictureOf}
 use Rattle.fs_draw.specs.declared.fault.DrawFault.{DrawFault}

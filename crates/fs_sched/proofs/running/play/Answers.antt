@@ -1,12 +1,20 @@
 use Rattle.std.proofs.Common.{[], length, sym, ap, ◌∙◌, subst}
 use Rattle.std.proofs.lemmas.List.{length-map}
 use Rattle.fs_sched.specs.Runs.{Stage, start, RunsFrom, StopsFrom}
+use Rattle.fs_sched.specs.Moments.{TellsFrom}
 use Rattle.fs_sched.specs.code.Stages.{stage_of, IsWhy}
 use Rattle.fs_sched.proofs.Filling.{is_stop}
 use Rattle.fs_sched.proofs.running.play.Goals as goal
 
 pub run-requires : goal.run-requires
 run-requires g c = rw (c.make_room.ensures) (c.in-Ok.ensures.seats c.args.script.now.lists (sym (ap length c.as_slice.ensures) ∙ length-map c.as_slice.result.now (λ calls. calls.items)))
+
+pub returns-in-Ok-run-clause-told : goal.returns-in-Ok-run-clause-told
+returns-in-Ok-run-clause-told g c =
+    let (ms, heard, tells) = rw (c.make_room.ensures) at c.in-Ok-run.ensures.notes in
+    let threads = sym (ap length c.as_slice.ensures) ∙ length-map c.as_slice.result.now (λ calls. calls.items) in
+    let first = c.in-Ok.ensures.start ∙ ap (start c.args.script.now.limits) (sym threads) in
+    (ms, λ first before t. heard first before (c.begins.ensures.told first before t), subst (λ (s : Stage). TellsFrom c.args.schedule c.args.script.now s ms (stage_of c.run.new.self.play)) first tells)
 
 pub returns-in-Ok-run-clause-runs : goal.returns-in-Ok-run-clause-runs
 returns-in-Ok-run-clause-runs g c =

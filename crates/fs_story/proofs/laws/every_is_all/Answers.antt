@@ -1,8 +1,8 @@
 use Rattle.std.proofs.Common.{◌≡◌, ℕ, ◌+◌, true, List, [], ◌∷◌, map, refl, ap}
 use Rattle.fs_story.specs.Shown.{shown_from}
-use Rattle.fs_record.specs.declared.told.Moment.{Moment}
-use Rattle.fs_record.specs.declared.told.Moment.TheVariants.{Event, Checkpoint}
-use Rattle.fs_record.specs.declared.told.Told.{Told}
+use Rattle.fs_witness.specs.declared.moments.Moment.{Moment}
+use Rattle.fs_witness.specs.declared.moments.Moment.TheVariants.{Event, Checkpoint}
+use Rattle.fs_witness.specs.declared.moments.Told.{Told}
 use Rattle.fs_story.proofs.laws.every_is_all.Goals as goal
 
 all_from : (before : List Told) (number : ℕ) (ms : List Moment) → map (λ m. m.1) (shown_from true before number ms) ≡ ms

@@ -1,9 +1,8 @@
 use Rattle.std.proofs.Common.{◌≡◌, ◌≢◌, Err, refl, ap, subst}
 use Rattle.fs_io.specs.declared.failure.Failure.TheVariants as failure
 use Rattle.fs_verdict.specs.declared.fault.RunFault.TheVariants as run
-use Rattle.fs_sched.proofs.Reasons.{known_stop}
+use Rattle.fs_sched.proofs.Reasons.{known, known_stop}
 use Rattle.fs_sched.proofs.RunLemmas.{known_script, script_short}
-use Rattle.fs_record.proofs.Reasons.{known}
 use Rattle.fs_trace.specs.Faults.{IsFaultOfSchedule}
 use Rattle.fs_trace.specs.Traces.{IsScheduleOf}
 use Rattle.fs_trace.specs.declared.fault.ScheduleFault.{ScheduleFault}

@@ -1,8 +1,14 @@
-use Rattle.fs_trace.proofs.Making.{trace_made}
+use Rattle.fs_trace.proofs.Making.{told_all, trace_made}
 use Rattle.fs_trace.proofs.running.trace_of.Goals as goal
 
-pub returns-in-Ok : goal.returns-in-Ok
-returns-in-Ok c = record {
-  trace = trace_made c.args.schedule c.args.every _ c.args.text.items c.in-Ok.text.items c.in_ok-script.script c.in_ok-script.recording c.as_slice.ensures.value c.in_ok-script.ensures.ok c.in-Ok.ensures;
-  fault = tt;
-}
+pub returns-in-Ok-trace_text : goal.returns-in-Ok-trace_text
+returns-in-Ok-trace_text c =
+    let script = c.in_ok-script.script in
+    let old = c.in-Ok.teller in
+    let new = c.watch.new.witness in
+    let ran = c.in_ok-ran.ran in
+    let watched = c.in_ok-ran.ensures.watches in
+    let has = told_all c.args.every c.args.schedule script old new ran c.in-Ok.ensures watched in record {
+      trace = trace_made c.args.schedule c.args.every _ c.args.text.items c.in-Ok-trace_text.text.items script old new ran c.as_slice.ensures.value c.in_ok-script.ensures.script watched (c.in-Ok-trace_text.ensures c.args.every watched.moments has);
+      fault = tt;
+    }

@@ -3,10 +3,9 @@ use Rattle.fs_io.specs.declared.failure.Failure.TheVariants as failure
 use Rattle.fs_verdict.specs.declared.fault.RunFault.{RunFault}
 use Rattle.fs_verdict.specs.declared.fault.RunFault.TheVariants.{Input, Write, Full, UnderWay}
 use Rattle.fs_verdict.proofs.Between.{of_input, of_full, of_under_way, of_write}
-use Rattle.fs_sched.proofs.Reasons.{known_stop}
+use Rattle.fs_sched.proofs.Reasons.{known, known_stop}
 use Rattle.fs_sched.proofs.RunLemmas.{known_script, script_short}
 use Rattle.fs_sched.specs.Runs.{IsFaultOfRun}
-use Rattle.fs_record.proofs.Reasons.{known}
 use Rattle.fs_trace.specs.Traces.{IsTraceOf}
 use Rattle.fs_trace.proofs.running.trace_script.Goals as goal
 

@@ -1,8 +1,12 @@
-use Rattle.std.proofs.Common.{length, refl, sym, subst}
+use Rattle.std.proofs.Common.{List, length, refl, sym, subst}
 use Rattle.std.specs.Prelude.{OnOk, IfErr}
 use Rattle.std.proofs.lemmas.Result.{on_ok_weaker}
 use Rattle.fs_sched.specs.Runs.{Words, StopsInWords}
 use Rattle.fs_sched.specs.Schedules.{words_by, drawn_seats}
+use Rattle.fs_script.specs.declared.script.Word.{Word}
+use Rattle.fs_sched.specs.Gives.{words_before}
+use Rattle.fs_sched.specs.code.Notes.{NotesCut}
+use Rattle.fs_sched.proofs.Telling.{singles_stay}
 use Rattle.fs_sched.specs.code.Done.{HasDone}
 use Rattle.fs_sched.specs.code.Stages.{stage_of, IsWhy}
 use Rattle.fs_sched.specs.declared.schedule.Schedule.{Schedule}
@@ -11,6 +15,13 @@ use Rattle.fs_sched.specs.declared.schedule.TheConstants.{DRAW_LIMIT}
 use Rattle.fs_sched.proofs.Done.{none_told, result_why}
 use Rattle.fs_sched.proofs.Drawn.{drawn_words, drawn_stops}
 use Rattle.fs_sched.proofs.pieces.Pieces.before.Goals as goal
+
+pub returns-in-Seeded-clause-notes : goal.returns-in-Seeded-clause-notes
+returns-in-Seeded-clause-notes g c =
+    let lists = c.args.script.now.lists in
+    let old = stage_of c.args.self.now.play in
+    subst (λ (s : Schedule). OnOk c.drawn.result (NotesCut g.W.Witness.Told lists old c.args.witness.now (words_before s c.args.script.now.words (length lists)) (stage_of c.drawn.new.self) c.drawn.new.witness)) (sym c.in-Seeded.is)
+    (subst (λ (ws : List Word). OnOk c.drawn.result (NotesCut g.W.Witness.Told lists old c.args.witness.now ws (stage_of c.drawn.new.self) c.drawn.new.witness)) (sym (singles_stay (drawn_seats c.in-Seeded.seed (length lists) DRAW_LIMIT))) c.drawn.ensures.notes)
 
 pub returns-in-Seeded-clause-done : goal.returns-in-Seeded-clause-done
 returns-in-Seeded-clause-done g c =

@@ -1,16 +1,18 @@
 use Rattle.std.proofs.Common.{sym, subst}
+use Rattle.std.specs.Prelude.{OnOk, IfErr}
 use Rattle.fs_script.specs.declared.script.Word.{Word}
+use Rattle.fs_sched.specs.Gives.{single_words}
 use Rattle.fs_sched.specs.Runs.{Does, StopsAt}
-use Rattle.fs_sched.specs.code.Counts.{AreCounts}
+use Rattle.fs_sched.specs.code.Done.{HasDone}
+use Rattle.fs_sched.specs.code.Notes.{Notes}
 use Rattle.fs_sched.specs.code.Stages.{stage_of, IsWhy}
 use Rattle.fs_sched.proofs.pieces.Pieces.word.Goals as goal
 
-pub returns-in-Ok-clause-done : goal.returns-in-Ok-clause-done
-returns-in-Ok-clause-done c = record {
-  told = c.in-Ok.entries.items;
-  came = subst (λ (w : Word). Does c.args.lists.now (stage_of c.args.self.now.play) w c.in-Ok.entries.items (stage_of c.begin_again.new.self)) (sym c.in-Checkpoint.is) (c.in-Ok.ensures.does c.args.lists.now);
-  counted = λ before counted. c.plus-self.ensures before c.in-Ok.entries.items counted (subst (AreCounts c.counts_of.result) c.deref.ensures.value c.counts_of.ensures.exact);
-}
+pub returns-in-Checkpoint-clause-notes : goal.returns-in-Checkpoint-clause-notes
+returns-in-Checkpoint-clause-notes g c = subst (λ (w : Word). OnOk c.checkpoint.result (Notes g.W.Witness.Told c.args.lists.now (stage_of c.args.self.now.play) c.args.witness.now (single_words w) (stage_of c.checkpoint.new.self.play) c.checkpoint.new.witness)) (sym c.in-Checkpoint.is) (c.checkpoint.ensures.notes c.args.lists.now)
 
-pub returns-in-Err-clause-why : goal.returns-in-Err-clause-why
-returns-in-Err-clause-why c = subst (λ (w : Word). IsWhy (StopsAt c.args.lists.now (stage_of c.args.self.now.play) w) c.in-Err.fault) (sym c.in-Checkpoint.is) (c.in-Err.ensures.why c.args.lists.now)
+pub returns-in-Checkpoint-clause-done : goal.returns-in-Checkpoint-clause-done
+returns-in-Checkpoint-clause-done g c = subst (λ (w : Word). OnOk c.checkpoint.result (HasDone (Does c.args.lists.now (stage_of c.args.self.now.play) w) c.args.self.now c.checkpoint.new.self)) (sym c.in-Checkpoint.is) (c.checkpoint.ensures.done c.args.lists.now)
+
+pub returns-in-Checkpoint-clause-why : goal.returns-in-Checkpoint-clause-why
+returns-in-Checkpoint-clause-why g c = subst (λ (w : Word). IfErr c.checkpoint.result (IsWhy (StopsAt c.args.lists.now (stage_of c.args.self.now.play) w))) (sym c.in-Checkpoint.is) (c.checkpoint.ensures.why c.args.lists.now)

@@ -1,6 +1,8 @@
 use Rattle.std.proofs.Common.{take}
 use Rattle.fs_sched.specs.Runs.{Words}
+use Rattle.fs_sched.specs.Gives.{given_words}
 use Rattle.fs_sched.specs.code.Done.{HasDone}
+use Rattle.fs_sched.specs.code.Notes.{Notes}
 use Rattle.fs_sched.specs.code.Stages.{stage_of, IsMarked}
 use Rattle.fs_sched.proofs.pieces.Pieces.words.Given as goal
 
@@ -8,5 +10,6 @@ use Rattle.fs_sched.proofs.pieces.Pieces.words.Given as goal
 abbrev pub invariant-loop-word : goal.invariant-loop-word
 invariant-loop-word g l = record {
   seats : IsMarked l.lists l.self.play;
+  notes : Notes g.W.Witness.Told l.lists (stage_of l.fn.self.play) l.fn.witness (given_words (take l.word-index l.words)) (stage_of l.self.play) l.witness;
   done : HasDone (Words l.lists (stage_of l.fn.self.play) (take l.word-index l.words)) l.fn.self l.self;
 }

@@ -1,6 +1,6 @@
 use Rattle.fs_sched.specs.code.Stages.{stage_of, IsMarked, AreOver}
 use Rattle.fs_sched.proofs.Rounds.{left_over}
-use Rattle.fs_sched.proofs.Staging.{LeadsToEnd}
+use Rattle.fs_sched.proofs.Noting.{NotesToEndOf}
 use Rattle.fs_sched.proofs.Stopping.{LeadsToStopInRounds}
 use Rattle.fs_sched.proofs.play.Play.last_alone.Given as goal
 
@@ -10,7 +10,7 @@ invariant-rounds g l = record {
   over : AreOver l.lists (stage_of l.self) l.last;
   seats : IsMarked l.lists l.self;
   stop : LeadsToStopInRounds l.lists (stage_of l.fn.self) (stage_of l.self);
-  lead : LeadsToEnd l.lists (stage_of l.fn.self) (stage_of l.self);
+  notes : NotesToEndOf g.W.Witness.Told l.lists (stage_of l.fn.self) l.fn.witness (stage_of l.self) l.witness;
 }
 
 -- what is left to do

@@ -1,3 +1,0 @@
-mod Noting
-pub mod Reasons
-mod Telling
