@@ -26,7 +26,7 @@ KEPT = ROOT / "dist" / "unproved"
 MOST_KEPT = 3
 # The program stops at a fault of memory or of arithmetic, and is started anew for the requests behind that one: at most so often in all.
 MOST_STARTS = 3
-MOST_SECONDS = 300
+MOST_SECONDS = 1_200
 # Longer inputs would take most of these seconds, since the unproved program looks for such faults at each access.
 MOST_BYTES = 2**16
 # Standard input is a line with the path of the file for the answers, and then the requests. A request is a line with the number of bytes of its input
