@@ -1,6 +1,7 @@
 //! Readers that wait for nobody.
 
-ghost use Rattle.std.specs.Prelude.{◌≡◌, ◌∷◌, [], length, IfOk, OnErr, IsTrue};
+ghost use Rattle.std.specs.Prelude.{◌≡◌, ◌∷◌, [], true, length, IfOk, OnErr, IsTrue};
+ghost use mathlib.Core.List.{IsPrefix};
 ghost use Rattle.fs_calls.specs.Outcomes.{next_start, reply_at};
 ghost use Rattle.fs_seq.specs.Looks.{is_look};
 ghost use Rattle.left_right.specs.Sides.{view};
@@ -49,6 +50,28 @@ impl<N: Named> Stamp<N> {
         ensures { self.now.start ≡ start_of front.now }
     {
         let _both = self.front.longer(front);
+    }
+
+    /// Whether the stamp's list is a beginning of that of another beginning of the history: it is where it is no longer.
+    pub(crate) fn begins(&self, front: &Front<N>) -> bool
+        ensures { result ≡ true → IsPrefix self.now.list (calls_of front.now) }
+    {
+        let _both = front.longer(&self.front);
+        self.front.len() <= front.len()
+    }
+
+    /// The same again.
+    pub fn again(&self) -> Stamp<N>
+        ensures { result ≡ self.now }
+    {
+        Stamp::new(self.front.again())
+    }
+
+    /// The lists of all stamps of one tree start at one tree.
+    pub fn same_start(&self, other: &Stamp<N>)
+        ensures { self.now.start ≡ other.now.start }
+    {
+        self.agrees(&other.front);
     }
 }
 
@@ -215,6 +238,13 @@ impl<'a, N: Named> Observer<'a, N> {
             *kept = front;
         }
         self.kept.len()
+    }
+
+    /// A stamp of the list that it keeps: whoever learns it sees no less than this observer did. It takes no memory.
+    pub fn stamp(&self) -> Stamp<N>
+        ensures { result ≡ self.now }
+    {
+        Stamp::new(self.kept.again())
     }
 
     /// From now on each list begins with the stamp's list too. It takes no memory.

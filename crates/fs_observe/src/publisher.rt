@@ -1,6 +1,6 @@
 //! The writer of what observers see.
 
-ghost use Rattle.std.specs.Prelude.{◌≡◌, ◌+◌, ◌<◌, ◌≤◌, ◌^◌, ◌++◌, ◌∷◌, [], drop, fold, length, Some, None, IfOk, IfSome, OnOk, OnErr, MatchResult};
+ghost use Rattle.std.specs.Prelude.{◌≡◌, true, ◌+◌, ◌<◌, ◌≤◌, ◌^◌, ◌++◌, ◌∷◌, [], drop, fold, length, Some, None, IfOk, IfSome, OnOk, OnErr, MatchResult};
 ghost use mathlib.Core.List.{IsPrefix};
 ghost use Rattle.left_right.specs.Sides.{view};
 ghost use Rattle.fs_observe.specs.Observed.{Knows};
@@ -218,6 +218,13 @@ impl<N: Named> Publisher<N> {
         ensures { stamp.now.start ≡ self.now.start }
     {
         stamp.agrees(&self.start);
+    }
+
+    /// Whether a stamp's list is a beginning of the calls that it has taken in. Each of this tree's is.
+    pub fn begins_with(&self, stamp: &Stamp<N>) -> bool
+        ensures { result ≡ true → IsPrefix stamp.now.list self.now.taken }
+    {
+        stamp.begins(&self.front)
     }
 
     /// How many calls it has taken in.

@@ -1,6 +1,6 @@
 //! What the core's lock keeps of the tree: the core, and the publisher of what observers see.
 
-ghost use Rattle.std.specs.Prelude.{◌≡◌, ◌+◌, ◌<◌, ◌++◌, ◌∷◌, [], None, Some, IfOk, IfSome, IfNone, OnOk, OnErr, length, slice_get};
+ghost use Rattle.std.specs.Prelude.{◌≡◌, true, ◌+◌, ◌<◌, ◌++◌, ◌∷◌, [], None, Some, IfOk, IfSome, IfNone, OnOk, OnErr, length, slice_get};
 ghost use mathlib.Core.List.{IsPrefix};
 ghost use Rattle.fs_calls.specs.Starts.{root_start};
 ghost use Rattle.fs_timeline.specs.Timeline.{commits};
@@ -218,6 +218,13 @@ impl<N: Named> Board<N> {
         ensures { stamp.now.start ≡ self.now.core.start }
     {
         self.publisher.agrees(stamp);
+    }
+
+    /// Whether a stamp's list is a beginning of the commits. Each of this tree's is.
+    pub(crate) fn begins_with(&self, stamp: &Stamp<N>) -> bool
+        ensures { result ≡ true → IsPrefix stamp.now.list (commits self.now.core.timeline) }
+    {
+        self.publisher.begins_with(stamp)
     }
 
     /// The timeline begins again, and observers are shown it by another publisher. The entries so far are handed out.

@@ -112,13 +112,9 @@ impl<N: Named> Desk<N> {
         ensures seats { OnOk result (self.new.board.core.seats ≡ self.old.board.core.seats ++ None ∷ []) }
         ensures sleepers { self.new.sleepers ≡ self.old.sleepers }
     {
-        let Desk {
-            board,
-            rest,
-            before,
-            ..
-        } = self;
-        if board.core().seats() - *before >= MOST_SEATS {
+        let before = self.before;
+        let Desk { board, rest, .. } = self;
+        if board.core().seats() - before >= MOST_SEATS {
             return Err(AllocError);
         }
         let seat = board.seat()?;
@@ -223,6 +219,7 @@ impl<N: Named> Desk<N> {
     /// tree, by their type.
     pub fn close<R: Wait>(self, rt: &R, whole: Whole<N>, tallies: Vec<Tally<N>>) -> Closed
         ensures start { result.start ≡ self.board.core.start }
+        ensures timeline { result.timeline.entries ≡ self.board.core.timeline }
         ensures sessions { result.sessions + self.before ≡ length self.board.core.seats }
         ensures counted { sum_by (λ tally. tally.count) tallies.items ≤ returns result.timeline.entries }
         ensures bound { vec_len tallies ≤ result.sessions }

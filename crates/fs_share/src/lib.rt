@@ -1,17 +1,15 @@
 //! A tree that threads share: one lock round the core, taken for one event at a time.
 //!
 //! A session has a seat of its own, and a call of it is one begin and steps, each under the lock. So whoever gets the lock
-//! finds a state of a run: the core's type keeps it. `AtomFs::close` hands out a lawful timeline, and a store that spells
-//! the tree that its commits play where every call has returned; where each session handed in its tally, the timeline has
-//! as many returns as these add up to. `AtomFs::checkpoint` hands the entries so far out, and the tree goes on under
-//! another name from where they lead. Contracts see the tree at which the timeline starts: the root alone where the tree
-//! was opened, and what the entries play behind a checkpoint. `run_lists` plays each list by a worker of its own. A tree
-//! keeps the limits of the second version, and one of `AtomFs::open_with` and `run_lists_with` those that are given.
-//! `Session::call_told` also publishes what has committed, and answers a stamp: observers that learn it, from
-//! `AtomFs::observer`, show the call, and wait for nobody. Enter at `with_tree`, which opens a tree, does what an `Inside`
-//! says on it, and ends it; or at `AtomFs::open`, whose caller names the tree. What is counted is defined in
-//! `specs/Returns.antt`, what a told call is told of in `specs/Boards.antt`. Of running threads no progress, fairness or
-//! end is claimed.
+//! finds a state of a run: the core's type keeps it. Contracts see the tree at which the timeline starts. `AtomFs::close`
+//! hands out a timeline that is lawful from there, with as many returns as the tallies of all sessions add up to, and a store
+//! that spells the tree that its commits play where every call has returned; `checkpoint` hands out the entries so far, and
+//! the tree goes on from where they lead. `Session::call_told` also publishes what has committed, and answers a stamp: the
+//! tree's observers show it once they learn it, and wait for nobody. A session that waits for a node sleeps, as `fs_wait` says.
+//!
+//! Enter at `with_tree`, which opens a tree, does what an `Inside` says on it, and ends it; at `run_lists`, which plays each
+//! list by a worker; or at `AtomFs::open`, whose caller names the tree. What is counted is defined in `specs/Returns.antt`,
+//! what a told call is told of in `specs/Boards.antt`. Of running threads no progress, fairness or end is claimed.
 #![tactic(auto)]
 
 mod board;

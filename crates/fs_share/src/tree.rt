@@ -1,6 +1,6 @@
 //! A tree that sessions share, and its end.
 
-ghost use Rattle.std.specs.Prelude.{[], ◌≡◌, ◌+◌, ◌<◌, ◌≤◌, ◌^◌, vec_len, sum_by, IfOk, IfErr};
+ghost use Rattle.std.specs.Prelude.{[], true, ◌≡◌, ◌+◌, ◌<◌, ◌≤◌, ◌^◌, vec_len, sum_by, IfOk, IfErr};
 ghost use Rattle.fs_nodes.specs.Graphs.{graph_shapes};
 ghost use Rattle.fs_nodes.specs.Stores.{graph_of};
 ghost use Rattle.fs_calls.specs.Outcomes.{play, next_start};
@@ -9,6 +9,7 @@ ghost use Rattle.fs_calls.specs.Tree.{IsTree};
 ghost use Rattle.fs_calls.specs.Sights.{tree_shapes};
 ghost use Rattle.fs_timeline.specs.Timeline.{IsLawful, commits};
 ghost use Rattle.fs_share.specs.Returns.{answered, returns, AllReturned};
+ghost use mathlib.Core.List.{IsPrefix};
 
 use crate::checkpoint::{NotKept, make_ready};
 use crate::desk::Desk;
@@ -50,8 +51,8 @@ impl<N: Named> Model for AtomFs<N> {
     ghost view = { λ fs. record { start = fs.first.start; earlier = fs.earlier } };
 }
 
-/// What is left of a tree: the tree at which its timeline starts, its timeline, its nodes, and how many sessions it had
-/// since its timeline began.
+/// What is left of a tree: the tree at which its timeline starts, its timeline, its nodes, and how many sessions it had since
+/// its timeline began. No clause of `close` says that number, since the lock hides it, but that no fewer than the tallies were.
 #[derive(Drop)]
 pub struct Closed {
     pub start: SeqTree,
@@ -61,10 +62,9 @@ pub struct Closed {
 }
 
 impl<N: Named> AtomFs<N> {
-    /// A tree with the root alone, of these limits, under the name of this blank and this history: no entry, no session,
-    /// nothing published. No clause can name what a lock keeps, so that stands at what this is made of (`Desk::open`), but for
-    /// the tree at which the timeline starts. The only error is out of memory. Most callers want `with_tree`, which asks for
-    /// nothing.
+    /// A tree with the root alone, of these limits, under the name of this blank and this history. That it has no entry and no
+    /// session, and nothing published, stands at what this is made of (`Desk::open`), since no clause can name what a lock
+    /// keeps. The only error is out of memory. Most callers want `with_tree`, which asks for nothing.
     pub fn open_with<R: Wait>(
         rt: &R,
         alloc: Global,
@@ -127,8 +127,7 @@ impl<N: Named> AtomFs<N> {
         })
     }
 
-    /// An observer that was told nothing yet. The error is that none of the 64 reader places is free, or that there is no
-    /// memory.
+    /// An observer that was told nothing yet. The error: none of the 64 reader places is free, or there is no memory.
     pub fn observer<R: Wait>(&self, rt: &R) -> Result<Observer<'_, N>, NoPlace>
         ensures list { IfOk result (λ observer. observer.list ≡ []) }
         ensures start { IfOk result (λ observer. observer.start ≡ self.now.start) }
@@ -141,25 +140,15 @@ impl<N: Named> AtomFs<N> {
         observer
     }
 
-    /// The lock, once no call holds a node.
-    ///
-    /// No wake-up is lost: under one hold of the lock a session finds the node held, is noted, and sleeps. Each `LetGo` comes
-    /// under the lock, and wakes one of those who are noted for its node. Whoever is woken makes its step under the lock where
-    /// it finds the node free, and wakes the next if it did not take it; where the node is held again, it is noted anew.
+    /// The lock, once no call holds a node. No wake-up is lost: under one hold of the lock a session finds the node held, is
+    /// noted, and sleeps. Each `LetGo` comes under the lock, and wakes one of those noted for its node. Whoever is woken makes
+    /// its step under the lock where it finds the node free, and wakes the next if it did not take it.
     #[inline(never)]
     fn take_free<R: Wait>(&self, rt: &R, node: NodeNo) -> MutexGuard<'_, Desk<N>> {
         let desk = self.desk.take(rt);
         self.queues
             .of(node)
             .wait_while(rt, desk, |desk| desk.sleeps_for(node))
-    }
-
-    /// Wakes whom a node wakes, under the lock: a session that stops behind it would keep those from waking that sleep for a
-    /// free node.
-    #[inline(always)]
-    fn wake(&self, desk: &mut Desk<N>, node: NodeNo) {
-        let wake = desk.wakes(node);
-        self.queues.wake(node, wake);
     }
 
     /// One step of a seat's call under the lock, once no call holds the node that is wanted.
@@ -181,11 +170,12 @@ impl<N: Named> AtomFs<N> {
             Some(node) => self.take_free(rt, node),
         };
         let stepped = desk.step(seat, mine);
+        // Before the lock is let go: a session that stops behind it would keep those asleep that can go on.
         if let Some(node) = wanted {
-            self.wake(&mut *desk, node);
+            self.queues.wake(node, desk.wakes(node));
         }
         if let Stepped::LetGo(node) = stepped {
-            self.wake(&mut *desk, node);
+            self.queues.wake(node, desk.wakes(node));
         }
         MutexGuard::unlock(desk);
         stepped
@@ -212,8 +202,7 @@ impl<N: Named> AtomFs<N> {
 
     /// The timeline begins again at the tree that it has come to, under another name, and its entries so far are handed
     /// out. Call numbers begin at 1 again; nodes and seats stay. The error hands back what came in, and nothing has
-    /// changed: `UnderWay` comes exactly where a call is under way, and is looked for before memory is. Whoever joins the
-    /// entries of one checkpoint with those of the next calls `checkpoint_told`.
+    /// changed: `UnderWay` comes exactly where a call is under way, and is looked for before memory is.
     pub fn checkpoint<M: Named, R: Wait>(
         self,
         rt: &R,
@@ -227,25 +216,21 @@ impl<N: Named> AtomFs<N> {
         requires parts { blank.parts ≡ M.parts }
         requires all { blank.parts ≡ 2 ^ 63 }
 
-        // There is a tree from which the entries are lawful, the one at which each stamp's list started.
+        // The entries are lawful from the tree at which the timeline starts, and the new tree starts at what they play.
         ensures lawful { IfOk result (λ kept. (start : Start) × IsTree (start_tree start) × IsLawful start kept.1.items) }
-
-        // That tree is the one at which the timeline starts, and the new tree starts at what the entries play on it.
         ensures from { IfOk result (λ kept. IsTree (start_tree self.start) × IsLawful self.start kept.1.items) }
         ensures start { IfOk result (λ kept. kept.0.start ≡ next_start self.start (commits kept.1.items)) }
-        ensures counted { IfOk result (λ kept. sum_by (λ tally. tally.count) tallies.items ≤ returns kept.1.items) }
 
-        // Exactly as many where each session handed in its own: the new tree knows how many there were.
+        // At least as many calls returned as the tallies add up to, and exactly as many where each session handed in its own.
+        ensures counted { IfOk result (λ kept. sum_by (λ tally. tally.count) tallies.items ≤ returns kept.1.items) }
         ensures bound { IfOk result (λ kept. vec_len tallies ≤ kept.0.earlier) }
         ensures returns { IfOk result (λ kept. vec_len tallies ≡ kept.0.earlier → returns kept.1.items ≡ sum_by (λ tally. tally.count) tallies.items) }
         ensures back { IfErr result (λ left. (left.tallies ≡ tallies) × (left.blank ≡ blank)) }
         ensures same { IfErr result (λ left. left.fs ≡ self) }
     {
-        let told = self.first(rt);
-        match self.checkpoint_told(rt, alloc, tallies, &told, opened, blank) {
-            Ok((fs, entries, _)) => Ok((fs, entries)),
-            Err(left) => Err(left),
-        }
+        let told = self.first.again();
+        let (fs, entries, _next) = self.checkpoint_told(rt, alloc, tallies, &told, opened, blank)?;
+        Ok((fs, entries))
     }
 
     /// The same as `checkpoint`, with a stamp of this tree handed in, and one of the new tree's list of no calls handed
@@ -270,10 +255,8 @@ impl<N: Named> AtomFs<N> {
         ensures new { IfOk result (λ kept. kept.0.start ≡ next_start told.now.start (commits kept.1.items)) }
         ensures from { told.now.start ≡ self.start }
 
-        // At least as many calls returned as the tallies add up to.
+        // At least as many calls returned as the tallies add up to, and exactly as many where each session handed in its own.
         ensures counted { IfOk result (λ kept. sum_by (λ tally. tally.count) tallies.items ≤ returns kept.1.items) }
-
-        // Exactly as many where each session handed in its own: the new tree knows how many there were.
         ensures bound { IfOk result (λ kept. vec_len tallies ≤ kept.0.earlier) }
         ensures returns { IfOk result (λ kept. vec_len tallies ≡ kept.0.earlier → returns kept.1.items ≡ sum_by (λ tally. tally.count) tallies.items) }
         ensures back { IfErr result (λ left. (left.tallies ≡ tallies) × (left.blank ≡ blank)) }
@@ -310,6 +293,13 @@ impl<N: Named> AtomFs<N> {
         }
     }
 
+    /// Each stamp of this tree starts at the tree at which its timeline does.
+    pub fn agrees(&self, stamp: &Stamp<N>)
+        ensures { stamp.now.start ≡ self.now.start }
+    {
+        self.first.same_start(stamp);
+    }
+
     /// Ends the tree. It takes no memory. `sessions` counts every session that was made since the timeline began, a pool's
     /// too. A caller need not have kept the tallies: an empty list is allowed, and then nothing is said of how many calls
     /// returned. What is still lent, sessions and observers, has ended by then, as their types say.
@@ -323,6 +313,28 @@ impl<N: Named> AtomFs<N> {
         ensures bound { vec_len tallies ≤ result.sessions }
         ensures returns { vec_len tallies ≡ result.sessions → returns result.timeline.entries ≡ sum_by (λ tally. tally.count) tallies.items }
     {
+        let told = self.first.again();
+        let (closed, _is_listed) = self.close_told(rt, tallies, &told);
+        closed
+    }
+
+    /// The same, with a stamp of this tree handed in: what it tells, as that of a told call or of an observer does, is a
+    /// beginning of the calls that committed, where the answer is true. It is true of each stamp of this tree.
+    pub fn close_told<R: Wait>(
+        self,
+        rt: &R,
+        tallies: Vec<Tally<N>>,
+        told: &Stamp<N>,
+    ) -> (Closed, bool)
+        ensures listed { result.1 ≡ true → IsPrefix told.now.list (commits result.0.timeline.entries) }
+        ensures from { told.now.start ≡ self.start }
+        ensures start { result.0.start ≡ self.start }
+        ensures lawful { IsLawful result.0.start result.0.timeline.entries }
+        ensures spelled { AllReturned result.0.timeline.entries → graph_shapes (graph_of result.0.store) ≡ tree_shapes (play result.0.start (commits result.0.timeline.entries)) }
+        ensures counted { sum_by (λ tally. tally.count) tallies.items ≤ returns result.0.timeline.entries }
+        ensures bound { vec_len tallies ≤ result.0.sessions }
+        ensures returns { vec_len tallies ≡ result.0.sessions → returns result.0.timeline.entries ≡ sum_by (λ tally. tally.count) tallies.items }
+    {
         let AtomFs {
             desk,
             queues: _queues,
@@ -331,7 +343,9 @@ impl<N: Named> AtomFs<N> {
             earlier: _earlier,
         } = self;
         let desk = desk.into_inner();
+        desk.board.agrees(told);
         desk.board.agrees(&first);
-        desk.close(rt, whole, tallies)
+        let is_listed = desk.board.begins_with(told);
+        (desk.close(rt, whole, tallies), is_listed)
     }
 }
