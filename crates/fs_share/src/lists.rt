@@ -98,14 +98,13 @@ fn start_all<'s, E, N: Named + Send + Sync, R: Wait + Clock + Sync, G: Gate + Sy
     lists: &'s [Vec<Call>],
     gate: &'s G,
 ) -> Result<Vec<Worker<N>>, ListsFault>
-    ensures { IfOk result (λ workers. sum_by (λ worker. worker.promise.0) workers.items ≡ sum_by vec_len lists.now) }
+    ensures count { IfOk result (λ workers. vec_len workers ≡ length lists.now) }
+    ensures calls { IfOk result (λ workers. sum_by (λ worker. worker.promise.0) workers.items ≡ sum_by vec_len lists.now) }
 {
     let mut workers = Vec::new(alloc);
     for list in lists {
         let worker = start(rt, alloc, scope, fs, list.as_slice(), gate)?;
-        if workers.push(worker).is_err() {
-            return Err(out_of_memory());
-        }
+        workers.push(worker).map_err(|_| out_of_memory())?;
     }
     Ok(workers)
 }
@@ -114,10 +113,7 @@ fn start_all<'s, E, N: Named + Send + Sync, R: Wait + Clock + Sync, G: Gate + Sy
 fn join<N: Named, R: Threads>(rt: &R, worker: Worker<N>) -> Result<Tally<N>, ListsFault>
     ensures { IfOk result (λ tally. tally.count ≡ worker.promise.0) }
 {
-    match worker.join(rt) {
-        Ok(tally) => Ok(tally),
-        Err(refusal) => Err(ListsFault::Refused(refusal)),
-    }
+    worker.join(rt).map_err(ListsFault::Refused)
 }
 
 /// Waits for each worker.
@@ -126,14 +122,13 @@ fn join_all<N: Named, R: Threads>(
     alloc: Global,
     workers: Vec<Worker<N>>,
 ) -> Result<Vec<Tally<N>>, ListsFault>
-    ensures { IfOk result (λ tallies. sum_by (λ tally. tally.count) tallies.items ≡ sum_by (λ worker. worker.promise.0) workers.items) }
+    ensures count { IfOk result (λ tallies. vec_len tallies ≡ vec_len workers) }
+    ensures calls { IfOk result (λ tallies. sum_by (λ tally. tally.count) tallies.items ≡ sum_by (λ worker. worker.promise.0) workers.items) }
 {
     let mut tallies = Vec::new(alloc);
     for worker in workers {
         let tally = join(rt, worker)?;
-        if tallies.push(tally).is_err() {
-            return Err(out_of_memory());
-        }
+        tallies.push(tally).map_err(|_| out_of_memory())?;
     }
     Ok(tallies)
 }
@@ -146,13 +141,15 @@ fn play_lists<N: Named + Send + Sync, R: Threads + Wait + Clock + Sync, G: Gate 
     lists: &[Vec<Call>],
     gate: &G,
 ) -> Result<Vec<Tally<N>>, ListsFault>
-    ensures { IfOk result (λ tallies. sum_by (λ tally. tally.count) tallies.items ≡ sum_by vec_len lists.now) }
+    ensures count { IfOk result (λ tallies. vec_len tallies ≡ length lists.now) }
+    ensures calls { IfOk result (λ tallies. sum_by (λ tally. tally.count) tallies.items ≡ sum_by vec_len lists.now) }
 {
     thread::scope(
         thread::scope_env(),
         rt,
         |scope| -> Result<Vec<Tally<N>>, ListsFault>
-            ensures { IfOk result (λ tallies. sum_by (λ tally. tally.count) tallies.items ≡ sum_by vec_len lists.entry.now) }
+            ensures count { IfOk result (λ tallies. vec_len tallies ≡ length lists.entry.now) }
+            ensures calls { IfOk result (λ tallies. sum_by (λ tally. tally.count) tallies.items ≡ sum_by vec_len lists.entry.now) }
         {
             let workers = start_all(rt, alloc, scope, fs, lists, gate)?;
             join_all(rt, alloc, workers)
@@ -177,6 +174,7 @@ fn run_named<N: Named + Send + Sync, R: Threads + Wait + Clock + Sync, G: Gate +
     ensures start { IfOk result (λ closed. closed.start ≡ root_start limits) }
     ensures lawful { IfOk result (λ closed. IsLawful closed.start closed.timeline.entries) }
     ensures spelled { IfOk result (λ closed. AllReturned closed.timeline.entries → graph_shapes (graph_of closed.store) ≡ tree_shapes (play closed.start (commits closed.timeline.entries))) }
+    ensures sessions { IfOk result (λ closed. closed.sessions ≡ length lists.now) }
     ensures returns { IfOk result (λ closed. returns closed.timeline.entries ≡ sum_by vec_len lists.now) }
 {
     let fs = AtomFs::<N>::open_with(rt, alloc, opened, blank, limits).map_err(|_| out_of_memory())?;
@@ -209,6 +207,7 @@ pub fn run_lists_with<R: Threads + Wait + Clock + Sync, G: Gate + Sync>(
     ensures start { IfOk result (λ closed. closed.start ≡ root_start limits) }
     ensures lawful { IfOk result (λ closed. IsLawful closed.start closed.timeline.entries) }
     ensures spelled { IfOk result (λ closed. AllReturned closed.timeline.entries → graph_shapes (graph_of closed.store) ≡ tree_shapes (play closed.start (commits closed.timeline.entries))) }
+    ensures sessions { IfOk result (λ closed. closed.sessions ≡ length lists.now) }
     ensures returns { IfOk result (λ closed. returns closed.timeline.entries ≡ sum_by vec_len lists.now) }
 {
     run_named::<Brand, R, G>(
@@ -232,6 +231,7 @@ pub fn run_lists<R: Threads + Wait + Clock + Sync, G: Gate + Sync>(
     ensures start { IfOk result (λ closed. closed.start ≡ root_start Limits.V2) }
     ensures lawful { IfOk result (λ closed. IsLawful closed.start closed.timeline.entries) }
     ensures spelled { IfOk result (λ closed. AllReturned closed.timeline.entries → graph_shapes (graph_of closed.store) ≡ tree_shapes (play closed.start (commits closed.timeline.entries))) }
+    ensures sessions { IfOk result (λ closed. closed.sessions ≡ length lists.now) }
     ensures returns { IfOk result (λ closed. returns closed.timeline.entries ≡ sum_by vec_len lists.now) }
 {
     run_lists_with(rt, alloc, lists, gate, Limits::V2)
