@@ -9,6 +9,7 @@ mod answers;
 mod crowds;
 mod drawing;
 mod held;
+mod limits;
 mod long;
 mod parked;
 mod shared;
@@ -91,6 +92,12 @@ fn say_all<R: Print + Threads + Wait + Clock + Sync>(rt: &R, alloc: Global) -> i
     say_faults(rt)?;
     let again = again::are_lawful(rt, alloc);
     say(rt, "a tree begins again, and each piece is lawful", again)?;
+    let kept = limits::are_kept(rt, alloc);
+    say(
+        rt,
+        "a tree starts at the root alone, by the limits that it is given",
+        kept,
+    )?;
     let crowds = crowds::all_end(rt, alloc);
     say(
         rt,
