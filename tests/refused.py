@@ -659,6 +659,20 @@ class Library(Case):
         journals["no path"] = b"atomfs-journal 1\nbegin 1 0 mkdir /a\nbegin 2 1 mkdir /a/./b\n", (Status.BAD_PATH, 3)
         self.texts(self.library.check, journals, {("check", "NO_MEMORY"), ("check", "OK"), ("check", "BAD_PATH")})
 
+    def test_check_path(self):
+        """Paths. One that is none, and has no more names than are read on the stack, asks for no memory; nor does the root."""
+
+        def check_path(path):
+            if (status := self.library.check_path(path)) != Status.OK:
+                raise atomfs.Error(status)
+
+        paths = {"a name": (b"/a", Status.OK), "many names": (40 * b"/a", Status.OK), "a dot": (40 * b"/a" + b"/.", Status.PATH_DOT)}
+        paths |= {"a slash": (40 * b"/a" + b"/", Status.PATH_TRAILING_SLASH)}
+        self.texts(check_path, {name: (path, (status, 0 if status else None)) for name, (path, status) in paths.items()}, {("check_path", "NO_MEMORY")})
+        for path, status in ((b"/", Status.OK), (b"", Status.PATH_NOT_ABSOLUTE), (b"/a/.", Status.PATH_DOT), (7 * b"/a" + b"/", Status.PATH_TRAILING_SLASH)):
+            _, growths = self.growths_of(self.library.check_path, path)
+            self.same(f"what is said of {path}, and the growths that it asks for", (self.library.check_path(path), len(growths)), (status, 0))
+
     def refuse_every(self, tree):
         """From now on every growth is refused."""
         self.heap.refuse(1, EVERY)
