@@ -1,7 +1,7 @@
 """Standard input and standard output that are slow and that fail, each at every byte that they move: status 5, and what is told and written.
 
 tests/devices.c is loaded before the C library (it is compiled by `cc`), so that each read and write moves one byte. Then devices as a system has
-them: output that is full, that is closed and that nobody reads, and input that is a folder and that is closed; a limit of files; and a small stack.
+them: output that is full, that is closed and that nobody reads, and input that is a folder and that is closed; and a limit of files.
 """
 import os
 import resource
@@ -23,9 +23,6 @@ READING = (
 DOT = b"Dot: a name in a path is `.` or `..`\n\nIn a script, for    stat /a/../b\nwrite               stat /b\nbecause             `.` and `..` are no names\n"
 WRITING = (*READING, (("--version",), b"", b"atomfs 0.3.0\n"), (("explain", "Dot"), b"", DOT))
 PRINTING = (*WRITING, (("--help",), b"", (DATA / "help" / "atomfs").read_bytes()))
-# Commands that read a script, and how many bytes of stack each command has enough of.
-SCRIPTED = ("run",), ("seeds", "--seed", "7", "--runs", "3"), ("threads",), ("trace", "--every"), ("draw",), ("draw", "--around", "3"), ("schedule", "--robin")
-STACK = 131_072
 READ_FAILED, WRITE_FAILED = b"atomfs: read failed\n", b"atomfs: write failed\n"
 
 
@@ -114,14 +111,6 @@ class OfTheSystem(Case):
                 self.write_fails(words, given, stdout=file, preexec_fn=limited)
                 file.seek(0)
                 self.same(f"atomfs {' '.join(words)}", file.read(), written[:5])
-
-    def test_a_small_stack(self):
-        """No command takes much of it, whatever the tree."""
-        deep = b"atomfs 1\nthread t\n" + b"".join(b"mkdir %s\n" % (b"/n" * depth) for depth in range(1, 65)) + b"schedule\nfinish\n"
-        limited = lambda: resource.setrlimit(resource.RLIMIT_STACK, (STACK, resource.getrlimit(resource.RLIMIT_STACK)[1]))
-        rows = [*PRINTING, *((words, deep, b"") for words in SCRIPTED), (("draw",), spawned(("run",), deep).output, b"")]
-        for words, given, _ in rows:
-            self.same(f"atomfs {' '.join(words)}\n{given.decode()}", spawned(words, given, preexec_fn=limited), spawned(words, given))
 
     def test_input_that_is_a_folder(self):
         folder = os.open(ROOT, os.O_RDONLY)
