@@ -2,11 +2,12 @@
 
 ghost use Rattle.std.specs.Prelude.{◌≡◌, length};
 
-use crate::cores::{path, tell, two_seats};
+use crate::cores::{take_seats, tell};
+use crate::words::calls_of;
 use anyhow::{Result, bail, ensure};
 use fs_calls::{Call, Reply};
 use fs_core::{Core, NoCheckpoint};
-use fs_names::{CallNo, Kind, SeatNo};
+use fs_names::{CallNo, Kind, Path, SeatNo};
 use fs_nodes::NodeNo;
 use fs_timeline::Entry;
 use std::alloc::Global;
@@ -41,15 +42,24 @@ fn end(core: &mut Core)
     }
 }
 
+/// The entries so far are handed out: how many there are.
+fn hand_out(alloc: Global, core: &mut Core) -> Option<usize>
+    requires { length core.old.seats ≡ 2 }
+    ensures { length core.new.seats ≡ 2 }
+{
+    match core.checkpoint(alloc) {
+        Ok(entries) => Some(entries.len()),
+        Err(_) => None,
+    }
+}
+
 /// The entries so far are handed out: as many as there were.
 fn begin_again(alloc: Global, core: &mut Core, count: usize) -> Result<()>
     requires { length core.old.seats ≡ 2 }
     ensures { length core.new.seats ≡ 2 }
 {
-    let Ok(entries) = core.checkpoint(alloc) else {
-        bail!("a checkpoint");
-    };
-    ensure!(entries.len() == count, "the entries handed out");
+    let handed = hand_out(alloc, core);
+    ensure!(handed == Some(count), "the entries handed out");
     ensure!(
         core.timeline().is_empty() && core.commits() == 0,
         "no entries"
@@ -59,14 +69,21 @@ fn begin_again(alloc: Global, core: &mut Core, count: usize) -> Result<()>
     Ok(())
 }
 
+/// What a stat of the start tree answers.
+fn seen(alloc: Global, core: &Core, path: Path) -> Option<(Kind, u64)> {
+    let stat = Call::Stat(path);
+    match core.start().look(alloc, &stat) {
+        Ok(Reply::Stat(kind, size)) => Some((kind, size)),
+        _ => None,
+    }
+}
+
 /// The start tree has the directory, with an entry, and the file in it.
 fn look(alloc: Global, core: &Core) -> Result<()> {
-    let dir = Call::Stat(path(alloc, b"/a")?);
-    let seen = core.start().look(alloc, &dir)?;
-    ensure!(matches!(seen, Reply::Stat(Kind::Dir, 1)), "the directory");
-    let file = Call::Stat(path(alloc, b"/a/f")?);
-    let seen = core.start().look(alloc, &file)?;
-    ensure!(matches!(seen, Reply::Stat(Kind::File, 0)), "the file");
+    let dir = seen(alloc, core, Path::parse(alloc, b"/a")?);
+    ensure!(dir == Some((Kind::Dir, 1)), "the directory");
+    let file = seen(alloc, core, Path::parse(alloc, b"/a/f")?);
+    ensure!(file == Some((Kind::File, 0)), "the file");
     Ok(())
 }
 
@@ -86,16 +103,29 @@ fn go_on(alloc: Global, core: &mut Core, call: &Call) -> Result<()>
     Ok(())
 }
 
-/// All of this, with a second checkpoint at once.
+/// All of this, with a second checkpoint at once, by a core that has no seat yet.
+fn compare_on(alloc: Global, core: &mut Core, calls: &[Call]) -> Result<()> {
+    let [mkdir, mknod, unlink] = calls else {
+        bail!("three calls");
+    };
+    take_seats(core)?;
+    refuse(alloc, core, mkdir, mknod)?;
+    end(core);
+    begin_again(alloc, core, 6)?;
+    begin_again(alloc, core, 0)?;
+    look(alloc, core)?;
+    go_on(alloc, core, unlink)?;
+    begin_again(alloc, core, 3)
+}
+
+/// The same by calls.
+fn compare_by(alloc: Global, calls: &[Call]) -> Result<()> {
+    let mut core = Core::new(alloc)?;
+    compare_on(alloc, &mut core, calls)
+}
+
+/// All of this.
 pub fn compare(alloc: Global) -> Result<()> {
-    let mkdir = Call::Mkdir(path(alloc, b"/a")?);
-    let mknod = Call::Mknod(path(alloc, b"/a/f")?);
-    let mut core = two_seats(alloc)?;
-    refuse(alloc, &mut core, &mkdir, &mknod)?;
-    end(&mut core);
-    begin_again(alloc, &mut core, 6)?;
-    begin_again(alloc, &mut core, 0)?;
-    look(alloc, &core)?;
-    go_on(alloc, &mut core, &Call::Unlink(path(alloc, b"/a/f")?))?;
-    begin_again(alloc, &mut core, 3)
+    let calls = calls_of(alloc, &["mkdir /a", "mknod /a/f", "unlink /a/f"])?;
+    compare_by(alloc, &calls)
 }

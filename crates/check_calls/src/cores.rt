@@ -1,9 +1,10 @@
 //! A core with two seats: a call waits for another one, a list of events ends at a begin that is refused, and the core is asked
 //! for its nodes, holders and commits, and taken apart.
 
-ghost use Rattle.std.specs.Prelude.{◌≡◌, IfOk, length};
+ghost use Rattle.std.specs.Prelude.{◌≡◌, OnOk, length};
 
-use anyhow::{Result, ensure};
+use crate::words::calls_of;
+use anyhow::{Result, bail, ensure};
 use fs_calls::Call;
 use fs_core::{Core, Event, Ran, Refusal, Stepped};
 use fs_embed::kind_of;
@@ -21,18 +22,17 @@ const KINDS: [(&[u8], Option<Kind>); 5] = [
     (b"/b", None),
 ];
 
-/// A core with two seats.
-pub fn two_seats(alloc: Global) -> Result<Core>
-    ensures { IfOk result (λ core. length core.seats ≡ 2) }
+/// Two seats of a core that has none.
+pub fn take_seats(core: &mut Core) -> Result<()>
+    ensures { OnOk result (length core.new.seats ≡ 2) }
 {
-    let mut core = Core::new(alloc)?;
     let first = core.seat()?;
     let second = core.seat()?;
     ensure!(
-        first == SeatNo::new(0) && second == SeatNo::new(1),
+        first == SeatNo::new(0) && second == SeatNo::new(1) && core.seats() == 2,
         "two seats"
     );
-    Ok(core)
+    Ok(())
 }
 
 /// What every core tells its caller.
@@ -44,17 +44,17 @@ pub fn tell(core: &Core) {
 }
 
 /// The node that a step took.
-fn taken(stepped: &Stepped) -> Option<NodeNo> {
+fn taken(stepped: Stepped) -> Option<NodeNo> {
     match stepped {
-        Stepped::Took(node) => Some(*node),
+        Stepped::Took(node) => Some(node),
         _ => None,
     }
 }
 
 /// The node that a step waits for, and the call that holds it.
-fn awaited(stepped: &Stepped) -> Option<(NodeNo, CallNo)> {
+fn awaited(stepped: Stepped) -> Option<(NodeNo, CallNo)> {
     match stepped {
-        Stepped::Busy(node, call) => Some((*node, *call)),
+        Stepped::Busy(node, call) => Some((node, call)),
         _ => None,
     }
 }
@@ -67,7 +67,7 @@ fn wait(alloc: Global, core: &mut Core, one: &Call, other: &Call) -> Result<()>
     let (first, second, root) = (SeatNo::new(0), SeatNo::new(1), NodeNo::new(0));
     let number = CallNo::new(1);
     ensure!(core.begin(alloc, first, one) == Ok(number), "a begin");
-    let took = taken(&core.step(first));
+    let took = taken(core.step(first));
     ensure!(took == Some(root), "the root taken");
     ensure!(core.under_way(first) == Some(number), "a call under way");
     ensure!(core.under_way(second).is_none(), "no call under way");
@@ -75,14 +75,14 @@ fn wait(alloc: Global, core: &mut Core, one: &Call, other: &Call) -> Result<()>
     ensure!(core.holder(NodeNo::new(1)).is_none(), "no holder");
     let next = core.begin(alloc, second, other);
     ensure!(next == Ok(CallNo::new(2)), "the next begin");
-    let waits = awaited(&core.step(second));
+    let waits = awaited(core.step(second));
     ensure!(waits == Some((root, number)), "who has the root");
     tell(core);
     Ok(())
 }
 
-/// Both calls go on to their returns.
-fn end(alloc: Global, core: &mut Core) -> Result<()>
+/// Both calls go on to their returns. Whether all events are done.
+fn end(alloc: Global, core: &mut Core) -> bool
     requires { length core.old.seats ≡ 2 }
     ensures { length core.new.seats ≡ 2 }
 {
@@ -102,12 +102,11 @@ fn end(alloc: Global, core: &mut Core) -> Result<()>
         done: 9,
         refusal: None,
     };
-    ensure!(core.run(alloc, &events) == all, "all events");
-    Ok(())
+    core.run(alloc, &events) == all
 }
 
-/// A call begins, and no second one on its seat: the events behind that are not done.
-fn refuse(alloc: Global, core: &mut Core, one: Call, other: Call) -> Result<()>
+/// A call begins, and no second one on its seat. Whether the events behind that are not done.
+fn is_refused(alloc: Global, core: &mut Core, one: Call, other: Call) -> bool
     requires { length core.old.seats ≡ 2 }
     ensures { length core.new.seats ≡ 2 }
 {
@@ -122,18 +121,38 @@ fn refuse(alloc: Global, core: &mut Core, one: Call, other: Call) -> Result<()>
         done: 2,
         refusal: Some(Refusal::SeatBusy),
     };
-    ensure!(core.run(alloc, &events) == some, "some events");
+    core.run(alloc, &events) == some
+}
+
+/// The call goes on to its return. Whether all events are done.
+fn ends(alloc: Global, core: &mut Core) -> bool
+    requires { length core.old.seats ≡ 2 }
+    ensures { length core.new.seats ≡ 2 }
+{
+    let seat = SeatNo::new(0);
     let events = [Event::Step(seat), Event::Step(seat), Event::Step(seat)];
     let all = Ran {
         done: 3,
         refusal: None,
     };
-    ensure!(core.run(alloc, &events) == all, "the rest of the call");
+    core.run(alloc, &events) == all
+}
+
+/// A call is refused while another one is under way, which ends then.
+fn refuse(alloc: Global, core: &mut Core, one: &Call, other: &Call) -> Result<()>
+    requires { length core.old.seats ≡ 2 }
+    ensures { length core.new.seats ≡ 2 }
+{
+    let one = one.copy(alloc)?;
+    let is_refused = is_refused(alloc, core, one, other.copy(alloc)?);
+    ensure!(is_refused, "some events");
+    ensure!(ends(alloc, core), "the rest of the call");
     Ok(())
 }
 
-pub fn path(alloc: Global, text: &[u8]) -> Result<Path> {
-    Ok(Path::parse(alloc, text)?)
+fn find(alloc: Global, core: &Core, text: &[u8]) -> Result<Option<NodeNo>> {
+    let path = Path::parse(alloc, text)?;
+    Ok(core.find_path(&path))
 }
 
 /// Looks at the nodes.
@@ -143,9 +162,9 @@ fn look(alloc: Global, core: &Core) -> Result<()> {
     }
     let fault = FaultKind::BadPath(PathFault::NotAbsolute);
     ensure!(kind_of(alloc, core, b"a") == Err(fault), "no path");
-    let file = core.find_path(&path(alloc, b"/a/f")?);
+    let file = find(alloc, core, b"/a/f")?;
     ensure!(file == Some(NodeNo::new(2)), "the file");
-    ensure!(core.find_path(&path(alloc, b"/b")?).is_none(), "no node");
+    ensure!(find(alloc, core, b"/b")?.is_none(), "no node");
     Ok(())
 }
 
@@ -161,27 +180,41 @@ fn look_back(core: &Core, call: &Call) -> Result<()> {
 }
 
 /// Takes a core apart: three calls have returned, which made two directories and a file.
-fn take_apart(core: Core) -> Result<()> {
+fn take_apart(core: Core) -> (usize, usize, usize) {
     let (_start, timeline, store) = core.into_parts();
-    ensure!(timeline.entries().len() == 9, "the entries");
-    ensure!(
-        store.entries(NodeNo::new(0)) == 2 && store.entries(NodeNo::new(1)) == 1,
-        "the nodes"
-    );
+    let (root, dir) = (NodeNo::new(0), NodeNo::new(1));
+    (
+        timeline.entries().len(),
+        store.entries(root),
+        store.entries(dir),
+    )
+}
+
+/// All of this, by a core that has no seat yet.
+fn compare_on(alloc: Global, core: &mut Core, calls: &[Call]) -> Result<()> {
+    let [mkdir, mknod, further, stat] = calls else {
+        bail!("four calls");
+    };
+    take_seats(core)?;
+    wait(alloc, core, mkdir, mknod)?;
+    ensure!(end(alloc, core), "all events");
+    refuse(alloc, core, further, stat)?;
+    look(alloc, core)?;
+    look_back(core, mkdir)
+}
+
+/// All of this, by calls.
+fn compare_by(alloc: Global, calls: &[Call]) -> Result<()> {
+    let mut core = Core::new(alloc)?;
+    let compared = compare_on(alloc, &mut core, calls);
+    let left = take_apart(core);
+    compared?;
+    ensure!(left == (9, 2, 1), "the entries and the nodes");
     Ok(())
 }
 
 /// All of this.
 pub fn compare(alloc: Global) -> Result<()> {
-    let mkdir = Call::Mkdir(path(alloc, b"/a")?);
-    let mknod = Call::Mknod(path(alloc, b"/a/f")?);
-    let mut core = two_seats(alloc)?;
-    wait(alloc, &mut core, &mkdir, &mknod)?;
-    end(alloc, &mut core)?;
-    let further = Call::Mkdir(path(alloc, b"/c")?);
-    let stat = Call::Stat(path(alloc, b"/a")?);
-    refuse(alloc, &mut core, further, stat)?;
-    look(alloc, &core)?;
-    look_back(&core, &mkdir)?;
-    take_apart(core)
+    let calls = calls_of(alloc, &["mkdir /a", "mknod /a/f", "mkdir /c", "stat /a"])?;
+    compare_by(alloc, &calls)
 }

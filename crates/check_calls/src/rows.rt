@@ -40,30 +40,30 @@ const TABLE: [(&[Line], Option<usize>); 15] = [
 ];
 
 /// The names of a path.
-fn key_of(alloc: Global, text: &[u8]) -> Result<Vec<Name>> {
-    let path = Path::parse(alloc, text)?;
-    let mut key = Vec::new(alloc);
+fn names_of(path: &Path, key: &mut Vec<Name>) -> Result<()> {
     for i in 0..path.len() {
         key.push(path.name(i).copy())?;
     }
-    Ok(key)
+    Ok(())
 }
 
-fn copied(alloc: Global, bytes: &[u8]) -> Result<Vec<u8>> {
-    let mut copy = Vec::new(alloc);
-    copy.extend_from_slice(bytes)?;
-    Ok(copy)
+/// The row of a path, with bytes.
+fn row_of(alloc: Global, text: &[u8], kind: Kind, bytes: Vec<u8>) -> Result<Row> {
+    let mut row = Row {
+        key: Vec::new(alloc),
+        kind,
+        bytes,
+    };
+    let path = Path::parse(alloc, text)?;
+    let named = names_of(&path, &mut row.key);
+    named.map(|()| row)
 }
 
 /// The rows that are written so.
 fn rows_of(alloc: Global, lines: &[Line]) -> Result<Vec<Row>> {
     let mut rows = Vec::new(alloc);
     for (path, kind, bytes) in lines {
-        rows.push(Row {
-            key: key_of(alloc, path)?,
-            kind: *kind,
-            bytes: copied(alloc, bytes)?,
-        })?;
+        rows.push(row_of(alloc, path, *kind, Vec::from_slice(alloc, bytes)?)?)?;
     }
     Ok(rows)
 }
@@ -72,28 +72,42 @@ fn same_row(row: &Row, other: &Row) -> bool {
     row.key == other.key && row.kind == other.kind && row.bytes == other.bytes
 }
 
-/// The tree of rows, which a copy of it tells again.
-fn told_again(alloc: Global, rows: &[Row], limits: Limits) -> Result<()> {
-    let Ok(tree) = SeqTree::from_rows(alloc, rows, limits) else {
-        bail!("no tree");
-    };
-    let told = tree.copy()?.rows(alloc)?;
-    ensure!(told.len() == rows.len(), "as many rows");
-    for (row, other) in told.iter().zip(rows) {
-        ensure!(same_row(row, other), "the same rows");
+/// Whether these are the same rows.
+fn are_same(told: &[Row], rows: &[Row]) -> bool {
+    told.len() == rows.len()
+        && told
+            .iter()
+            .zip(rows)
+            .all(|(row, other)| same_row(row, other))
+}
+
+/// Whether a tree tells these rows.
+fn tells(alloc: Global, tree: &SeqTree, rows: &[Row]) -> Result<bool> {
+    Ok(are_same(&tree.rows(alloc)?, rows))
+}
+
+/// Whether a copy of a tree does.
+fn copy_tells(alloc: Global, tree: &SeqTree, rows: &[Row]) -> Result<bool> {
+    let copy = tree.copy()?;
+    tells(alloc, &copy, rows)
+}
+
+/// Whether this comes of rows: a tree, a copy of which tells them again, or the place of one that is bad.
+fn comes_out(alloc: Global, rows: &[Row], limits: Limits, bad: Option<usize>) -> Result<bool> {
+    match SeqTree::from_rows(alloc, rows, limits) {
+        Ok(tree) => Ok(bad.is_none() && copy_tells(alloc, &tree, rows)?),
+        Err(NotTree::Bad(place)) => Ok(bad == Some(place)),
+        Err(_) => Ok(false),
     }
-    Ok(())
 }
 
 /// What comes of rows.
 fn compare_rows(alloc: Global, rows: &[Row], limits: Limits, bad: Option<usize>) -> Result<()> {
-    match bad {
-        None => told_again(alloc, rows, limits),
-        Some(place) => match SeqTree::from_rows(alloc, rows, limits) {
-            Err(why) if why == NotTree::Bad(place) => Ok(()),
-            _ => bail!("a row that is told at its place"),
-        },
-    }
+    ensure!(
+        comes_out(alloc, rows, limits, bad)?,
+        "the same rows, or one that is told at its place"
+    );
+    Ok(())
 }
 
 /// A name of two letters, another one for each number below 676, in their order.
@@ -102,111 +116,159 @@ fn numbered(number: usize) -> Option<Name> {
     Name::read(&letters)
 }
 
-/// The root, and so many directories in it.
-fn wide(alloc: Global, entries: usize) -> Result<Vec<Row>> {
-    let mut rows = rows_of(alloc, &[ROOT])?;
-    for number in 0..entries {
-        let Some(name) = numbered(number) else {
-            bail!("a name");
-        };
-        let mut key = Vec::new(alloc);
-        key.push(name)?;
-        rows.push(Row {
-            key,
-            kind: Kind::Dir,
-            bytes: Vec::new(alloc),
-        })?;
-    }
-    Ok(rows)
+/// What stands in a tree beside the root.
+#[derive(Clone, Copy)]
+enum Shape {
+    /// So many directories in the root.
+    Wide,
+    /// A branch of so many directories, each in the one before.
+    Deep,
+    /// A file of so many bytes.
+    Long,
 }
 
-/// The root, and a branch of so many directories, each in the one before.
-fn deep(alloc: Global, names: usize) -> Result<Vec<Row>> {
-    let mut rows = rows_of(alloc, &[ROOT])?;
-    for depth in 0..names {
-        let mut key = Vec::new(alloc);
-        for _ in 0..depth.wrapping_add(1) {
-            let Some(name) = Name::read(b"d") else {
-                bail!("a name");
-            };
-            key.push(name)?;
-        }
-        rows.push(Row {
-            key,
-            kind: Kind::Dir,
-            bytes: Vec::new(alloc),
-        })?;
-    }
-    Ok(rows)
-}
-
-/// The root, and a file of so many bytes.
-fn long(alloc: Global, size: usize) -> Result<Vec<Row>> {
-    let mut rows = rows_of(alloc, &[ROOT])?;
-    let mut bytes = Vec::new(alloc);
-    for _ in 0..size {
-        bytes.push(7)?;
-    }
-    rows.push(Row {
-        key: key_of(alloc, b"/f")?,
-        kind: Kind::File,
-        bytes,
-    })?;
-    Ok(rows)
-}
-
-/// Rows at the limits, and beyond each, by both sets.
-fn compare_limits(alloc: Global) -> Result<()> {
-    let full = ENTRY_LIMIT + 1;
-    for limits in [Limits::V1, Limits::V2] {
-        compare_rows(alloc, &wide(alloc, ENTRY_LIMIT)?, limits, None)?;
-        compare_rows(alloc, &wide(alloc, full)?, limits, Some(full + 1))?;
-        compare_rows(alloc, &long(alloc, limits.file())?, limits, None)?;
-        compare_rows(
-            alloc,
-            &long(alloc, limits.file().wrapping_add(1))?,
-            limits,
-            Some(2),
-        )?;
-        compare_rows(alloc, &deep(alloc, PATH_LIMIT + 6)?, limits, None)?;
+/// Puts names behind those of a row.
+fn add_names(row: &mut Row, name: Option<&Name>, times: usize) -> Result<()> {
+    let Some(name) = name else {
+        bail!("a name");
+    };
+    for _ in 0..times {
+        row.key.push(name.copy())?;
     }
     Ok(())
 }
 
-/// The verdict on a journal that begins at a tree.
-fn verdict(alloc: Global, start: &SeqTree, journal: &[u8]) -> Result<Verdict> {
+/// The row of a directory whose key is this name, so many times.
+fn dir_row(alloc: Global, name: Option<&Name>, times: usize) -> Result<Row> {
+    let mut row = Row {
+        key: Vec::new(alloc),
+        kind: Kind::Dir,
+        bytes: Vec::new(alloc),
+    };
+    let named = add_names(&mut row, name, times);
+    named.map(|()| row)
+}
+
+/// So many bytes.
+fn bytes_of(alloc: Global, size: usize) -> Result<Vec<u8>> {
+    let mut bytes = Vec::new(alloc);
+    for _ in 0..size {
+        bytes.push(7)?;
+    }
+    Ok(bytes)
+}
+
+/// One more directory of a shape.
+fn next_row(alloc: Global, shape: Shape, number: usize) -> Result<Row> {
+    match shape {
+        Shape::Wide => dir_row(alloc, numbered(number).as_ref(), 1),
+        _ => dir_row(alloc, Name::read(b"d").as_ref(), number.wrapping_add(1)),
+    }
+}
+
+/// Puts the rows of a shape behind that of the root.
+fn add_shape(alloc: Global, rows: &mut Vec<Row>, shape: Shape, size: usize) -> Result<()> {
+    if matches!(shape, Shape::Long) {
+        rows.push(row_of(alloc, b"/f", Kind::File, bytes_of(alloc, size)?)?)?;
+        return Ok(());
+    }
+    for number in 0..size {
+        rows.push(next_row(alloc, shape, number)?)?;
+    }
+    Ok(())
+}
+
+/// What comes of the rows of a shape.
+fn compare_shape(
+    alloc: Global,
+    shape: Shape,
+    size: usize,
+    limits: Limits,
+    bad: Option<usize>,
+) -> Result<()> {
+    let mut rows = rows_of(alloc, &[ROOT])?;
+    add_shape(alloc, &mut rows, shape, size)?;
+    compare_rows(alloc, &rows, limits, bad)
+}
+
+/// Rows at the limits, and beyond each, by both sets.
+fn compare_limits(alloc: Global, limits: Limits) -> Result<()> {
+    let full = ENTRY_LIMIT + 1;
+    let longer = limits.file().wrapping_add(1);
+    for (shape, size, bad) in [
+        (Shape::Wide, ENTRY_LIMIT, None),
+        (Shape::Wide, full, Some(full + 1)),
+        (Shape::Long, limits.file(), None),
+        (Shape::Long, longer, Some(2)),
+        (Shape::Deep, PATH_LIMIT + 6, None),
+    ] {
+        compare_shape(alloc, shape, size, limits, bad)?;
+    }
+    Ok(())
+}
+
+/// Whether the verdict on a journal that begins at a tree is this one.
+fn is_verdict(alloc: Global, start: &SeqTree, journal: &[u8], due: Verdict) -> Result<bool> {
     let Ok(entries) = read_entries(alloc, journal) else {
         bail!("entries");
     };
-    Ok(check_from(alloc, start, &entries)?)
+    Ok(check_from(alloc, start, &entries)? == due)
 }
 
+/// Journals that begin at a tree with the directory `/a`.
+const JOURNALS: [(&[u8], Verdict, &str); 3] = [
+    (
+        b"atomfs-journal 1\nbegin 1 0 mkdir /a\ncommit 1\nreturn 1 failed EEXIST\n",
+        Verdict::Lawful,
+        "a directory that is there",
+    ),
+    (
+        b"atomfs-journal 1\nbegin 1 0 mkdir /a\ncommit 1\nreturn 1 ok\n",
+        Verdict::Fault(3, FaultKind::WrongReply),
+        "a directory that is made again",
+    ),
+    (
+        b"atomfs-journal 1\nbegin 1 0 rmdir /a\ncommit 1\nreturn 1 ok\n",
+        Verdict::Lawful,
+        "a directory that goes",
+    ),
+];
+
 /// A journal is checked from a tree with a directory, twice, since the tree stays.
-fn compare_verdicts(alloc: Global) -> Result<()> {
-    let mut start = SeqTree::new(alloc)?;
-    let _done = start.apply(alloc, &Call::Mkdir(Path::parse(alloc, b"/a")?))?;
-    let exists = b"atomfs-journal 1\nbegin 1 0 mkdir /a\ncommit 1\nreturn 1 failed EEXIST\n";
-    let done = b"atomfs-journal 1\nbegin 1 0 mkdir /a\ncommit 1\nreturn 1 ok\n";
-    let rmdir = b"atomfs-journal 1\nbegin 1 0 rmdir /a\ncommit 1\nreturn 1 ok\n";
-    for _ in 0..2 {
-        let lawful = verdict(alloc, &start, exists)?;
-        ensure!(lawful == Verdict::Lawful, "a directory that is there");
-        let fault = verdict(alloc, &start, done)?;
-        ensure!(
-            fault == Verdict::Fault(3, FaultKind::WrongReply),
-            "a directory that is made again"
-        );
-        let removed = verdict(alloc, &start, rmdir)?;
-        ensure!(removed == Verdict::Lawful, "a directory that goes");
+fn compare_verdicts(alloc: Global, start: &SeqTree) -> Result<()> {
+    for (journal, due, what) in [JOURNALS, JOURNALS].as_flattened() {
+        if !is_verdict(alloc, start, journal, *due)? {
+            bail!("{what}");
+        }
+    }
+    Ok(())
+}
+
+/// Makes the directory `/a`, if there is memory.
+fn make_dir(alloc: Global, start: &mut SeqTree) -> Result<bool> {
+    let call = Call::Mkdir(Path::parse(alloc, b"/a")?);
+    Ok(start.apply(alloc, &call).is_ok())
+}
+
+/// The same from a new tree.
+fn compare_journals(alloc: Global, start: &mut SeqTree) -> Result<()> {
+    ensure!(make_dir(alloc, start)?, "a directory");
+    compare_verdicts(alloc, start)
+}
+
+/// Rows that are written here.
+fn compare_table(alloc: Global) -> Result<()> {
+    for (lines, bad) in TABLE {
+        compare_rows(alloc, &rows_of(alloc, lines)?, Limits::V1, bad)?;
     }
     Ok(())
 }
 
 /// All of these.
 pub fn compare(alloc: Global) -> Result<()> {
-    for (lines, bad) in TABLE {
-        compare_rows(alloc, &rows_of(alloc, lines)?, Limits::V1, bad)?;
-    }
-    compare_limits(alloc)?;
-    compare_verdicts(alloc)
+    compare_table(alloc)?;
+    compare_limits(alloc, Limits::V1)?;
+    compare_limits(alloc, Limits::V2)?;
+    let mut start = SeqTree::new(alloc)?;
+    compare_journals(alloc, &mut start)
 }

@@ -1,10 +1,11 @@
 //! Where a walk and the heads of a rename stand after each step, and a call that begins and is cancelled.
 
-ghost use Rattle.std.specs.Prelude.{◌≡◌, IfSome, None};
+ghost use Rattle.std.specs.Prelude.{◌≡◌, ◌≤◌, IfSome, None};
+ghost use Rattle.fs_names.specs.declared.limits.TheConstants.{NODE_LIMIT};
 ghost use Rattle.fs_machine.specs.OpValues.{SpareIf};
 ghost use Rattle.fs_nodes.specs.Stores.{graph_of};
 
-use anyhow::{Result, bail, ensure};
+use anyhow::{Result, ensure};
 use fs_calls::Call;
 use fs_names::{Limits, Path};
 use fs_nodes::{NoNode, NodeNo, Store};
@@ -85,26 +86,43 @@ fn gives_back(op: Op, store: &mut Store) -> bool {
     !store.is_used(node)
 }
 
+/// What comes of a call that begins on a store and is cancelled: whether it gave its number back.
+fn cancelled(alloc: Global, store: &mut Store, call: &Call) -> Result<bool, NoNode> {
+    match Op::begin(alloc, call, store, Limits::V2) {
+        Ok(op) => Ok(gives_back(op, store)),
+        Err(why) => Err(why),
+    }
+}
+
+/// The same on a new store for so many nodes.
+fn cancelled_of(alloc: Global, nodes: usize, call: &Call) -> Result<Result<bool, NoNode>>
+    requires least { 1 ≤ nodes }
+    requires most { nodes ≤ NODE_LIMIT }
+{
+    let mut store = Store::new(alloc, nodes)?;
+    Ok(cancelled(alloc, &mut store, call))
+}
+
 /// A mkdir that begins where a number is left gives it back when it is cancelled; none begins where the root has the last one.
-fn compare_cancel(alloc: Global) -> Result<()> {
+fn compare_cancel(alloc: Global, mkdir: &Call) -> Result<()> {
+    let given = cancelled_of(alloc, 2, mkdir)?;
+    ensure!(given == Ok(true), "a number given back");
+    let full = cancelled_of(alloc, 1, mkdir)?;
+    ensure!(full == Err(NoNode::Full), "no number where all are in use");
+    Ok(())
+}
+
+/// The same of a call.
+fn compare_call(alloc: Global) -> Result<()> {
     let mkdir = Call::Mkdir(Path::parse(alloc, b"/a")?);
-    let mut store = Store::new(alloc, 2)?;
-    match Op::begin(alloc, &mkdir, &mut store, Limits::V2) {
-        Ok(op) => ensure!(gives_back(op, &mut store), "a number given back"),
-        Err(_) => bail!("no number"),
-    }
-    let mut full = Store::new(alloc, 1)?;
-    match Op::begin(alloc, &mkdir, &mut full, Limits::V2) {
-        Err(NoNode::Full) => Ok(()),
-        _ => bail!("a number where all are in use"),
-    }
+    compare_cancel(alloc, &mkdir)
 }
 
 /// All of these.
 pub fn compare(alloc: Global) -> Result<()> {
     compare_walk()?;
+    compare_call(alloc)?;
     let source = Path::parse(alloc, b"/a/b/c/x")?;
     let dest = Path::parse(alloc, b"/a/y")?;
-    compare_fork(&source, &dest)?;
-    compare_cancel(alloc)
+    compare_fork(&source, &dest)
 }

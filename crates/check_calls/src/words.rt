@@ -26,11 +26,21 @@ fn call_of(alloc: Global, text: &str) -> Result<Call> {
     Ok(call_at(alloc, Limits::V1, &words)?)
 }
 
+/// The calls that texts spell.
+pub fn calls_of(alloc: Global, texts: &[&str]) -> Result<Vec<Call>> {
+    let mut calls = Vec::new(alloc);
+    for text in texts {
+        calls.push(call_of(alloc, text)?)?;
+    }
+    Ok(calls)
+}
+
 /// Whether two calls are the same.
 pub fn calls(alloc: Global, text: &str) -> Result<String> {
     let (first, second) = sides(text)?;
-    let (first, second) = (call_of(alloc, first)?, call_of(alloc, second)?);
-    Ok(format!(in alloc; "{}", second.same(&first))?)
+    let calls = calls_of(alloc, &[first, second])?;
+    let is_same = matches!(calls.as_slice(), [first, second] if second.same(first));
+    Ok(format!(in alloc; "{is_same}")?)
 }
 
 /// The entry of a return with the reply that a text spells.
