@@ -49,11 +49,10 @@ pub fn play<N: Named, R: Wait + Clock, G: Gate>(
 ) -> Option<Played<N>> {
     let mut session = fs.session(rt).ok()?;
     let mut answers = Vec::new(alloc);
-    play_all(rt, alloc, &mut session, calls, gate, &mut answers)?;
-    Some(Played {
-        answers,
-        tally: session.end(),
-    })
+    let played = play_all(rt, alloc, &mut session, calls, gate, &mut answers);
+    let tally = session.end();
+    played?;
+    Some(Played { answers, tally })
 }
 
 /// What is left of a tree, and what each of its sessions answered.
@@ -63,6 +62,22 @@ pub struct Ended {
     pub closed: Closed,
 }
 
+/// Puts the answers of a session behind those of others, and its tally too.
+fn add<N: Named>(
+    played: Played<N>,
+    answers: &mut Vec<Vec<Answer>>,
+    tallies: &mut Vec<Tally<N>>,
+) -> Option<()> {
+    let Played {
+        answers: own,
+        tally,
+    } = played;
+    let answered = answers.push(own);
+    let tallied = tallies.push(tally);
+    answered.ok()?;
+    tallied.ok()
+}
+
 /// Puts the answers of all sessions into one list, and their tallies into another.
 fn add_all<N: Named>(
     sessions: Option<Sessions<N>>,
@@ -70,9 +85,7 @@ fn add_all<N: Named>(
     tallies: &mut Vec<Tally<N>>,
 ) -> Option<()> {
     for played in sessions? {
-        let played = played?;
-        answers.push(played.answers).ok()?;
-        tallies.push(played.tally).ok()?;
+        add(played?, answers, tallies)?;
     }
     Some(())
 }
