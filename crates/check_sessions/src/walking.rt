@@ -15,8 +15,8 @@ const MOST_NODES: u32 = 10_000;
 /// Plays a call by its number, from 1 on.
 fn apply(alloc: Global, tree: &mut SeqTree, calls: &[&Call], number: CallNo) -> Option<()> {
     let place = (number.get() as usize).checked_sub(1)?;
-    tree.apply(alloc, calls.get(place)?).ok()?;
-    Some(())
+    let call = calls.get(place)?;
+    tree.apply(alloc, call).is_ok().then_some(())
 }
 
 /// Plays all commits of a timeline whose calls are numbered in the order of their begins.
@@ -137,6 +137,12 @@ fn same(alloc: Global, store: &Store, tree: &mut SeqTree) -> Option<bool> {
     agree_below(alloc, store, tree, &mut stack)
 }
 
+/// Whether the nodes that a run leaves are those of a tree that plays its commits.
+fn is_left(alloc: Global, closed: &Closed, tree: &mut SeqTree) -> Option<bool> {
+    play(alloc, tree, closed.timeline.entries())?;
+    same(alloc, &closed.store, tree)
+}
+
 /// Whether a run's timeline is lawful, and the nodes that it leaves are those of a sequential tree that played its commits.
 pub fn is_played(alloc: Global, closed: &Closed) -> Option<bool> {
     let entries = closed.timeline.entries();
@@ -144,6 +150,5 @@ pub fn is_played(alloc: Global, closed: &Closed) -> Option<bool> {
         return Some(false);
     }
     let mut tree = SeqTree::new(alloc).ok()?;
-    play(alloc, &mut tree, entries)?;
-    same(alloc, &closed.store, &mut tree)
+    is_left(alloc, closed, &mut tree)
 }
