@@ -80,21 +80,25 @@ fn directory(random: &mut Pcg32, twins: &Twins) -> Twin {
     twins.node(1 + (below(random, 2) % 2) as usize)
 }
 
-/// The two directories and the files.
-fn tree(alloc: Global) -> Result<Twins> {
-    let mut twins = Twins::new(alloc, NODES)?;
-    for name in [b"a", b"b"] {
-        let position = twins.len();
-        ensure!(twins.reserve(Kind::Dir)?, "no number is left");
-        let (root, node) = (twins.node(0), twins.node(position));
-        if let Some(name) = Name::read(name) {
-            ensure!(twins.link(&root, &name, &node).is_some(), "no entry");
-        }
+/// A directory of this name in the root.
+fn add_dir(twins: &mut Twins, name: &[u8]) -> Result<()> {
+    let position = twins.len();
+    ensure!(twins.reserve(Kind::Dir)?, "no number is left");
+    let (root, node) = (twins.node(0), twins.node(position));
+    if let Some(name) = Name::read(name) {
+        ensure!(twins.link(&root, &name, &node).is_some(), "no entry");
     }
+    Ok(())
+}
+
+/// The two directories and the files.
+fn add_tree(twins: &mut Twins) -> Result<()> {
+    add_dir(twins, b"a")?;
+    add_dir(twins, b"b")?;
     for _ in 0..FILES {
         ensure!(twins.reserve(Kind::File)?, "no number is left");
     }
-    Ok(twins)
+    Ok(())
 }
 
 /// Whether a directory may have one entry more.
@@ -143,18 +147,24 @@ fn draw(random: &mut Pcg32, names: Names, twins: &mut Twins) -> Looks {
     twins.looks
 }
 
-/// Does all of this, and writes what was counted.
-pub fn run(rt: &impl Print, alloc: Global) -> Result<()> {
+/// Drawn calls of both kinds of names, of which it writes what was counted.
+fn count(rt: &impl Print, twins: &mut Twins) -> Result<()> {
     let mut random = Pcg32::seed_from_u64(3);
-    let mut twins = tree(alloc)?;
-    let looks = draw(&mut random, Names::Ordinary, &mut twins);
+    add_tree(twins)?;
+    let looks = draw(&mut random, Names::Ordinary, twins);
     let (a, b) = (twins.node(1), twins.node(2));
     let (entries, others) = (twins.entries(&a), twins.entries(&b));
     println!(rt; "full directories: {entries} and {others} entries")?;
     looks.write(rt, "drawn names")?;
-    draw(&mut random, Names::Colliding, &mut twins).write(rt, "names that collide")?;
+    draw(&mut random, Names::Colliding, twins).write(rt, "names that collide")?;
     twins.read(&a);
     twins.read(&b);
     println!(rt; "answers that differ: {}", twins.others)?;
     Ok(())
+}
+
+/// Does all of this.
+pub fn run(rt: &impl Print, alloc: Global) -> Result<()> {
+    let mut twins = Twins::new(alloc, NODES)?;
+    count(rt, &mut twins)
 }

@@ -56,10 +56,11 @@ fn use_twice(used: &mut Linked, a: &Name, b: &Name) -> Result<()> {
 
 /// A store of two nodes, whose one free number is used twice.
 pub fn two_numbers(alloc: Global) -> Result<()> {
+    let (a, b) = (name(b"a")?, name(b"b")?);
     let mut used = Linked {
         store: Store::new(alloc, 2)?,
     };
-    use_twice(&mut used, &name(b"a")?, &name(b"b")?)
+    use_twice(&mut used, &a, &b)
 }
 
 /// Whether an entry that was read is this one.
@@ -107,34 +108,46 @@ fn use_names(used: &mut Linked, a: &Name, b: &Name, bb: &Name) -> Result<()> {
 
 /// A store of eight nodes, with three entries.
 pub fn names_in_order(alloc: Global) -> Result<()> {
+    let (a, b, bb) = (name(b"a")?, name(b"b")?, name(b"bb")?);
     let mut used = Linked {
         store: Store::new(alloc, 8)?,
     };
-    use_names(&mut used, &name(b"a")?, &name(b"b")?, &name(b"bb")?)
+    use_names(&mut used, &a, &b, &bb)
 }
 
-/// Whether the bytes that were handed out are these.
-fn are_bytes(old: Option<Vec<u8>>, bytes: &[u8]) -> bool {
-    match &old {
-        Some(old) => old.as_slice() == bytes,
-        None => false,
+/// Whether a file gets these bytes, and those that were handed out are the other ones.
+fn is_swapped(
+    alloc: Global,
+    used: &mut Linked,
+    file: NodeNo,
+    bytes: &[u8],
+    due: &[u8],
+) -> Result<bool> {
+    match used.swap_content(alloc, file, bytes)? {
+        Some(old) => Ok(old.as_slice() == due),
+        None => Ok(false),
     }
 }
 
 /// The bytes of a file are handed over and handed out.
-pub fn bytes_of_a_file(alloc: Global) -> Result<()> {
-    let mut used = Linked {
-        store: Store::new(alloc, 2)?,
-    };
+fn use_bytes(alloc: Global, used: &mut Linked) -> Result<()> {
     let file = used.store.reserve(Kind::File)?;
     let is_new = used.store.content(file).is_empty();
-    let is_empty = are_bytes(used.swap_content(alloc, file, b"abc")?, b"");
+    let is_empty = is_swapped(alloc, used, file, b"abc", b"")?;
     let is_kept = used.store.content(file) == b"abc".as_slice();
-    let is_old = are_bytes(used.swap_content(alloc, file, b"")?, b"abc");
+    let is_old = is_swapped(alloc, used, file, b"", b"abc")?;
     hold(&[
         (is_new, "no bytes"),
         (is_empty, "nothing out"),
         (is_kept, "the bytes"),
         (is_old, "the bytes out"),
     ])
+}
+
+/// A store of two nodes, one of which is a file.
+pub fn bytes_of_a_file(alloc: Global) -> Result<()> {
+    let mut used = Linked {
+        store: Store::new(alloc, 2)?,
+    };
+    use_bytes(alloc, &mut used)
 }

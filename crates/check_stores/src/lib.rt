@@ -148,6 +148,18 @@ fn use_store(alloc: Global) -> Result<()> {
     examples::bytes_of_a_file(alloc)
 }
 
+/// Drawn calls, of which it writes what was counted.
+fn count(rt: &impl Print, alloc: Global, twins: &mut Twins) -> Result<()> {
+    let mut tally = Tally::default();
+    draw_all(alloc, twins, &mut tally)?;
+    Ok(tally.write(rt, twins.others)?)
+}
+
+fn run_drawn(rt: &impl Print, alloc: Global) -> Result<()> {
+    let mut twins = Twins::new(alloc, LIMIT)?;
+    count(rt, alloc, &mut twins)
+}
+
 /// Does all of this, and writes what was counted.
 pub fn run(rt: &impl Print, alloc: Global) -> Result<()> {
     use_store(alloc)?;
@@ -155,10 +167,7 @@ pub fn run(rt: &impl Print, alloc: Global) -> Result<()> {
     println!(rt;
         "locks: one holder at a time, all calls but the last can hold, nodes in the order taken"
     )?;
-    let mut twins = Twins::new(alloc, LIMIT)?;
-    let mut tally = Tally::default();
-    draw_all(alloc, &mut twins, &mut tally)?;
-    tally.write(rt, twins.others)?;
+    run_drawn(rt, alloc)?;
     crowded::run(rt, alloc)?;
     swaps::run(rt, alloc)
 }

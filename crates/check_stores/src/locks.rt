@@ -18,13 +18,12 @@ fn take(holders: &mut Holders, node: NodeNo, call: CallNo) -> Option<Result<(), 
 }
 
 /// Room for two nodes, which less room does not change.
-fn two_nodes(alloc: Global) -> Result<Holders> {
-    let mut holders = Holders::new(alloc);
+fn make_room(holders: &mut Holders) -> Result<()> {
     ensure!(holders.room() == 0, "no room at first");
     holders.make_room(2)?;
     holders.make_room(1)?;
     ensure!(holders.room() == 2, "room for two");
-    Ok(holders)
+    Ok(())
 }
 
 /// A free node is taken by the first call, and not by the second.
@@ -39,14 +38,14 @@ fn take_once(holders: &mut Holders, node: NodeNo, first: CallNo, second: CallNo)
 }
 
 /// A node is held by one call, and by another once it was let go.
-fn one_holder_at_a_time(alloc: Global) -> Result<()> {
+fn one_holder_at_a_time(holders: &mut Holders) -> Result<()> {
     let node = NodeNo::new(1);
     let (first, second) = (CallNo::new(7), CallNo::new(8));
-    let mut holders = two_nodes(alloc)?;
-    take_once(&mut holders, node, first, second)?;
+    make_room(holders)?;
+    take_once(holders, node, first, second)?;
     ensure!(holders.holder(node).is_some(), "a holder");
     holders.let_go(node);
-    let taken = take(&mut holders, node, second);
+    let taken = take(holders, node, second);
     ensure!(taken == Some(Ok(())), "the node taken again");
     let beyond = holders.holder(NodeNo::new(2));
     ensure!(beyond.is_none(), "no holder beyond the room");
@@ -66,24 +65,22 @@ fn take_both(holders: &mut Holders, least: CallNo, greatest: CallNo) -> Result<(
 }
 
 /// Each call but the one with the greatest number can hold a node.
-fn all_calls_but_the_last_can_hold(alloc: Global) -> Result<()> {
+fn all_calls_but_the_last_can_hold(holders: &mut Holders) -> Result<()> {
     let root = NodeNo::new(0);
     let (least, greatest) = (CallNo::new(0), CallNo::new(u64::MAX - 1));
-    let mut holders = Holders::new(alloc);
     holders.make_room(2)?;
-    take_both(&mut holders, least, greatest)?;
-    let taken = take(&mut holders, root, greatest);
+    take_both(holders, least, greatest)?;
+    let taken = take(holders, root, greatest);
     ensure!(taken == Some(Err(HeldBy(least))), "the least call holds it");
-    let taken = take(&mut holders, root, CallNo::new(u64::MAX));
+    let taken = take(holders, root, CallNo::new(u64::MAX));
     ensure!(taken.is_none(), "no take of the last call");
     Ok(())
 }
 
 /// Three nodes, in the order taken.
-fn three_nodes(nodes: [NodeNo; 3]) -> Result<Held> {
+fn three_nodes(held: &mut Held, nodes: [NodeNo; 3]) -> Result<()> {
     let [first, second, third] = nodes;
-    let mut held = Held::new();
-    ensure!(held.first().is_none(), "no first node");
+    ensure!(held.len() == 0 && held.first().is_none(), "no first node");
     held.push(first);
     held.push(second);
     held.push(third);
@@ -91,13 +88,13 @@ fn three_nodes(nodes: [NodeNo; 3]) -> Result<Held> {
     ensure!(held.first() == Some(first), "the first node");
     ensure!(held.last() == Some(third), "the last node");
     ensure!(held.as_slice() == nodes.as_slice(), "the nodes");
-    Ok(held)
+    Ok(())
 }
 
 /// Nodes are taken out from the last to the first.
-fn nodes_in_the_order_taken() -> Result<()> {
+fn nodes_in_the_order_taken(held: &mut Held) -> Result<()> {
     let (a, b, c) = (NodeNo::new(5), NodeNo::new(0), NodeNo::new(9));
-    let mut held = three_nodes([a, b, c])?;
+    three_nodes(held, [a, b, c])?;
     ensure!(held.pop() == Some(c), "the last one out");
     ensure!(held.pop() == Some(b), "the one before it");
     ensure!(held.pop() == Some(a), "the first one");
@@ -107,7 +104,7 @@ fn nodes_in_the_order_taken() -> Result<()> {
 
 /// All of them in use.
 pub fn use_locks(alloc: Global) -> Result<()> {
-    one_holder_at_a_time(alloc)?;
-    all_calls_but_the_last_can_hold(alloc)?;
-    nodes_in_the_order_taken()
+    one_holder_at_a_time(&mut Holders::new(alloc))?;
+    all_calls_but_the_last_can_hold(&mut Holders::new(alloc))?;
+    nodes_in_the_order_taken(&mut Held::new())
 }

@@ -33,10 +33,18 @@ fn letter(byte: u8) -> Result<Name> {
     }
 }
 
+/// One more node, which gets an entry.
+fn add(twins: &mut Twins, kind: Kind, dir: usize, name: &Name) -> Result<()> {
+    let position = twins.len();
+    ensure!(twins.reserve(kind)?, "no number is left");
+    let (dir, node) = (twins.node(dir), twins.node(position));
+    ensure!(twins.link(&dir, name, &node).is_some(), "no entry");
+    Ok(())
+}
+
 /// The root has a file `a`, a directory `b`, a file `c` and a directory `d`, in which are a file `a` and a directory `b`.
-fn tree(alloc: Global, letters: &[Name; 4]) -> Result<Twins> {
+fn add_tree(twins: &mut Twins, letters: &[Name; 4]) -> Result<()> {
     let [a, b, c, d] = letters;
-    let mut twins = Twins::new(alloc, LIMIT)?;
     for (kind, dir, name) in [
         (Kind::File, 0, a),
         (Kind::Dir, 0, b),
@@ -45,12 +53,9 @@ fn tree(alloc: Global, letters: &[Name; 4]) -> Result<Twins> {
         (Kind::File, 4, a),
         (Kind::Dir, 4, b),
     ] {
-        let position = twins.len();
-        ensure!(twins.reserve(kind)?, "no number is left");
-        let (dir, node) = (twins.node(dir), twins.node(position));
-        ensure!(twins.link(&dir, name, &node).is_some(), "no entry");
+        add(twins, kind, dir, name)?;
     }
-    Ok(twins)
+    Ok(())
 }
 
 /// Looks at each node, and reads each directory.
@@ -98,24 +103,46 @@ fn keep(twins: &mut Twins, one: Named<'_>, other: Named<'_>) -> Result<()> {
 }
 
 /// Swaps in the small tree: each begins where those before it have led.
-fn swap_in_tree(alloc: Global) -> Result<u32> {
-    let letters = [letter(b'a')?, letter(b'b')?, letter(b'c')?, letter(b'd')?];
-    let [a, b, c, d] = &letters;
-    let mut twins = tree(alloc, &letters)?;
-    // Neighbours, of which the first is named first, and the last.
-    swap(&mut twins, entry(0, a, 1), entry(0, b, 2))?;
-    swap(&mut twins, entry(0, c, 3), entry(0, b, 1))?;
-    // The first and the last of a directory.
-    swap(&mut twins, entry(0, a, 2), entry(0, d, 4))?;
-    // Files of two directories, and a file with a directory of two.
-    swap(&mut twins, entry(0, c, 1), entry(4, a, 5))?;
-    swap(&mut twins, entry(4, b, 6), entry(0, b, 3))?;
-    // The only two of a directory.
-    swap(&mut twins, entry(4, a, 1), entry(4, b, 3))?;
-    keep(&mut twins, entry(0, a, 4), entry(4, a, 3))?;
-    keep(&mut twins, entry(4, a, 3), entry(0, a, 4))?;
-    keep(&mut twins, entry(0, b, 6), entry(0, b, 6))?;
-    Ok(twins.others)
+fn swap_in_tree(twins: &mut Twins, letters: &[Name; 4]) -> Result<()> {
+    let [a, b, c, d] = letters;
+    for (one, other) in [
+        // Neighbours, of which the first is named first, and the last.
+        (entry(0, a, 1), entry(0, b, 2)),
+        (entry(0, c, 3), entry(0, b, 1)),
+        // The first and the last of a directory.
+        (entry(0, a, 2), entry(0, d, 4)),
+        // Files of two directories, and a file with a directory of two.
+        (entry(0, c, 1), entry(4, a, 5)),
+        (entry(4, b, 6), entry(0, b, 3)),
+        // The only two of a directory.
+        (entry(4, a, 1), entry(4, b, 3)),
+    ] {
+        swap(twins, one, other)?;
+    }
+    for (one, other) in [
+        (entry(0, a, 4), entry(4, a, 3)),
+        (entry(4, a, 3), entry(0, a, 4)),
+        (entry(0, b, 6), entry(0, b, 6)),
+    ] {
+        keep(twins, one, other)?;
+    }
+    Ok(())
+}
+
+/// The names of the small tree.
+fn letters() -> Result<[Name; 4]> {
+    let (a, b) = (letter(b'a')?, letter(b'b')?);
+    let (c, d) = (letter(b'c')?, letter(b'd')?);
+    Ok([a, b, c, d])
+}
+
+/// Makes the small tree, and swaps in it.
+fn swap_small(twins: &mut Twins) -> Result<()> {
+    let letters = letters()?;
+    add_tree(twins, &letters)?;
+    swap_in_tree(twins, &letters)?;
+    ensure!(twins.others == 0, "an answer differs");
+    Ok(())
 }
 
 /// Two drawn entries change what they name, if there are two and neither is below the other.
@@ -144,16 +171,28 @@ fn swap_all_drawn(alloc: Global, twins: &mut Twins, tally: &mut Tally) -> Result
     bail!("too few of the swaps could be made")
 }
 
+/// Drawn swaps, of which it writes what was counted.
+fn count(rt: &impl Print, alloc: Global, twins: &mut Twins) -> Result<()> {
+    let mut tally = Tally::default();
+    swap_all_drawn(alloc, twins, &mut tally)?;
+    Ok(tally.write_swaps(rt, twins.others)?)
+}
+
+fn run_small(alloc: Global) -> Result<()> {
+    let mut twins = Twins::new(alloc, LIMIT)?;
+    swap_small(&mut twins)
+}
+
+fn run_drawn(rt: &impl Print, alloc: Global) -> Result<()> {
+    let mut twins = Twins::new(alloc, LIMIT)?;
+    count(rt, alloc, &mut twins)
+}
+
 /// Does all of this, and writes what was counted.
 pub fn run(rt: &impl Print, alloc: Global) -> Result<()> {
-    let others = swap_in_tree(alloc)?;
-    ensure!(others == 0, "an answer differs");
+    run_small(alloc)?;
     println!(rt;
         "swaps: neighbours in both orders, the first and the last, of two directories, a file with a directory"
     )?;
-    let mut twins = Twins::new(alloc, LIMIT)?;
-    let mut tally = Tally::default();
-    swap_all_drawn(alloc, &mut twins, &mut tally)?;
-    tally.write_swaps(rt, twins.others)?;
-    Ok(())
+    run_drawn(rt, alloc)
 }
