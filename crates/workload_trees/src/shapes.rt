@@ -46,22 +46,32 @@ fn put(paths: &mut [Vec<u8>], place: usize, path: Vec<u8>) {
     }
 }
 
-/// A directory with so many files.
-fn full(
-    alloc: Global,
+/// Makes a file in a directory, and answers its path.
+fn make_file(tree: &mut Tree, drawing: &mut Drawing, dir: &[u8], number: usize) -> Result<Vec<u8>> {
+    let path = drawing.path_in(dir, number)?;
+    let made = tree.mknod(&path);
+    made.map(|()| path)
+}
+
+/// Makes a directory with so many files, whose paths come behind the others.
+fn fill(
     tree: &mut Tree,
     drawing: &mut Drawing,
     dir: &[u8],
+    paths: &mut Vec<Vec<u8>>,
     entries: usize,
-) -> Result<Vec<Vec<u8>>> {
-    let mut paths = Vec::new(alloc);
+) -> Result<()> {
     tree.mkdir(dir)?;
     for number in 0..entries {
-        let path = drawing.path_in(dir, number)?;
-        tree.mknod(&path)?;
-        paths.push(path)?;
+        paths.push(make_file(tree, drawing, dir, number)?)?;
     }
-    Ok(paths)
+    Ok(())
+}
+
+/// Removes a file, and makes another one.
+fn replace(tree: &mut Tree, path: &[u8], fresh: &[u8]) -> Result<()> {
+    tree.unlink(path)?;
+    tree.mknod(fresh)
 }
 
 /// One call on a wide directory.
@@ -78,25 +88,35 @@ fn wide_once(
         0..55 => tree.stat(path),
         55..80 => tree.stat(&fresh),
         80..98 => {
-            tree.unlink(path)?;
-            tree.mknod(&fresh)?;
+            let replaced = replace(tree, path, &fresh);
             put(paths, place, fresh);
-            Ok(())
+            replaced
         }
         _ => tree.readdir(dir),
     }
 }
 
-/// A wide directory, in which files are looked for, removed and made.
-pub fn wide(alloc: Global, drawing: &mut Drawing, calls: usize) -> Result<u64> {
-    let mut tree = Tree::new(alloc)?;
+/// Makes a wide directory, in which files are looked for, removed and made.
+fn wide_in(
+    tree: &mut Tree,
+    drawing: &mut Drawing,
+    dir: &[u8],
+    paths: &mut Vec<Vec<u8>>,
+    (entries, calls): (usize, usize),
+) -> Result<()> {
+    fill(tree, drawing, dir, paths, entries)?;
+    for number in 0..calls {
+        wide_once(tree, drawing, dir, paths, number)?;
+    }
+    Ok(())
+}
+
+/// The same under a drawn name.
+pub fn wide(alloc: Global, tree: &mut Tree, drawing: &mut Drawing, calls: usize) -> Result<()> {
     let entries = between(drawing, LEAST_ENTRIES, MOST_ENTRIES);
     let dir = drawing.path_in(b"", 1)?;
-    let mut paths = full(alloc, &mut tree, drawing, &dir, entries)?;
-    for number in 0..calls {
-        wide_once(&mut tree, drawing, &dir, &mut paths, number)?;
-    }
-    tree.end()
+    let mut paths = Vec::new(alloc);
+    wide_in(tree, drawing, &dir, &mut paths, (entries, calls))
 }
 
 /// The path of the first so many names of a chain.
@@ -110,16 +130,33 @@ fn joined(alloc: Global, names: &[Vec<u8>], count: usize) -> Result<Vec<u8>> {
 
 /// A short name with its slash.
 fn short(alloc: Global, drawing: &mut Drawing, number: usize) -> Result<Vec<u8>> {
-    let mut name = Vec::new(alloc);
-    name.push(b'/')?;
-    name.push(
-        LETTERS
-            .get(drawing.below(LETTERS.len()))
-            .copied()
-            .unwrap_or(b'a'),
-    )?;
-    add_number(&mut name, number as u64)?;
-    Ok(name)
+    let letter = LETTERS
+        .get(drawing.below(LETTERS.len()))
+        .copied()
+        .unwrap_or(b'a');
+    let mut name = Vec::from_slice(alloc, &[b'/', letter])?;
+    let added = add_number(&mut name, number as u64);
+    added.map(|()| name)
+}
+
+/// The path of the first so many names of a chain, and another one behind them.
+fn joined_with(alloc: Global, names: &[Vec<u8>], count: usize, name: &[u8]) -> Result<Vec<u8>> {
+    let mut text = joined(alloc, names, count)?;
+    let added = text.extend_from_slice(name);
+    Ok(added.map(|()| text)?)
+}
+
+/// Gives a directory of a chain another name, where that has a place.
+fn rename_at(
+    alloc: Global,
+    tree: &mut Tree,
+    names: &[Vec<u8>],
+    place: usize,
+    name: &[u8],
+) -> Result<()> {
+    let from = joined(alloc, names, place.saturating_add(1))?;
+    let to = joined_with(alloc, names, place, name)?;
+    tree.rename(&from, &to).map(|_| ())
 }
 
 /// Another name for a directory of a chain.
@@ -131,13 +168,35 @@ fn rename_one(
     number: usize,
 ) -> Result<()> {
     let place = drawing.below(names.len());
-    let from = joined(alloc, names, place.saturating_add(1))?;
     let name = short(alloc, drawing, number.saturating_add(100))?;
-    let mut to = joined(alloc, names, place)?;
-    to.extend_from_slice(&name)?;
-    tree.rename(&from, &to)?;
+    let renamed = rename_at(alloc, tree, names, place, &name);
     put(names, place, name);
-    Ok(())
+    renamed
+}
+
+/// Looks at a path in a directory, where nothing is.
+fn look_in(tree: &mut Tree, drawing: &mut Drawing, dir: &[u8], number: usize) -> Result<()> {
+    let path = drawing.path_in(dir, number)?;
+    tree.stat(&path)
+}
+
+/// A file from its begin to its end.
+fn use_file(alloc: Global, tree: &mut Tree, drawing: &mut Drawing, file: &[u8]) -> Result<()> {
+    tree.mknod(file)?;
+    tree.write(file, 0, drawing.content(alloc, 100)?)?;
+    tree.read(file, 0, 200)?;
+    tree.unlink(file)
+}
+
+fn use_new(
+    alloc: Global,
+    tree: &mut Tree,
+    drawing: &mut Drawing,
+    dir: &[u8],
+    number: usize,
+) -> Result<()> {
+    let file = drawing.path_in(dir, number)?;
+    use_file(alloc, tree, drawing, &file)
 }
 
 /// One call on a chain.
@@ -152,55 +211,79 @@ fn deep_once(
     let dir = joined(alloc, names, count)?;
     match drawing.below(100) {
         0..50 => tree.stat(&dir),
-        50..65 => tree.stat(&drawing.path_in(&dir, number)?),
+        50..65 => look_in(tree, drawing, &dir, number),
         65..75 => tree.readdir(&dir),
-        75..95 => {
-            let file = drawing.path_in(&dir, number)?;
-            tree.mknod(&file)?;
-            tree.write(&file, 0, drawing.content(alloc, 100)?)?;
-            tree.read(&file, 0, 200)?;
-            tree.unlink(&file)
-        }
+        75..95 => use_new(alloc, tree, drawing, &dir, number),
         _ => rename_one(alloc, tree, drawing, names, number),
     }
 }
 
-/// A chain of directories, each in the one before.
-pub fn deep(alloc: Global, drawing: &mut Drawing, calls: usize) -> Result<u64> {
-    let mut tree = Tree::new(alloc)?;
-    let mut names = Vec::new(alloc);
+/// Makes one more directory of a chain.
+fn add_dir(
+    alloc: Global,
+    tree: &mut Tree,
+    drawing: &mut Drawing,
+    names: &mut Vec<Vec<u8>>,
+    number: usize,
+) -> Result<()> {
+    names.push(short(alloc, drawing, number)?)?;
+    let dir = joined(alloc, names, number.saturating_add(1))?;
+    tree.mkdir(&dir)
+}
+
+fn deep_in(
+    alloc: Global,
+    tree: &mut Tree,
+    drawing: &mut Drawing,
+    names: &mut Vec<Vec<u8>>,
+    calls: usize,
+) -> Result<()> {
     for number in 0..between(drawing, LEAST_NAMES, MOST_NAMES) {
-        names.push(short(alloc, drawing, number)?)?;
-        tree.mkdir(&joined(alloc, &names, number.saturating_add(1))?)?;
+        add_dir(alloc, tree, drawing, names, number)?;
     }
     for number in 0..calls {
-        deep_once(alloc, &mut tree, drawing, &mut names, number)?;
+        deep_once(alloc, tree, drawing, names, number)?;
     }
-    tree.end()
+    Ok(())
+}
+
+/// A chain of directories, each in the one before.
+pub fn deep(alloc: Global, tree: &mut Tree, drawing: &mut Drawing, calls: usize) -> Result<()> {
+    let mut names = Vec::new(alloc);
+    deep_in(alloc, tree, drawing, &mut names, calls)
 }
 
 /// Writes a large file in pieces, and reads it back.
-fn large(alloc: Global, tree: &mut Tree, drawing: &mut Drawing, number: usize) -> Result<()> {
-    let path = drawing.path_in(b"", number)?;
-    tree.mknod(&path)?;
+fn write_pieces(alloc: Global, tree: &mut Tree, drawing: &mut Drawing, path: &[u8]) -> Result<()> {
     for piece in 0..PIECES {
-        tree.write(&path, piece * PIECE, drawing.content(alloc, PIECE)?)?;
+        tree.write(path, piece * PIECE, drawing.content(alloc, PIECE)?)?;
     }
     for _ in 0..PIECES {
-        tree.read(&path, drawing.below(65_536), PIECE)?;
+        tree.read(path, drawing.below(65_536), PIECE)?;
     }
-    tree.truncate(&path, drawing.below(65_536))?;
-    tree.write(&path, drawing.below(65_536), drawing.content(alloc, 1)?)?;
-    tree.unlink(&path)
+    Ok(())
+}
+
+/// A large file from its begin to its end.
+fn use_large(alloc: Global, tree: &mut Tree, drawing: &mut Drawing, path: &[u8]) -> Result<()> {
+    tree.mknod(path)?;
+    write_pieces(alloc, tree, drawing, path)?;
+    tree.truncate(path, drawing.below(65_536))?;
+    tree.write(path, drawing.below(65_536), drawing.content(alloc, 1)?)?;
+    tree.unlink(path)
+}
+
+fn large(alloc: Global, tree: &mut Tree, drawing: &mut Drawing, number: usize) -> Result<()> {
+    let path = drawing.path_in(b"", number)?;
+    use_large(alloc, tree, drawing, &path)
 }
 
 /// Large files, one after the other.
-pub fn pieces(alloc: Global, drawing: &mut Drawing, files: usize) -> Result<u64> {
-    let mut tree = Tree::new(alloc)?;
+pub fn pieces(alloc: Global, tree: &mut Tree, drawing: &mut Drawing, files: usize) -> Result<()> {
     for number in 0..files {
-        large(alloc, &mut tree, drawing, number)?;
+        large(alloc, tree, drawing, number)?;
     }
-    tree.end()
+    Ok(())
 }
 
 /// Moves one of the entries to a new name in a directory, where that has room.
@@ -219,14 +302,27 @@ fn move_one(
     Ok(())
 }
 
-/// Two directories between which entries move, both nearly full.
-pub fn moves(alloc: Global, drawing: &mut Drawing, calls: usize) -> Result<u64> {
-    let mut tree = Tree::new(alloc)?;
-    let dirs = [drawing.path_in(b"", 1)?, drawing.path_in(b"", 2)?];
-    let mut paths = full(alloc, &mut tree, drawing, &dirs[0], LEAST_ENTRIES)?;
-    paths.append(&mut full(alloc, &mut tree, drawing, &dirs[1], LEAST_ENTRIES)?)?;
-    for number in 0..calls {
-        move_one(&mut tree, drawing, &dirs[number % 2], &mut paths, number)?;
+/// Fills two directories, between which entries move.
+fn move_all(
+    tree: &mut Tree,
+    drawing: &mut Drawing,
+    dirs: [&[u8]; 2],
+    paths: &mut Vec<Vec<u8>>,
+    calls: usize,
+) -> Result<()> {
+    for dir in dirs {
+        fill(tree, drawing, dir, paths, LEAST_ENTRIES)?;
     }
-    tree.end()
+    for number in 0..calls {
+        move_one(tree, drawing, dirs[number % 2], paths, number)?;
+    }
+    Ok(())
+}
+
+/// Two directories between which entries move, both nearly full.
+pub fn moves(alloc: Global, tree: &mut Tree, drawing: &mut Drawing, calls: usize) -> Result<()> {
+    let one = drawing.path_in(b"", 1)?;
+    let other = drawing.path_in(b"", 2)?;
+    let mut paths = Vec::new(alloc);
+    move_all(tree, drawing, [&one, &other], &mut paths, calls)
 }

@@ -49,32 +49,44 @@ fn add_nodes(alloc: Global, core: &Core, digest: &mut Digest) -> Result<()> {
     Ok(())
 }
 
+/// Adds a reply. Whether it is that of a call that is done.
+fn is_done(digest: &mut Digest, reply: &Reply) -> bool {
+    digest.add_reply(reply);
+    matches!(reply, Reply::Done)
+}
+
 impl Tree {
-    /// The root alone.
+    /// The root alone, on a core that has no seat yet.
     pub fn new(alloc: Global) -> Result<Tree> {
-        let mut core = Core::new(alloc)?;
-        core.seat()?;
         Ok(Tree {
             alloc,
-            core,
+            core: Core::new(alloc)?,
             digest: Digest::new(),
         })
     }
 
-    /// A call, whose reply is answered.
-    fn reply(&mut self, call: Call) -> Result<Reply> {
-        match call_on(self.alloc, &mut self.core, &call) {
-            Some(reply) => {
-                self.digest.add_reply(&reply);
-                Ok(reply)
-            }
+    /// The seat on which calls run.
+    pub fn take_seat(&mut self) -> Result<()> {
+        self.core.seat()?;
+        Ok(())
+    }
+
+    /// A call, and whether it was done.
+    fn is_done(&mut self, call: &Call) -> Result<bool> {
+        match call_on(self.alloc, &mut self.core, call) {
+            Some(reply) => Ok(is_done(&mut self.digest, &reply)),
             None => bail!("a call that ran alone had no reply"),
         }
     }
 
+    /// The same of a call that is made for this.
+    fn run(&mut self, call: Call) -> Result<bool> {
+        self.is_done(&call)
+    }
+
     /// A call.
     fn call(&mut self, call: Call) -> Result<()> {
-        self.reply(call)?;
+        self.run(call)?;
         Ok(())
     }
 
@@ -102,11 +114,15 @@ impl Tree {
         self.call(Call::Rmdir(path))
     }
 
+    fn rename_of(&self, from: &[u8], to: &[u8]) -> Result<Call> {
+        let from = self.path(from)?;
+        Ok(Call::Rename(from, self.path(to)?))
+    }
+
     /// A rename, and whether it was done.
     pub fn rename(&mut self, from: &[u8], to: &[u8]) -> Result<bool> {
-        let from = self.path(from)?;
-        let to = self.path(to)?;
-        Ok(matches!(self.reply(Call::Rename(from, to))?, Reply::Done))
+        let call = self.rename_of(from, to)?;
+        self.run(call)
     }
 
     pub fn stat(&mut self, text: &[u8]) -> Result<()> {
@@ -135,7 +151,7 @@ impl Tree {
     }
 
     /// The digest of all replies and of the tree that is left.
-    pub fn end(mut self) -> Result<u64> {
+    pub fn end(&mut self) -> Result<u64> {
         add_nodes(self.alloc, &self.core, &mut self.digest)?;
         Ok(self.digest.value())
     }

@@ -18,7 +18,7 @@ use std::thread::Threads;
 use std::time::Clock;
 use texts::Names;
 use threads::Dirs;
-use workload_trees::{Digest, Drawing, sandbox, shapes};
+use workload_trees::{Digest, Drawing, Job};
 
 /// The jobs, and how many rounds each has.
 const JOBS: [(&str, usize); 5] = [
@@ -42,10 +42,14 @@ impl Size {
 /// Directories that are nearly full, a chain, large files, and entries that move about.
 fn do_shapes(alloc: Global, drawing: &mut Drawing, size: Size) -> Result<u64> {
     let mut digest = Digest::new();
-    digest.add(shapes::wide(alloc, drawing, size.of(4000))?);
-    digest.add(shapes::deep(alloc, drawing, size.of(2000))?);
-    digest.add(shapes::pieces(alloc, drawing, size.of(60))?);
-    digest.add(shapes::moves(alloc, drawing, size.of(3000))?);
+    for job in [
+        Job::Wide(size.of(4000)),
+        Job::Deep(size.of(2000)),
+        Job::Pieces(size.of(60)),
+        Job::Moves(size.of(3000)),
+    ] {
+        digest.add(workload_trees::run(alloc, drawing, job)?);
+    }
     Ok(digest.value())
 }
 
@@ -93,7 +97,7 @@ fn round<R: Threads + Wait + Clock + Sync>(
     size: Size,
 ) -> Result<u64> {
     match job {
-        "sandbox" => sandbox::run(alloc, drawing, size.of(2000)),
+        "sandbox" => workload_trees::run(alloc, drawing, Job::Sandbox(size.of(2000))),
         "shapes" => do_shapes(alloc, drawing, size),
         "texts" => do_texts(alloc, drawing, size),
         "threads" => do_threads(rt, alloc, drawing, size),

@@ -55,13 +55,18 @@ impl Draft {
         }
     }
 
-    fn moving(&mut self, drawing: &mut Drawing) -> Result<Call> {
-        let (place, from) = self.file(drawing)?;
+    /// A new path in the place of another one.
+    fn moved(&mut self, drawing: &mut Drawing, place: usize) -> Result<Path> {
         let text = self.fresh(drawing)?;
         let to = self.path(&text)?;
         self.forget(place);
         self.files.push(text)?;
-        Ok(Call::Rename(from, to))
+        Ok(to)
+    }
+
+    fn moving(&mut self, drawing: &mut Drawing) -> Result<Call> {
+        let (place, from) = self.file(drawing)?;
+        Ok(Call::Rename(from, self.moved(drawing, place)?))
     }
 
     fn removing(&mut self, drawing: &mut Drawing) -> Result<Call> {

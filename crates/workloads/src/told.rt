@@ -137,6 +137,34 @@ fn write_once<N: Named, R: Wait + Clock>(
     look(alloc, observer, digest, path)
 }
 
+/// The same of a write that is drawn.
+fn write_drawn<N: Named, R: Wait + Clock>(
+    rt: &R,
+    alloc: Global,
+    session: &mut Session<'_, N>,
+    observer: &mut Observer<'_, N>,
+    drawing: &mut Drawing,
+    path: &Path,
+    digest: &mut Digest,
+) -> Result<()> {
+    let call = write(alloc, drawing, path)?;
+    write_once(rt, alloc, session, observer, digest, path, &call)
+}
+
+/// The same of a file that is drawn.
+fn write_any<N: Named, R: Wait + Clock>(
+    rt: &R,
+    alloc: Global,
+    session: &mut Session<'_, N>,
+    observer: &mut Observer<'_, N>,
+    drawing: &mut Drawing,
+    files: &[Vec<u8>],
+    digest: &mut Digest,
+) -> Result<()> {
+    let path = one_of(alloc, drawing, files)?;
+    write_drawn(rt, alloc, session, observer, drawing, &path, digest)
+}
+
 /// So many told writes.
 fn writes<N: Named, R: Wait + Clock>(
     rt: &R,
@@ -148,9 +176,7 @@ fn writes<N: Named, R: Wait + Clock>(
     digest: &mut Digest,
 ) -> Result<()> {
     for _ in 0..calls {
-        let path = one_of(alloc, drawing, files)?;
-        let call = write(alloc, drawing, &path)?;
-        write_once(rt, alloc, session, observer, digest, &path, &call)?;
+        write_any(rt, alloc, session, observer, drawing, files, digest)?;
     }
     Ok(())
 }
@@ -179,6 +205,21 @@ fn run_on<N: Named, R: Wait + Clock>(
     Ok(digest.value())
 }
 
+/// The same by a new observer.
+fn observed<N: Named, R: Wait + Clock>(
+    rt: &R,
+    alloc: Global,
+    fs: &AtomFs<N>,
+    session: &mut Session<'_, N>,
+    drawing: &mut Drawing,
+    calls: usize,
+) -> Result<u64> {
+    match fs.observer(rt) {
+        Ok(mut observer) => run_on(rt, alloc, session, &mut observer, drawing, calls),
+        Err(_) => bail!("no place for an observer"),
+    }
+}
+
 fn on_tree<N: Named, R: Wait + Clock>(
     rt: &R,
     alloc: Global,
@@ -187,10 +228,7 @@ fn on_tree<N: Named, R: Wait + Clock>(
     calls: usize,
 ) -> Result<u64> {
     let mut session = fs.session(rt)?;
-    let Ok(mut observer) = fs.observer(rt) else {
-        bail!("no place for an observer");
-    };
-    run_on(rt, alloc, &mut session, &mut observer, drawing, calls)
+    observed(rt, alloc, fs, &mut session, drawing, calls)
 }
 
 /// The same on a tree of the name `N`, which keeps stamps of different trees apart.
