@@ -44,17 +44,27 @@ fn path(alloc: Global, text: &[u8]) -> Option<Path> {
     Path::parse(alloc, text).ok()
 }
 
-/// One session, from its begin to its end.
+/// Whether a call is answered.
+fn is_answered<N: Named, R: Wait + Clock>(
+    rt: &R,
+    alloc: Global,
+    session: &mut Session<'_, N>,
+    call: &Call,
+) -> bool {
+    session.call(rt, alloc, call, &Open).is_ok()
+}
+
+/// One session, from its begin to its end. Whether its call is answered.
 fn one_session<N: Named, R: Wait + Clock>(
     rt: &R,
     alloc: Global,
     fs: &AtomFs<N>,
     call: &Call,
-) -> Option<()> {
+) -> Option<bool> {
     let mut session = fs.session(rt).ok()?;
-    session.call(rt, alloc, call, &Open).ok()?;
+    let is_answered = is_answered(rt, alloc, &mut session, call);
     let _tally = session.end();
-    Some(())
+    Some(is_answered)
 }
 
 /// One run of a pool, of one job by one worker.
@@ -69,23 +79,40 @@ fn one_run<N: Named + Send + Sync, R: Threads + Wait + Clock + Sync>(
     pool.run(rt, alloc, fs, 1, &Open).ok()
 }
 
-/// A directory is made, and goes there and back.
-fn rename<N: Named, R: Wait + Clock>(
+fn rename_call(alloc: Global, from: &[u8], to: &[u8]) -> Option<Call> {
+    let from = path(alloc, from)?;
+    Some(Call::Rename(from, path(alloc, to)?))
+}
+
+/// The calls by which a directory is made, and goes there and back.
+fn calls(alloc: Global) -> Option<Vec<Call>> {
+    let mut calls = Vec::new(alloc);
+    calls.push(Call::Mkdir(path(alloc, b"/a")?)).ok()?;
+    calls.push(rename_call(alloc, b"/a", b"/b")?).ok()?;
+    calls.push(rename_call(alloc, b"/b", b"/a")?).ok()?;
+    Some(calls)
+}
+
+/// Makes these calls, those behind the first so many times. Whether each is answered.
+fn are_answered<N: Named, R: Wait + Clock>(
     rt: &R,
     alloc: Global,
     session: &mut Session<'_, N>,
-    pairs: u32,
-) -> Option<()> {
-    let (one, other) = (path(alloc, b"/a")?, path(alloc, b"/b")?);
-    let made = Call::Mkdir(one.copy().ok()?);
-    let there = Call::Rename(one.copy().ok()?, other.copy().ok()?);
-    let back = Call::Rename(other, one);
-    session.call(rt, alloc, &made, &Open).ok()?;
-    for _ in 0..pairs {
-        session.call(rt, alloc, &there, &Open).ok()?;
-        session.call(rt, alloc, &back, &Open).ok()?;
+    calls: &[Call],
+    times: u32,
+) -> bool {
+    let [made, there, back] = calls else {
+        return false;
+    };
+    if !is_answered(rt, alloc, session, made) {
+        return false;
     }
-    Some(())
+    for _ in 0..times {
+        if !(is_answered(rt, alloc, session, there) && is_answered(rt, alloc, session, back)) {
+            return false;
+        }
+    }
+    true
 }
 
 /// Renames by one session more: how many calls it had answered.
@@ -95,9 +122,38 @@ fn renames<N: Named, R: Wait + Clock>(
     fs: &AtomFs<N>,
     pairs: u32,
 ) -> Option<u64> {
+    let calls = calls(alloc)?;
     let mut session = fs.session(rt).ok()?;
-    rename(rt, alloc, &mut session, pairs)?;
-    Some(session.count())
+    let are_answered = are_answered(rt, alloc, &mut session, &calls, pairs);
+    let count = session.count();
+    are_answered.then_some(count)
+}
+
+/// Sessions that end.
+fn end_sessions<N: Named, R: Wait + Clock>(
+    rt: &R,
+    alloc: Global,
+    fs: &AtomFs<N>,
+    call: &Call,
+    times: u32,
+) -> Option<bool> {
+    for _ in 0..times {
+        if !one_session(rt, alloc, fs, call)? {
+            return Some(false);
+        }
+    }
+    Some(true)
+}
+
+/// The same, each with a look at the root.
+fn look_and_end<N: Named, R: Wait + Clock>(
+    rt: &R,
+    alloc: Global,
+    fs: &AtomFs<N>,
+    times: u32,
+) -> Option<bool> {
+    let call = Call::Stat(path(alloc, b"/")?);
+    end_sessions(rt, alloc, fs, &call, times)
 }
 
 /// Sessions that end, and then renames.
@@ -107,11 +163,11 @@ fn behind_sessions<N: Named, R: Wait + Clock>(
     fs: &AtomFs<N>,
     sessions: &Sessions,
 ) -> Option<u64> {
-    let call = Call::Stat(path(alloc, b"/")?);
-    for _ in 0..sessions.times {
-        one_session(rt, alloc, fs, &call)?;
+    if look_and_end(rt, alloc, fs, sessions.times)? {
+        renames(rt, alloc, fs, sessions.pairs)
+    } else {
+        None
     }
-    renames(rt, alloc, fs, sessions.pairs)
 }
 
 impl Inside for Sessions {
@@ -127,6 +183,33 @@ impl Inside for Sessions {
     }
 }
 
+/// Runs of a pool.
+fn run_pool<N: Named + Send + Sync, R: Threads + Wait + Clock + Sync>(
+    rt: &R,
+    alloc: Global,
+    fs: &AtomFs<N>,
+    pool: &mut Pool<N>,
+    call: &Call,
+    times: u32,
+) -> Option<()> {
+    for _ in 0..times {
+        one_run(rt, alloc, fs, pool, call)?;
+    }
+    Some(())
+}
+
+/// The same of a new pool, each with a look at the root.
+fn look_by_pool<N: Named + Send + Sync, R: Threads + Wait + Clock + Sync>(
+    rt: &R,
+    alloc: Global,
+    fs: &AtomFs<N>,
+    times: u32,
+) -> Option<()> {
+    let mut pool = Pool::<N>::new(rt, alloc, 1).ok()?;
+    let call = Call::Stat(path(alloc, b"/")?);
+    run_pool(rt, alloc, fs, &mut pool, &call, times)
+}
+
 /// Runs of a pool, and then renames.
 fn behind_runs<N: Named + Send + Sync, R: Threads + Wait + Clock + Sync>(
     rt: &R,
@@ -134,11 +217,7 @@ fn behind_runs<N: Named + Send + Sync, R: Threads + Wait + Clock + Sync>(
     fs: &AtomFs<N>,
     runs: Runs,
 ) -> Option<u64> {
-    let call = Call::Stat(path(alloc, b"/")?);
-    let mut pool = Pool::<N>::new(rt, alloc, 1).ok()?;
-    for _ in 0..runs.times {
-        one_run(rt, alloc, fs, &mut pool, &call)?;
-    }
+    look_by_pool(rt, alloc, fs, runs.times)?;
     renames(rt, alloc, fs, runs.pairs)
 }
 

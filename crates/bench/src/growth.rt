@@ -25,6 +25,11 @@ fn path(alloc: Global, file: usize, names: usize) -> Result<Path> {
     Ok(Path::parse(alloc, &text)?)
 }
 
+/// Whether a step is the return of a call.
+fn is_return(stepped: Stepped) -> bool {
+    matches!(stepped, Stepped::Returned(_))
+}
+
 /// How many events a call has from its begin to its return.
 fn events(alloc: Global, core: &mut Core, call: &Call) -> usize {
     let seat = SeatNo::new(0);
@@ -32,30 +37,26 @@ fn events(alloc: Global, core: &mut Core, call: &Call) -> usize {
         return 0;
     }
     for before in 0..MOST_EVENTS {
-        if core.seats() > 0 {
-            if let Stepped::Returned(_) = core.step(seat) {
-                return before + 1;
-            }
+        if core.seats() > 0 && is_return(core.step(seat)) {
+            return before + 1;
         }
     }
     0
 }
 
-fn mkdir(alloc: Global, core: &mut Core, path: Path) -> usize {
-    events(alloc, core, &Call::Mkdir(path))
-}
-
-fn mknod(alloc: Global, core: &mut Core, path: Path) -> usize {
-    events(alloc, core, &Call::Mknod(path))
+/// The same of a call that is made for this.
+fn made(alloc: Global, core: &mut Core, call: Call) -> usize {
+    events(alloc, core, &call)
 }
 
 /// Makes the directories of a file, where they are not there yet, and the file, and answers how many events that took.
 fn make(alloc: Global, core: &mut Core, file: usize) -> Result<usize> {
     let mut all = 0usize;
     for names in 1..WEIGHTS.len() {
-        all = all.saturating_add(mkdir(alloc, core, path(alloc, file, names)?));
+        all = all.saturating_add(made(alloc, core, Call::Mkdir(path(alloc, file, names)?)));
     }
-    Ok(all.saturating_add(mknod(alloc, core, path(alloc, file, WEIGHTS.len())?)))
+    let last = Call::Mknod(path(alloc, file, WEIGHTS.len())?);
+    Ok(all.saturating_add(made(alloc, core, last)))
 }
 
 /// At how many entries is looked on the way to a file.

@@ -19,8 +19,8 @@ fn file(alloc: Global) -> Option<Path> {
 }
 
 fn written(alloc: Global) -> Option<Call> {
-    let bytes = Vec::from_slice(alloc, [b'x'; 32].as_slice()).ok()?;
-    Some(Call::Write(file(alloc)?, 0, Bytes::new(bytes)))
+    let bytes = Bytes::new(Vec::from_slice(alloc, [b'x'; 32].as_slice()).ok()?);
+    Some(Call::Write(file(alloc)?, 0, bytes))
 }
 
 fn mkdir(alloc: Global, text: &[u8]) -> Option<Call> {
@@ -31,51 +31,111 @@ fn mknod(alloc: Global) -> Option<Call> {
     Some(Call::Mknod(file(alloc)?))
 }
 
-/// Makes a call that is told, if it has a stamp.
-fn tell_of<N: Named, R: Wait + Clock>(
+/// The calls that make the file.
+fn makings(alloc: Global) -> Option<Vec<Call>> {
+    let mut calls = Vec::new(alloc);
+    calls.push(mkdir(alloc, b"/a")?).ok()?;
+    calls.push(mkdir(alloc, b"/a/b")?).ok()?;
+    calls.push(mknod(alloc)?).ok()?;
+    calls.push(written(alloc)?).ok()?;
+    Some(calls)
+}
+
+/// Makes a call that is told. Whether it has a stamp.
+fn is_told<N: Named, R: Wait + Clock>(
     rt: &R,
     alloc: Global,
     session: &mut Session<'_, N>,
     call: &Call,
-) -> Option<()> {
-    let told = session.call_told(rt, alloc, call, &Open).ok()?;
-    if told.stamp.is_some() { Some(()) } else { None }
+) -> bool {
+    match session.call_told(rt, alloc, call, &Open) {
+        Ok(told) => told.stamp.is_some(),
+        Err(_) => false,
+    }
 }
 
-fn tell<N: Named, R: Wait + Clock>(
+/// Makes calls that are told, as far as they have stamps. Whether all have.
+fn are_told<N: Named, R: Wait + Clock>(
     rt: &R,
     alloc: Global,
     session: &mut Session<'_, N>,
-    call: Option<Call>,
-) -> Option<()> {
-    tell_of(rt, alloc, session, &call?)
+    calls: &[Call],
+) -> bool {
+    for call in calls {
+        if !is_told(rt, alloc, session, call) {
+            return false;
+        }
+    }
+    true
+}
+
+/// The same by a session of its own.
+fn tells<N: Named, R: Wait + Clock>(rt: &R, alloc: Global, fs: &AtomFs<N>, calls: &[Call]) -> bool {
+    match fs.session(rt) {
+        Ok(mut session) => are_told(rt, alloc, &mut session, calls),
+        Err(_) => false,
+    }
 }
 
 /// Makes the file.
-fn make<N: Named, R: Wait + Clock>(rt: &R, alloc: Global, fs: &AtomFs<N>) -> Option<()> {
-    let mut session = fs.session(rt).ok()?;
-    tell(rt, alloc, &mut session, mkdir(alloc, b"/a"))?;
-    tell(rt, alloc, &mut session, mkdir(alloc, b"/a/b"))?;
-    tell(rt, alloc, &mut session, mknod(alloc))?;
-    tell(rt, alloc, &mut session, written(alloc))
+fn make<N: Named, R: Wait + Clock>(rt: &R, alloc: Global, fs: &AtomFs<N>) -> Option<bool> {
+    let calls = makings(alloc)?;
+    Some(tells(rt, alloc, fs, &calls))
+}
+
+/// A write to the file, told.
+fn writes_once<N: Named, R: Wait + Clock>(
+    rt: &R,
+    alloc: Global,
+    session: &mut Session<'_, N>,
+) -> Option<bool> {
+    let call = written(alloc)?;
+    Some(is_told(rt, alloc, session, &call))
 }
 
 /// Writes to the file, told each time, until no observer reads any more.
+fn writes_by<N: Named, R: Wait + Clock>(
+    rt: &R,
+    alloc: Global,
+    session: &mut Session<'_, N>,
+    reading: &AtomicU64,
+) -> Option<()> {
+    for _ in 0..u64::MAX {
+        if reading.load(Ordering::SeqCst) == 0 {
+            break;
+        }
+        if !writes_once(rt, alloc, session)? {
+            return None;
+        }
+        thread::sleep(rt, Duration::from_micros(PAUSE));
+    }
+    Some(())
+}
+
+/// The same by a session of its own.
 fn writes<N: Named, R: Wait + Clock>(
     rt: &R,
     alloc: Global,
     fs: &AtomFs<N>,
     reading: &AtomicU64,
 ) -> Option<()> {
-    let mut session = fs.session(rt).ok()?;
-    for _ in 0..u64::MAX {
-        if reading.load(Ordering::SeqCst) == 0 {
-            break;
-        }
-        tell(rt, alloc, &mut session, written(alloc))?;
-        thread::sleep(rt, Duration::from_micros(PAUSE));
+    match fs.session(rt) {
+        Ok(mut session) => writes_by(rt, alloc, &mut session, reading),
+        Err(_) => None,
     }
-    Some(())
+}
+
+/// Whether a stat answers 32 bytes.
+fn stats<N: Named>(alloc: Global, observer: &mut Observer<'_, N>, path: &Path) -> bool {
+    matches!(observer.stat(alloc, path), Ok(Reply::Stat(Kind::File, 32)))
+}
+
+/// Whether a read answers 32 bytes.
+fn reads<N: Named>(alloc: Global, observer: &mut Observer<'_, N>, path: &Path) -> bool {
+    match observer.read(alloc, path, 0, 64) {
+        Ok(Reply::Bytes(bytes)) => bytes.as_slice().len() == 32,
+        _ => false,
+    }
 }
 
 /// A stat or a read of the file, in turn. Whether it answers 32 bytes.
@@ -84,14 +144,11 @@ fn reads_once<N: Named>(
     observer: &mut Observer<'_, N>,
     path: &Path,
     number: u64,
-) -> Option<bool> {
+) -> bool {
     if number % 2 == 0 {
-        let reply = observer.stat(alloc, path).ok()?;
-        return Some(matches!(reply, Reply::Stat(Kind::File, 32)));
-    }
-    match observer.read(alloc, path, 0, 64).ok()? {
-        Reply::Bytes(bytes) => Some(bytes.as_slice().len() == 32),
-        _ => Some(false),
+        stats(alloc, observer, path)
+    } else {
+        reads(alloc, observer, path)
     }
 }
 
@@ -103,7 +160,7 @@ fn reads_by<N: Named>(
     reads: u64,
 ) -> Option<()> {
     for number in 0..reads {
-        if !reads_once(alloc, observer, path, number)? {
+        if !reads_once(alloc, observer, path, number) {
             return None;
         }
     }
@@ -113,8 +170,10 @@ fn reads_by<N: Named>(
 /// The same by an observer of a tree.
 fn reads_all<N: Named, R: Wait>(rt: &R, alloc: Global, fs: &AtomFs<N>, reads: u64) -> Option<()> {
     let path = file(alloc)?;
-    let mut observer = fs.observer(rt).ok()?;
-    reads_by(alloc, &mut observer, &path, reads)
+    match fs.observer(rt) {
+        Ok(mut observer) => reads_by(alloc, &mut observer, &path, reads),
+        Err(_) => None,
+    }
 }
 
 /// The writer's part, which has number 0, or an observer's.
@@ -141,7 +200,9 @@ pub fn timed<N: Named + Send + Sync, R: Threads + Wait + Clock + Sync>(
     observers: u64,
     reads: u64,
 ) -> Option<Duration> {
-    make(rt, alloc, fs)?;
+    if !make(rt, alloc, fs)? {
+        return None;
+    }
     let reading = AtomicU64::new(observers);
     let threads = (observers as usize).checked_add(1)?;
     let start = Instant::now(rt).ok()?;

@@ -17,14 +17,6 @@ pub struct Drawn {
     pub nodes: usize,
 }
 
-impl Drawn {
-    /// One more call, with its reply.
-    fn push(&mut self, call: Call, reply: Reply) -> Result<()> {
-        self.calls.push(call)?;
-        Ok(self.replies.push(reply)?)
-    }
-}
-
 /// The text of a path.
 type Text = Vec<u8>;
 
@@ -118,18 +110,17 @@ impl Workload {
         Ok(Bytes::new(bytes))
     }
 
-    /// Calls that look at a node.
-    fn looking(&mut self, roll: u32) -> Result<(Call, Edit)> {
-        let call = if roll < 22 {
-            Call::Stat(self.file()?.1)
+    /// A call that looks at a node.
+    fn look(&mut self, roll: u32) -> Result<Call> {
+        if roll < 22 {
+            Ok(Call::Stat(self.file()?.1))
         } else if roll < 28 {
-            Call::Stat(self.dir()?.1)
+            Ok(Call::Stat(self.dir()?.1))
         } else if roll < 50 {
-            Call::Read(self.file()?.1, 0, 4096)
+            Ok(Call::Read(self.file()?.1, 0, 4096))
         } else {
-            Call::Readdir(self.dir()?.1)
-        };
-        Ok((self.or_exchange(call)?, Edit::Nothing))
+            Ok(Call::Readdir(self.dir()?.1))
+        }
     }
 
     /// A known file, for an exchange.
@@ -139,65 +130,89 @@ impl Workload {
         path_at(self.alloc, &self.files, place)
     }
 
-    /// A call that looks; of sixteen one is an exchange of two known files in its place.
-    fn or_exchange(&mut self, look: Call) -> Result<Call> {
-        if self.pairs.next_u32() % 16 != 0 {
-            return Ok(look);
-        }
+    /// An exchange of two known files.
+    fn exchange(&mut self) -> Result<Call> {
         let one = self.either()?;
         Ok(Call::Exchange(one, self.either()?))
     }
 
-    /// Calls that change the bytes of a file.
-    fn writing(&mut self, roll: u32) -> Result<(Call, Edit)> {
+    /// A call that looks; of sixteen one is an exchange of two known files in its place.
+    fn looking(&mut self, roll: u32, calls: &mut Vec<Call>) -> Result<Edit> {
+        calls.push(self.look(roll)?)?;
+        if self.pairs.next_u32() % 16 == 0 {
+            calls.truncate(calls.len().saturating_sub(1));
+            calls.push(self.exchange()?)?;
+        }
+        Ok(Edit::Nothing)
+    }
+
+    /// A call that changes the bytes of a file.
+    fn write(&mut self, roll: u32) -> Result<Call> {
         let path = self.file()?.1;
         let offset = u64::from(self.random.next_u32() % MOST_BYTES);
-        let call = if roll < 73 {
-            Call::Write(path, offset, self.bytes()?)
+        if roll < 73 {
+            Ok(Call::Write(path, offset, self.bytes()?))
         } else {
-            Call::Truncate(path, offset)
-        };
-        Ok((call, Edit::Nothing))
+            Ok(Call::Truncate(path, offset))
+        }
+    }
+
+    fn writing(&mut self, roll: u32, calls: &mut Vec<Call>) -> Result<Edit> {
+        calls.push(self.write(roll)?)?;
+        Ok(Edit::Nothing)
+    }
+
+    /// A file or a directory is made.
+    fn making(&mut self, of_dir: bool, calls: &mut Vec<Call>) -> Result<Edit> {
+        let text = self.fresh()?;
+        let path = Path::parse(self.alloc, &text)?;
+        if of_dir {
+            calls.push(Call::Mkdir(path))?;
+            Ok(Edit::AddDir(text))
+        } else {
+            calls.push(Call::Mknod(path))?;
+            Ok(Edit::AddFile(text))
+        }
+    }
+
+    fn unlinking(&mut self, calls: &mut Vec<Call>) -> Result<Edit> {
+        let (place, path) = self.file()?;
+        calls.push(Call::Unlink(path))?;
+        Ok(Edit::RemoveFile(place))
+    }
+
+    fn renaming(&mut self, calls: &mut Vec<Call>) -> Result<Edit> {
+        let (place, path) = self.file()?;
+        let text = self.fresh()?;
+        calls.push(Call::Rename(path, Path::parse(self.alloc, &text)?))?;
+        Ok(Edit::MoveFile(place, text))
+    }
+
+    fn removing(&mut self, calls: &mut Vec<Call>) -> Result<Edit> {
+        let (place, path) = self.dir()?;
+        calls.push(Call::Rmdir(path))?;
+        Ok(Edit::RemoveDir(place))
     }
 
     /// Calls that make, remove or move a node.
-    fn changing(&mut self, roll: u32) -> Result<(Call, Edit)> {
-        if roll < 84 {
-            let text = self.fresh()?;
-            Ok((
-                Call::Mknod(Path::parse(self.alloc, &text)?),
-                Edit::AddFile(text),
-            ))
-        } else if roll < 90 {
-            let (place, path) = self.file()?;
-            Ok((Call::Unlink(path), Edit::RemoveFile(place)))
-        } else if roll < 94 {
-            let text = self.fresh()?;
-            Ok((
-                Call::Mkdir(Path::parse(self.alloc, &text)?),
-                Edit::AddDir(text),
-            ))
-        } else if roll < 98 {
-            let (place, path) = self.file()?;
-            let text = self.fresh()?;
-            let to = Path::parse(self.alloc, &text)?;
-            Ok((Call::Rename(path, to), Edit::MoveFile(place, text)))
-        } else {
-            let (place, path) = self.dir()?;
-            Ok((Call::Rmdir(path), Edit::RemoveDir(place)))
+    fn changing(&mut self, roll: u32, calls: &mut Vec<Call>) -> Result<Edit> {
+        match roll {
+            0..84 => self.making(false, calls),
+            84..90 => self.unlinking(calls),
+            90..94 => self.making(true, calls),
+            94..98 => self.renaming(calls),
+            _ => self.removing(calls),
         }
     }
 
     /// The next call, by shares of a hundred: stat 28, read 22, readdir 7, write 16, truncate 3, mknod 8, unlink 6,
     /// mkdir 4, rename 4, rmdir 2; of the first three now and then an exchange in place.
-    fn next(&mut self) -> Result<(Call, Edit)> {
+    fn next(&mut self, calls: &mut Vec<Call>) -> Result<Edit> {
         let roll = self.random.next_u32() % 100;
-        if roll < 57 {
-            self.looking(roll)
-        } else if roll < 76 {
-            self.writing(roll)
-        } else {
-            self.changing(roll)
+        match roll {
+            0..57 => self.looking(roll, calls),
+            57..76 => self.writing(roll, calls),
+            _ => self.changing(roll, calls),
         }
     }
 
@@ -217,20 +232,24 @@ impl Workload {
         Ok(())
     }
 
-    /// Does a call on the tree, and keeps what it changes where it is done.
-    fn apply(&mut self, call: &Call, edit: Edit) -> Result<Reply> {
+    /// Does the last call on the tree. Whether it is done.
+    fn apply(&mut self, drawn: &mut Drawn) -> Result<bool> {
+        let Some(call) = drawn.calls.last() else {
+            return Ok(false);
+        };
         let reply = self.tree.apply(self.alloc, call)?;
-        if matches!(reply, Reply::Done) {
-            self.note(edit)?;
-        }
-        Ok(reply)
+        let is_done = matches!(reply, Reply::Done);
+        drawn.replies.push(reply)?;
+        Ok(is_done)
     }
 
-    /// Draws one more call.
+    /// Draws one more call, and keeps what it changes where it is done.
     fn draw_one(&mut self, drawn: &mut Drawn) -> Result<()> {
-        let (call, edit) = self.next()?;
-        let reply = self.apply(&call, edit)?;
-        drawn.push(call, reply)
+        let edit = self.next(&mut drawn.calls)?;
+        if self.apply(drawn)? {
+            self.note(edit)?;
+        }
+        Ok(())
     }
 }
 
