@@ -155,11 +155,26 @@ fn starts_there(alloc: Global, closed: &Closed) -> Option<bool> {
     Some(first && matches!(verdict, Verdict::Lawful) && !is_lawful(alloc, entries)?)
 }
 
+/// Whether the entries up to the first time are those of the first two sessions, there were none up to the second, and what
+/// follows is that of the last two.
+fn are_pieces(alloc: Global, entries: &[Entry], none: usize, closed: &Closed) -> Option<bool> {
+    let counts = entries.len() == 15 && none == 0 && has_counts(closed, 2, 12);
+    Some(counts && is_lawful(alloc, entries)? && starts_there(alloc, closed)?)
+}
+
+/// The same by the calls of a script.
+fn are_lawful_of<R: Threads + Wait + Clock + Sync>(
+    rt: &R,
+    alloc: Global,
+    lists: &CallLists,
+) -> Option<bool> {
+    let (opened, blank) = (Opened::new(), Blank::new(1 << 63));
+    let (entries, none, ended) = play_on::<Brand, R>(rt, alloc, opened, blank, lists)?;
+    are_pieces(alloc, &entries, none, &ended.closed)
+}
+
 /// Whether each piece has the calls of its own sessions, and is lawful from its start tree.
 pub fn are_lawful<R: Threads + Wait + Clock + Sync>(rt: &R, alloc: Global) -> Option<bool> {
     let lists = lists_of(alloc, CALLS)?;
-    let (opened, blank) = (Opened::new(), Blank::new(1 << 63));
-    let (entries, none, ended) = play_on::<Brand, R>(rt, alloc, opened, blank, &lists)?;
-    let counts = entries.len() == 15 && none == 0 && has_counts(&ended.closed, 2, 12);
-    Some(counts && is_lawful(alloc, &entries)? && starts_there(alloc, &ended.closed)?)
+    are_lawful_of(rt, alloc, &lists)
 }

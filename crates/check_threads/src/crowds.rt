@@ -54,6 +54,16 @@ fn is_whole(alloc: Global, lists: &[Vec<Call>], closed: &Closed) -> Option<bool>
     Some(counts && are_played(closed.timeline.entries(), lists) && is_played(alloc, closed)?)
 }
 
+/// Whether one run of a crowd is so.
+fn runs_once<R: Threads + Wait + Clock + Sync>(
+    rt: &R,
+    alloc: Global,
+    lists: &[Vec<Call>],
+) -> Option<bool> {
+    let closed = run_lists(rt, alloc, lists, &Open).ok()?;
+    is_whole(alloc, lists, &closed)
+}
+
 /// Whether each run of a crowd is so.
 fn are_whole<R: Threads + Wait + Clock + Sync>(
     rt: &R,
@@ -61,8 +71,7 @@ fn are_whole<R: Threads + Wait + Clock + Sync>(
     lists: &[Vec<Call>],
 ) -> Option<bool> {
     for _ in 0..TIMES {
-        let closed = run_lists(rt, alloc, lists, &Open).ok()?;
-        if !is_whole(alloc, lists, &closed)? {
+        if !runs_once(rt, alloc, lists)? {
             return Some(false);
         }
     }

@@ -67,13 +67,18 @@ fn exchange(alloc: Global, random: &mut Pcg32) -> Option<Call> {
     Some(Call::Exchange(path, other))
 }
 
-fn write(alloc: Global, random: &mut Pcg32, path: Path) -> Option<Call> {
-    let offset = u64::from(below(random, 8));
+/// Up to five letters.
+fn letters(alloc: Global, random: &mut Pcg32) -> Option<Bytes> {
     let mut bytes = Vec::new(alloc);
     for _ in 0..below(random, 6) {
         bytes.push(letter(random)).ok()?;
     }
-    Some(Call::Write(path, offset, Bytes::new(bytes)))
+    Some(Bytes::new(bytes))
+}
+
+fn write(alloc: Global, random: &mut Pcg32, path: Path) -> Option<Call> {
+    let offset = u64::from(below(random, 8));
+    Some(Call::Write(path, offset, letters(alloc, random)?))
 }
 
 /// A call, by shares of a hundred: mkdir 26, rename 22, mknod 12, exchange and write 8 each, unlink, rmdir and stat 4 each,

@@ -108,8 +108,8 @@ fn meet_on<N: Named + Send + Sync, R: Threads + Wait + Clock + Sync>(
     parts: Parts<'_>,
     gate: &Holds,
 ) -> Option<Sessions<N>> {
-    let made = play(rt, alloc, fs, parts.made, &Open);
-    let mut sessions = thread::map_indices(
+    let mut sessions = vec![in alloc; play(rt, alloc, fs, parts.made, &Open)].ok()?;
+    let met = thread::map_indices(
         rt,
         alloc,
         2,
@@ -117,9 +117,8 @@ fn meet_on<N: Named + Send + Sync, R: Threads + Wait + Clock + Sync>(
             0 => held(rt, alloc, fs, parts.held, gate),
             _ => other(rt, alloc, fs, parts.other, gate),
         },
-    )
-    .ok()?;
-    sessions.push(made).ok()?;
+    );
+    sessions.append(&mut met.ok()?).ok()?;
     Some(sessions)
 }
 
@@ -154,7 +153,7 @@ impl Both {
     /// The answers of the held call and of the other one.
     pub fn answers(&self) -> Option<(&Answer, &Answer)> {
         let answers = self.ended.answers.as_slice();
-        Some((answers.first()?.first()?, answers.get(1)?.first()?))
+        Some((answers.get(1)?.first()?, answers.get(2)?.first()?))
     }
 }
 
@@ -261,6 +260,7 @@ fn has_helped(both: &Both, moved: &Path) -> Option<bool> {
 
 /// Whether a rename commits a held call below it ahead of itself and returns, and the call finishes in the moved tree.
 pub fn rename_helps<R: Threads + Wait + Clock + Sync>(rt: &R, alloc: Global) -> Option<bool> {
+    let moved = path(alloc, b"/b/d/x")?;
     let both = meet_script(rt, alloc, HELP, 5)?;
-    has_helped(&both, &path(alloc, b"/b/d/x")?)
+    has_helped(&both, &moved)
 }
