@@ -31,6 +31,24 @@ const AFTER: &[Step] = &[
     Step::Counts(1),
 ];
 
+/// Whether the first stamp of the new tree shows what was made before.
+fn shows_first<N: Named, R: Wait + Clock>(
+    rt: &R,
+    alloc: Global,
+    fs: &AtomFs<N>,
+    first: &Stamp<N>,
+) -> Option<bool> {
+    match fs.observer(rt) {
+        Ok(mut observer) => shows_after(alloc, &mut observer, first, b"/a", Sight::EmptyDir),
+        Err(_) => None,
+    }
+}
+
+/// Both, where both were found out.
+fn both(one: Option<bool>, other: Option<bool>) -> Option<bool> {
+    Some(one? && other?)
+}
+
 /// Whether the new tree is shown from the first on, to an observer too that learns its first stamp.
 fn goes_on<N: Named, R: Wait + Clock>(
     rt: &R,
@@ -38,14 +56,8 @@ fn goes_on<N: Named, R: Wait + Clock>(
     fs: &AtomFs<N>,
     first: &Stamp<N>,
 ) -> Option<bool> {
-    let shown = shows_after(
-        alloc,
-        &mut fs.observer(rt).ok()?,
-        first,
-        b"/a",
-        Sight::EmptyDir,
-    )?;
-    Some(shown && comes_out(rt, alloc, fs, AFTER)?)
+    let shown = shows_first(rt, alloc, fs, first);
+    both(shown, comes_out(rt, alloc, fs, AFTER))
 }
 
 /// Whether the new tree is shown, has a session of its own, and followed two calls. It is ended.
@@ -59,7 +71,18 @@ fn ends_well<N: Named, R: Wait + Clock>(
     let shown = goes_on(rt, alloc, &fs, first);
     let closed = fs.close(rt, Vec::new(alloc));
     let counts = (entries.len(), closed.timeline.entries().len());
-    Some(shown? && counts == (6, 3) && closed.sessions == 1)
+    both(shown, Some(counts == (6, 3) && closed.sessions == 1))
+}
+
+/// Ends a tree that did not begin again.
+fn give_up<N: Named, R: Wait>(rt: &R, left: NotKept<N>) {
+    let NotKept {
+        fs,
+        tallies,
+        blank: _blank,
+        why: _why,
+    } = left;
+    let _closed = fs.close(rt, tallies);
 }
 
 /// A tree begins again under another name. Whether its observers show what was made before, and what is made behind.
@@ -78,18 +101,9 @@ fn begins_again<N: Named, M: Named, R: Wait + Clock>(
     let before = comes_out(rt, alloc, &fs, BEFORE);
     let told = fs.first(rt);
     match fs.checkpoint_told::<M, R>(rt, alloc, Vec::new(alloc), &told, opened, blank) {
-        Ok((fs, entries, first)) => {
-            let after = ends_well(rt, alloc, fs, &entries, &first);
-            Some(before? && after?)
-        }
+        Ok((fs, entries, first)) => both(before, ends_well(rt, alloc, fs, &entries, &first)),
         Err(left) => {
-            let NotKept {
-                fs,
-                tallies,
-                blank: _blank,
-                why: _why,
-            } = left;
-            let _closed = fs.close(rt, tallies);
+            give_up(rt, left);
             None
         }
     }

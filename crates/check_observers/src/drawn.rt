@@ -35,16 +35,18 @@ fn drawn_path(alloc: Global, random: &mut Pcg32) -> Option<Path> {
     }
 }
 
+fn write_call(alloc: Global, path: Path) -> Option<Call> {
+    let bytes = Bytes::new(Vec::from_slice(alloc, b"hi").ok()?);
+    Some(Call::Write(path, 0, bytes))
+}
+
 fn drawn_call(alloc: Global, random: &mut Pcg32) -> Option<Call> {
     let path = drawn_path(alloc, random)?;
     match random.next_u32() % 9 {
         0..3 => Some(Call::Mkdir(path)),
         3 => Some(Call::Mknod(path)),
         4 => Some(Call::Rename(path, drawn_path(alloc, random)?)),
-        5 => {
-            let bytes = Vec::from_slice(alloc, b"hi").ok()?;
-            Some(Call::Write(path, 0, Bytes::new(bytes)))
-        }
+        5 => write_call(alloc, path),
         6 => Some(Call::Unlink(path)),
         7 => Some(Call::Exchange(path, drawn_path(alloc, random)?)),
         _ => Some(Call::Rmdir(path)),
