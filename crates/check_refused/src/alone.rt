@@ -90,10 +90,15 @@ impl Again {
         }
     }
 
+    /// The rows of a copy of a tree.
+    fn rows_of_copy(&mut self, tree: &SeqTree) -> Result<Vec<Row>, AllocError> {
+        let copy = self.copy(tree)?;
+        self.rows(&copy)
+    }
+
     /// A copy of a tree, told as rows and made of these again.
     fn same_tree(&mut self, tree: &SeqTree) -> anyhow::Result<SeqTree> {
-        let copy = self.copy(tree)?;
-        let rows = self.rows(&copy)?;
+        let rows = self.rows_of_copy(tree)?;
         match self.from_rows(&rows) {
             Ok(same) => Ok(same),
             Err(_) => bail!("rows of a tree that make none"),
@@ -138,17 +143,39 @@ fn look(rt: &impl Print, again: &mut Again, tree: &SeqTree, call: &Call) -> anyh
     Ok(show(rt, &reply)?)
 }
 
-/// Applies calls to a tree, and then looks at a tree that is made of the rows of a copy. It answers how often memory was
-/// refused.
+/// Looks at a tree by each call.
+fn look_all(
+    rt: &impl Print,
+    again: &mut Again,
+    tree: &SeqTree,
+    looks: &[Call],
+) -> anyhow::Result<()> {
+    for call in looks {
+        look(rt, again, tree, call)?;
+    }
+    Ok(())
+}
+
+/// Applies calls to a tree, and then looks at a tree that is made of the rows of a copy.
+fn run_on(
+    rt: &impl Print,
+    again: &mut Again,
+    tree: &mut SeqTree,
+    calls: &[Call],
+    looks: &[Call],
+) -> anyhow::Result<()> {
+    for call in calls {
+        apply(rt, again, tree, call)?;
+    }
+    let same = again.same_tree(tree)?;
+    look_all(rt, again, &same, looks)
+}
+
+/// The same on a new tree. It answers how often memory was refused.
 pub fn run(rt: &impl Print, alloc: Global, calls: &[Call], looks: &[Call]) -> anyhow::Result<u32> {
     let mut again = Again { alloc, refused: 0 };
     let mut tree = again.tree()?;
-    for call in calls {
-        apply(rt, &mut again, &mut tree, call)?;
-    }
-    let same = again.same_tree(&tree)?;
-    for call in looks {
-        look(rt, &mut again, &same, call)?;
-    }
-    Ok(again.refused)
+    let ran = run_on(rt, &mut again, &mut tree, calls, looks);
+    let refused = again.refused;
+    ran.map(|()| refused)
 }

@@ -179,18 +179,28 @@ struct Came {
     counts: (usize, usize),
 }
 
-/// The same, with the tallies of their workers.
+/// The same by their calls, with the tallies of their workers.
+fn jobs_of<N: Named + Send + Sync, R: Threads + Wait + Clock + Sync>(
+    rt: &R,
+    alloc: Global,
+    fs: &AtomFs<N>,
+    calls: &(Call, Call),
+) -> Option<(Came, Vec<Tally<N>>)> {
+    let mut pool = pool(rt, alloc)?;
+    let numbers = work(rt, alloc, fs, &mut pool, calls);
+    let collected = pool.collect();
+    let counts = counts(&collected, calls);
+    let numbers = numbers?;
+    Some((Came { numbers, counts }, collected.tallies))
+}
+
 fn jobs<N: Named + Send + Sync, R: Threads + Wait + Clock + Sync>(
     rt: &R,
     alloc: Global,
     fs: &AtomFs<N>,
 ) -> Option<(Came, Vec<Tally<N>>)> {
     let calls = readdirs(alloc)?;
-    let mut pool = pool(rt, alloc)?;
-    let numbers = work(rt, alloc, fs, &mut pool, &calls)?;
-    let collected = pool.collect();
-    let counts = counts(&collected, &calls);
-    Some((Came { numbers, counts }, collected.tallies))
+    jobs_of(rt, alloc, fs, &calls)
 }
 
 /// How many calls a session has answered, and how many names an observer shows who was told of further ones.
@@ -225,8 +235,9 @@ fn on<N: Named + Send + Sync, R: Threads + Wait + Clock + Sync>(
     told: &[Call],
 ) -> Option<(Seen, Vec<Tally<N>>)> {
     let mut session = session(rt, fs)?;
-    let (answered, shown) = see(rt, alloc, fs, &mut session, calls, told)?;
+    let seen = see(rt, alloc, fs, &mut session, calls, told);
     let tally = session.end();
+    let (answered, shown) = seen?;
     let (came, mut tallies) = jobs(rt, alloc, fs)?;
     add(&mut tallies, tally)?;
     let (jobs, refused) = came.counts;
