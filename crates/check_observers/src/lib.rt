@@ -7,6 +7,7 @@ mod busy;
 mod calls;
 mod drawn;
 mod held;
+mod listed;
 mod places;
 mod rows;
 mod told;
@@ -85,5 +86,7 @@ pub fn run<R: Print + Threads + Wait + Clock + Sync>(rt: &R, alloc: Global) -> a
     }
     let again = word(again::is_shown(rt, alloc));
     println!(rt; "a tree that begins again is shown as it was: {again}")?;
+    let listed = word(listed::is_told(rt, alloc));
+    println!(rt; "what an observer was told of is a beginning of the journal: {listed}")?;
     Ok(())
 }
