@@ -177,6 +177,21 @@ class Words(OfTree):
             self.says(OSError, f"[Errno 36] Path has a name of more than 32 bytes: {name!r}", lambda: tree.stat(name))
         self.says(OSError, f"[Errno 36] Path has more than 64 names: {'/n' * 65!r}", lambda: self.tree.stat("/n" * 65))
 
+    def test_paths(self):
+        """What the library says of bytes that are no path, the first check that they fail; of two paths, the one that is none."""
+        for path, words in (
+            ("a", "[Errno 22] Path does not begin with a slash: 'a'"),
+            ("a/" + "n" * 65, f"[Errno 22] Path does not begin with a slash: {'a/' + 'n' * 65!r}"),
+            ("/a\0", "[Errno 22] Path has a byte 0: '/a\\x00'"),
+            ("/./a", "[Errno 22] A name of the path is . or ..: '/./a'"),
+            ("/a/..", "[Errno 22] A name of the path is . or ..: '/a/..'"),
+            ("/a/", "[Errno 22] Path ends with a slash: '/a/'"),
+            (b"/" + b"n" * 65, f"[Errno 36] Path has a name of more than 64 bytes: {b'/' + b'n' * 65!r}"),
+        ):
+            self.says(OSError, words, lambda: self.tree.stat(path))
+            self.says(OSError, words, lambda: self.tree.rename("/a", path))
+            self.says(OSError, words, lambda: self.tree.seat().begin.exchange(path, "/a"))
+
     def test_types(self):
         """What is of another type is a `TypeError`, and changes nothing."""
         self.tree.mknod("/f")

@@ -12,7 +12,7 @@ import errno
 import os
 from typing import TYPE_CHECKING, Union
 
-from ._library import ENTRY_LIMIT, FAILED, PATH_LIMIT, Library, Limits, Status
+from ._library import ENTRY_LIMIT, FAILED, Library, Limits, Status
 
 if TYPE_CHECKING:
     from ._tree import Seat, Tree
@@ -56,24 +56,25 @@ def encoded(path: AnyPath) -> bytes:
         return path.encode("utf-8", "surrogateescape")  # type: ignore[union-attr]
 
 
-def path_error(limits: Limits, *paths: AnyPath) -> OSError:
-    """Why a tree of these limits refused one of these paths."""
+def path_error(library: Library, limits: Limits, *paths: AnyPath) -> Exception:
+    """Why a tree of these limits refused one of these paths, as `atomfs_check_path` says it."""
     for path in paths:
         raw = encoded(path)
-        names = [name for name in raw.split(b"/") if name]
-        if any(len(name) > limits.name_bytes for name in names):
-            return OSError(errno.ENAMETOOLONG, f"Path has a name of more than {limits.name_bytes} bytes", path)
-        if len(names) > PATH_LIMIT:
-            return OSError(errno.ENAMETOOLONG, f"Path has more than {PATH_LIMIT} names", path)
-        if raw[:1] != b"/":
-            return OSError(errno.EINVAL, "Path does not begin with a slash", path)
-        if b"\0" in raw:
-            return OSError(errno.EINVAL, "Path has a byte 0", path)
-        if b"." in names or b".." in names:
-            return OSError(errno.EINVAL, "Path has a name . or ..", path)
-        if names and raw.endswith(b"/"):
-            return OSError(errno.EINVAL, "Path ends with a slash", path)
+        status = library.check_path(raw, len(raw), limits.value)
+        if status == Status.NO_MEMORY:
+            return error_of(library, status)
+        if status:
+            number = errno.ENAMETOOLONG if status in (Status.PATH_NAME_TOO_LONG, Status.PATH_TOO_MANY_NAMES) else errno.EINVAL
+            return OSError(number, _words_of_path(library, limits, status), path)
     return OSError(errno.EINVAL, os.strerror(errno.EINVAL), paths[0])
+
+
+def _words_of_path(library: Library, limits: Limits, status: int) -> str:
+    """What an error of a path says: of a name that is too long, for which limit."""
+    if status == Status.PATH_NAME_TOO_LONG:
+        return f"Path has a name of more than {limits.name_bytes} bytes"
+    words = library.words(status).removeprefix("the ")
+    return words[:1].upper() + words[1:]
 
 
 def error_of(library: Library, status: int, about: int = 0) -> Exception:
@@ -95,7 +96,7 @@ def error_at(tree: Tree, status: int, paths: tuple[AnyPath, ...]) -> Exception:
         number = status - FAILED
         return OSError(number, _words_of(tree.limits, number), *paths[:1], *((None, paths[1]) if paths[1:] else ()))
     if status == Status.BAD_PATH and paths:
-        return path_error(tree.limits, *paths)
+        return path_error(tree._library, tree.limits, *paths)
     if status == Status.FULL:
         return OSError(errno.ENOSPC, f"All {tree.limit:,} nodes of the tree are in use", *paths[:1])
     return error_of(tree._library, status)
