@@ -13,6 +13,7 @@
 from ._errors import ClosedError, Error, UnderWayError, WaitsError
 from ._library import NODE_LIMIT, PATH_LIMIT, Did, Limits, Status
 from ._library import library as _shared_object
+from ._path import Path
 from ._tree import Begin, Seat, Stat, Step, Tree, check, run
 
 __version__ = "0.3.0"
@@ -31,6 +32,7 @@ __all__ = [
     "Limits",
     "NODE_LIMIT",
     "PATH_LIMIT",
+    "Path",
     "Seat",
     "Stat",
     "Status",

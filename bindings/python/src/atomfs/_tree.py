@@ -3,14 +3,21 @@ from __future__ import annotations
 
 import contextlib
 import ctypes
+import io
 import operator
 import os
+import re
+import stat
 import threading
 import time
-from typing import Any, List, NamedTuple, Optional, Tuple, TypeVar, Union, overload
+import weakref
+from typing import IO, Any, Callable, Dict, Iterator, List, NamedTuple, NoReturn, Optional, Tuple, Type, TypeVar, Union, overload
 
+from . import _rows, _walk
 from ._errors import AnyPath, Error, WaitsError, encoded, error_at, error_of
+from ._file import open_file
 from ._library import NODE_LIMIT, TEXT_LIMIT, Call, CStat, Did, Handle, Library, Limits, Request, Status, library
+from ._path import Path, class_of
 
 _Self = TypeVar("_Self", bound="Tree")
 StrPath = Union[str, "os.PathLike[str]"]
@@ -21,11 +28,42 @@ Reply = Union[None, "Stat", List[str], bytes, int]
 _ROOM = 65_537
 
 
+def _absent(name: str, what: str) -> property:
+    """A field of `os.stat_result` that a tree has not."""
+
+    def refuse(self: Any) -> NoReturn:
+        raise AttributeError(f"{name}: a tree keeps no {what}")
+
+    return property(refuse)
+
+
 class Stat(NamedTuple):
-    """What stands at a path: a directory and how many entries it has, or a file and how many bytes."""
+    """What stands at a path: a directory and how many entries it has, or a file and how many bytes.
+
+    Of the fields of `os.stat_result` it has `st_size` and `st_mode`; those of times, owners and numbers say that a tree keeps none.
+    """
 
     is_dir: bool
     size: int
+
+    @property
+    def st_size(self) -> int:
+        """As `size`."""
+        return self.size
+
+    @property
+    def st_mode(self) -> int:
+        """The kind, with all permissions, since a tree has none."""
+        return stat.S_IFDIR | 0o777 if self.is_dir else stat.S_IFREG | 0o666
+
+
+for _what, _fields in (
+    ("times", ("st_atime", "st_mtime", "st_ctime")),
+    ("owners", ("st_uid", "st_gid")),
+    ("numbers of nodes, devices and links", ("st_ino", "st_dev", "st_nlink")),
+):
+    for _name in _fields:
+        setattr(Stat, _name, _absent(_name, _what))
 
 
 def _stat_of(raw: CStat) -> Stat:
@@ -92,6 +130,8 @@ class Tree:
         self.limits = Limits(limits)
         #: The most nodes, the root included.
         self.limit = _number(limit, "limit")
+        # The class of this tree's paths.
+        self._paths: Optional[weakref.ref[Type[Path]]] = None
         # How many checkpoints there were: call numbers begin at 1 again behind each.
         self._checkpoints = 0
         if not 0 < self.limit <= NODE_LIMIT:
@@ -126,8 +166,29 @@ class Tree:
     def __reduce__(self) -> Any:
         raise TypeError("a tree is neither copied nor pickled")
 
+    # ---- Looks at the whole tree, of one moment and without a call: each takes as long as the text of the tree
+
     def __repr__(self) -> str:
-        return f"<atomfs.Tree {'closed' if self.closed else 'open'} at {id(self):#x}>"
+        if self.closed:
+            return "<atomfs.Tree closed>"
+        with self.lock:
+            return f"<atomfs.Tree open: {len(self):,} of {self.limit:,} nodes, {self.calls:,} calls, {self.limits}>"
+
+    def __str__(self) -> str:
+        """The tree as it is drawn, its first 40 nodes."""
+        return repr(self) if self.closed else _rows.drawn(self.tree())
+
+    def __len__(self) -> int:
+        """How many nodes there are, the root included."""
+        return self.tree().count("\n") - 1
+
+    def __iter__(self) -> Iterator[str]:
+        """The names of all nodes by their paths, the root first and each directory before what is in it."""
+        return iter([_rows.told(_rows.path_of(line)) for line in self.tree().splitlines()[1:]])
+
+    def __contains__(self, path: AnyPath) -> bool:
+        """Whether something stands at a path, by a `stat`."""
+        return self.exists(path)
 
     # ---- Calls
 
@@ -229,14 +290,6 @@ class Tree:
             if status := self._library.truncate(self._at, self._own, raw, len(raw), size, self._at_number):
                 raise self._error(status, Call.TRUNCATE, path)
 
-    def exists(self, path: AnyPath) -> bool:
-        """Whether something stands at a path, by a `stat`."""
-        try:
-            self.stat(path)
-        except (FileNotFoundError, NotADirectoryError):
-            return False
-        return True
-
     def _on_path(self, function: Any, call: Call, path: AnyPath) -> None:
         raw = encoded(path)
         with self.lock:
@@ -276,13 +329,135 @@ class Tree:
                 return names
             names += _names(room.told())
 
+    # ---- What is made of these calls
+
+    def exists(self, path: AnyPath) -> bool:
+        """Whether something stands at a path, by a `stat`."""
+        return _walk.kind(self, path) is not None
+
+    def is_dir(self, path: AnyPath) -> bool:
+        """Whether a directory stands at a path, by a `stat`."""
+        return _walk.kind(self, path) is True
+
+    def is_file(self, path: AnyPath) -> bool:
+        """Whether a file stands at a path, by a `stat`."""
+        return _walk.kind(self, path) is False
+
+    def makedirs(self, path: AnyPath, exist_ok: bool = False) -> None:
+        """Makes a directory and those above it that are missing: several calls."""
+        _walk.makedirs(self, path, exist_ok)
+
+    def walk(
+        self, top: AnyPath = "/", topdown: bool = True, onerror: Optional[Callable[[OSError], object]] = None
+    ) -> Iterator[_walk.Walked]:
+        """Each directory from `top` down, with the names of the directories and of the files in it, as `os.walk`: several calls."""
+        return _walk.walk(self, top, topdown, onerror)
+
+    def glob(self, pattern: AnyPath) -> List[str]:
+        """The paths that a pattern from the root on matches, in byte order: several calls.
+
+        `*`, `?` and `[..]` match in a name, a dot at its begin like any other byte; `**` any directories, or none, and at the end
+        all that is below.
+        """
+        return _walk.glob(self, pattern)
+
+    def rmtree(self, path: AnyPath, ignore_errors: bool = False) -> None:
+        """Removes a directory with all below it, and of the root all below it: several calls."""
+        _walk.rmtree(self, path, ignore_errors)
+
+    def copy(self, source: AnyPath, target: AnyPath) -> None:
+        """Copies a file, whose bytes replace those of a file at `target`, or a directory with all below it: several calls.
+
+        `target` is the path of the copy, at which no directory may stand. Of a directory that is not copied whole nothing stays.
+        """
+        _walk.copy(self, source, target)
+
+    def open(
+        self,
+        path: AnyPath,
+        mode: str = "r",
+        buffering: int = -1,
+        encoding: Optional[str] = None,
+        errors: Optional[str] = None,
+        newline: Optional[str] = None,
+    ) -> IO[Any]:
+        """A file object, as of the builtin `open`; a text is UTF-8 where nothing else is given. Several calls, as each read is one.
+
+        An open file is a path and a position: once its path went away, it raises `FileNotFoundError`.
+        """
+        _walk.check_mode(mode, buffering, encoding, errors, newline)
+        at = _walk.text_of(path)
+        if "b" in mode:
+            return open_file(self, at, mode, buffering)  # type: ignore[return-value]
+        binary: Any = open_file(self, at, mode, -1 if buffering == 1 else buffering)
+        text = io.TextIOWrapper(binary, encoding or "utf-8", errors, newline, line_buffering=buffering == 1)
+        text.mode = mode  # type: ignore[misc]
+        return text
+
+    def read_bytes(self, path: AnyPath) -> bytes:
+        """The bytes of a file, by one `read`."""
+        return self.read(path)
+
+    def read_text(self, path: AnyPath, encoding: str = "utf-8", errors: str = "strict", newline: Optional[str] = None) -> str:
+        """The text of a file, by one `read`; the ends of lines are as of `open`."""
+        return io.TextIOWrapper(io.BytesIO(self.read(path)), encoding, errors, newline).read()
+
+    def write_bytes(self, path: AnyPath, data: Data) -> int:
+        """Lets a file have these bytes and no others, and makes it where it is missing: several calls.
+
+        Where it fails, the file is as it was.
+        """
+        return _walk.write_bytes(self, path, _bytes_of(data, "write_bytes"))
+
+    def write_text(
+        self, path: AnyPath, text: str, encoding: str = "utf-8", errors: str = "strict", newline: Optional[str] = None
+    ) -> int:
+        """As `write_bytes` of the bytes of a text: several calls. It answers how many characters were written."""
+        if not isinstance(text, str):
+            raise TypeError(f"write_text takes str, and this is {type(text).__name__}")
+        ends = text.replace("\n", newline) if newline else text
+        self.write_bytes(path, ends.encode(encoding, errors))
+        return len(text)
+
+    def path(self, *segments: StrPath) -> Path:
+        """A path of this tree with the methods of `pathlib.Path`: the root, where none is given."""
+        return class_of(self)(*(segments or ("/",)))
+
     # ---- The journal
+
+    @property
+    def calls(self) -> int:
+        """How many calls have begun since the tree was opened, or since its last checkpoint."""
+        with self.lock:
+            self._entries(2**63 - 1)
+            count, size = self._room.entries.value, 3
+            while not (numbers := re.findall(r"(?m)^begin (\d+) ", self._entries(max(0, count - size)))) and size < count:
+                size *= 4
+        return int(numbers[-1]) if numbers else 0
+
+    def last_calls(self, count: int = 30) -> List[str]:
+        """The last calls of the journal, each with its reply, as `mkdir /a: ok`; what is long is cut."""
+        with self.lock:
+            first = self.calls - count
+            self._entries(2**63 - 1)
+            lines = self._entries(max(0, self._room.entries.value - 6 * count)).splitlines()
+        begun: Dict[str, str] = {}
+        for word, number, *rest in (line.split(" ", 2) for line in lines):
+            if word == "begin" and int(number) > first:
+                begun[number] = _cut(rest[0].split(" ", 1)[1])
+            elif word == "return" and number in begun:
+                begun[number] += f": {_cut(rest[0])}"
+        return list(begun.values())
+
+    def _entries(self, first: int) -> str:
+        """The lines of the journal from an entry on."""
+        return _text(self._library, self._room, self._library.journal, self._at, first, more=(self._room.at_entries,))
 
     def journal(self) -> str:
         """The journal since the tree was opened, or since its last checkpoint: what `check` reads."""
         with self.lock:
             opening = _text(self._library, self._room, self._library.opening, self._at)
-            return opening + _text(self._library, self._room, self._library.journal, self._at, 0, more=(self._room.at_entries,))
+            return opening + self._entries(0)
 
     def check(self) -> str:
         """The verdict on the journal: `lawful`, or the first entry at fault.
@@ -347,12 +522,17 @@ def _number(value: int, what: str) -> int:
     return min(number, 2**64 - 1)
 
 
-def _bytes_of(data: Any) -> bytes:
+def _cut(words: str) -> str:
+    """Words of a call, of which few lines are shown."""
+    return words if len(words) <= 100 else f"{words[:100]}.."
+
+
+def _bytes_of(data: Any, what: str = "write") -> bytes:
     """The bytes of what is to be written."""
     if isinstance(data, bytes):
         return data
     if isinstance(data, str):
-        raise TypeError("write takes bytes, and this is str: encode it")
+        raise TypeError(f"{what} takes bytes, and this is str: encode it")
     return memoryview(data).tobytes()
 
 

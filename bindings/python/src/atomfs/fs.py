@@ -26,6 +26,7 @@ from fs.path import basename
 
 from . import NODE_LIMIT, PATH_LIMIT, Limits, Stat, Tree
 from ._file import open_file
+from ._walk import GONE, joined
 
 if TYPE_CHECKING:
     from fs.permissions import Permissions
@@ -142,8 +143,8 @@ class AtomFS(FS):
         start, end = page or (None, None)
         for name in names[start:end]:
             try:
-                stat = self.atom_tree.stat(f"{at.rstrip('/')}/{name}")
-            except (FileNotFoundError, NotADirectoryError):
+                stat = self.atom_tree.stat(joined(at, name))
+            except GONE:
                 continue
             yield self._info(name, stat, namespaces)
 

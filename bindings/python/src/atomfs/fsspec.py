@@ -23,7 +23,8 @@ from fsspec import AbstractFileSystem  # type: ignore[import]
 from fsspec.utils import stringify_path  # type: ignore[import]
 
 from . import Tree
-from ._file import AnyFile, create_file, open_file
+from ._file import AnyFile, open_file
+from ._walk import GONE, joined
 
 
 class _Draft:
@@ -82,7 +83,7 @@ class AtomFileSystem(AbstractFileSystem):  # type: ignore[misc]
     def __init__(self, tree: Optional[Tree] = None, **options: Any) -> None:
         super().__init__(**options)
         #: The tree itself.
-        self.atom_tree = tree or self._of_the_process()
+        self.atom_tree = self._of_the_process() if tree is None else tree
 
     @classmethod
     def _of_the_process(cls) -> Tree:
@@ -111,7 +112,7 @@ class AtomFileSystem(AbstractFileSystem):  # type: ignore[misc]
         """The entries of a directory in byte order of their names, or a file itself."""
         path = self._strip_protocol(path)
         try:
-            names: list[Any] = [f"{path.rstrip('/')}/{name}" for name in self.atom_tree.readdir(path)]
+            names: list[Any] = [joined(path, name) for name in self.atom_tree.readdir(path)]
         except NotADirectoryError:
             self.atom_tree.read(path, 0, 0)
             names = [path]
@@ -123,7 +124,7 @@ class AtomFileSystem(AbstractFileSystem):  # type: ignore[misc]
         for name in names:
             try:
                 entries.append(self._entry(name))
-            except (FileNotFoundError, NotADirectoryError):
+            except GONE:
                 continue
         return entries
 
@@ -134,19 +135,14 @@ class AtomFileSystem(AbstractFileSystem):  # type: ignore[misc]
         self.atom_tree.mkdir(path)
 
     def makedirs(self, path: str, exist_ok: bool = False) -> None:
-        names = self._strip_protocol(path).strip("/").split("/")
-        for count in range(1, len(names)):
-            self._make("/" + "/".join(names[:count]), True)
-        self._make("/" + "/".join(names), exist_ok)
-
-    def _make(self, path: str, exist_ok: bool) -> None:
+        path = self._strip_protocol(path)
         try:
-            self.atom_tree.mkdir(path)
+            self.atom_tree.makedirs(path, exist_ok)
         except FileExistsError:
-            if not exist_ok:
-                raise
-            # A directory may stand there, and a file may not.
-            self.atom_tree.readdir(path)
+            if exist_ok:
+                # A directory may stand there, and a file may not.
+                self.atom_tree.readdir(path)
+            raise
 
     def rmdir(self, path: str) -> None:
         self.atom_tree.rmdir(self._strip_protocol(path))
@@ -170,9 +166,7 @@ class AtomFileSystem(AbstractFileSystem):  # type: ignore[misc]
             self.makedirs(goal, exist_ok=True)
             return
         with self.atom_tree.lock:
-            data = self.atom_tree.read(source)
-            create_file(self.atom_tree, goal, "w")
-            self.atom_tree.write(goal, 0, data)
+            self.atom_tree.write_bytes(goal, self.atom_tree.read(source))
 
     def mv(self, path1: Any, path2: Any, recursive: bool = False, maxdepth: Optional[int] = None, **options: Any) -> None:
         """Moves one file or directory by one `rename`; what a pattern or a list names, by copies."""
