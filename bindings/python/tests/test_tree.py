@@ -268,9 +268,25 @@ class OpenAndClosed(OfTree):
                 self.assertEqual(atomfs.check(tree.journal()), "lawful")
 
     def test_copies(self):
-        self.assertRaises(TypeError, copy.copy, self.tree)
-        self.assertRaises(TypeError, copy.deepcopy, self.tree)
-        self.assertRaises(TypeError, pickle.dumps, self.tree)
+        """A copy is a tree of its own, by the same limits, whose journal begins at what it has."""
+        tree = atomfs.Tree(10, limits=atomfs.Limits.V1)
+        self.addCleanup(tree.close)
+        tree.mkdir("/a")
+        tree.mknod("/a/f")
+        tree.write("/a/f", 0, bytes(range(256)))
+        copies = [copy.copy(tree), copy.deepcopy(tree), pickle.loads(pickle.dumps(tree))]
+        tree.unlink("/a/f")
+        tree.rename("/a", "/b")
+        for one in copies:
+            with one:
+                self.assertTrue(one.journal().endswith("entries\n"))
+                self.assertEqual((one.read("/a/f"), len(one), one.limit, one.limits), (bytes(range(256)), 3, 10, atomfs.Limits.V1))
+                one.unlink("/a/f")
+                self.assertEqual(one.check(), "lawful")
+        self.assertEqual(list(tree), ["/", "/b"])
+        self.tree.close()
+        self.assertRaises(atomfs.ClosedError, copy.copy, self.tree)
+        self.assertRaises(atomfs.ClosedError, pickle.dumps, self.tree)
 
     def test_context(self):
         with atomfs.Tree() as tree:

@@ -13,6 +13,7 @@
 from ._errors import ClosedError, Error, UnderWayError, WaitsError
 from ._library import NODE_LIMIT, PATH_LIMIT, Did, Limits, Status
 from ._library import library as _shared_object
+from ._load import Snapshot, diff
 from ._path import Path
 from ._tree import Begin, Seat, Stat, Step, Tree, check, run
 
@@ -34,6 +35,7 @@ __all__ = [
     "PATH_LIMIT",
     "Path",
     "Seat",
+    "Snapshot",
     "Stat",
     "Status",
     "Step",
@@ -41,6 +43,7 @@ __all__ = [
     "UnderWayError",
     "WaitsError",
     "check",
+    "diff",
     "library_version",
     "run",
 ]

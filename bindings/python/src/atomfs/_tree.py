@@ -11,12 +11,13 @@ import stat
 import threading
 import time
 import weakref
-from typing import IO, Any, Callable, Dict, Iterator, List, NamedTuple, NoReturn, Optional, Tuple, Type, TypeVar, Union, overload
+from typing import IO, Any, Callable, Dict, Iterator, List, Mapping, NamedTuple, NoReturn, Optional, Tuple, Type, TypeVar, Union, overload
 
-from . import _rows, _walk
+from . import _load, _rows, _walk
 from ._errors import AnyPath, Error, WaitsError, encoded, error_at, error_of
 from ._file import open_file
 from ._library import NODE_LIMIT, TEXT_LIMIT, Call, CStat, Did, Handle, Library, Limits, Request, Status, library
+from ._load import Snapshot
 from ._path import Path, class_of
 
 _Self = TypeVar("_Self", bound="Tree")
@@ -164,7 +165,71 @@ class Tree:
             self._library.close(self._at)
 
     def __reduce__(self) -> Any:
-        raise TypeError("a tree is neither copied nor pickled")
+        # A copy, a deep copy and an unpickled tree begin a journal of their own at the tree as it is now.
+        return _load.of_snapshot, (self.__class__, self.limit, self.snapshot())
+
+    # ---- In and out: a new tree begins its journal behind what it is filled with, and is closed where that fails
+
+    @classmethod
+    def from_dict(cls: Type[_Self], files: Mapping[str, Any], limit: int = NODE_LIMIT, *, limits: Limits = Limits.V2) -> _Self:
+        """A tree of these files: by paths, with or without the first slash, `bytes` or `str`, as UTF-8.
+
+        None is an empty directory, and a dictionary what is in one.
+        """
+        with _load.into(cls(limit, limits=limits)) as tree:
+            _load.from_dict(tree, files)
+        return tree
+
+    @classmethod
+    def from_directory(
+        cls: Type[_Self], path: StrPath, on_error: _load.OnError = "raise", limit: int = NODE_LIMIT, *, limits: Limits = Limits.V2
+    ) -> _Self:
+        """A tree of what is below a directory of the disk. A link to a file is that file; one to a directory is an error.
+
+        An error is raised with the path on the disk. With `on_error="skip"` what it speaks of is left out; a function is told it,
+        and the rest comes.
+        """
+        with _load.into(cls(limit, limits=limits)) as tree:
+            _load.from_directory(tree, path, on_error)
+        return tree
+
+    @classmethod
+    def from_zip(cls: Type[_Self], file: Union[StrPath, IO[bytes]], limit: int = NODE_LIMIT, *, limits: Limits = Limits.V2) -> _Self:
+        """A tree of what is in a zip, given by its path or as a file object. A name that is no path is refused."""
+        with _load.into(cls(limit, limits=limits)) as tree:
+            _load.from_zip(tree, file)
+        return tree
+
+    def to_dict(self) -> Dict[str, Optional[bytes]]:
+        """The bytes of each file by its path, and None by that of each empty directory: of one moment, and no call."""
+        return _load.dictionary(self.tree())
+
+    def to_directory(self, path: StrPath, exist_ok: bool = False) -> None:
+        """Makes the tree as of one moment below a directory of the disk, which may be there with `exist_ok`."""
+        _load.to_directory(self, path, exist_ok)
+
+    def to_zip(self, file: Union[StrPath, IO[bytes]]) -> None:
+        """Writes the tree as of one moment as a zip, to a path or a file object. Names have to be UTF-8."""
+        _load.to_zip(self, file)
+
+    def snapshot(self) -> Snapshot:
+        """The tree as it is now, of one moment and by no call: as much work and memory as its text."""
+        return Snapshot(self.limits, self.tree())
+
+    def restore(self, snapshot: Snapshot) -> None:
+        """Lets the tree be as it was, by the calls that this takes: for what has changed one, two or three a node.
+
+        A snapshot by other limits is a `ValueError`, and `UnderWayError` is raised while a call is under way.
+        """
+        _load.restore(self, snapshot)
+
+    def _none_under_way(self) -> None:
+        """Raises `UnderWayError` while a call is under way: one has fewer than the three entries that each has at its return."""
+        begun = self.calls
+        self._entries(2**63 - 1)
+        if self._room.entries.value != 3 * begun:
+            # This is refused, and says which call.
+            self.checkpoint()
 
     # ---- Looks at the whole tree, of one moment and without a call: each takes as long as the text of the tree
 

@@ -1,0 +1,218 @@
+"""Trees that come from a directory, an archive or a dictionary, and go there; and a tree as it was at a moment."""
+from __future__ import annotations
+
+import contextlib
+import errno
+import os
+import stat
+import zipfile
+from typing import IO, TYPE_CHECKING, Any, Callable, Dict, Iterator, List, Mapping, Optional, Tuple, Type, TypeVar, Union
+
+from . import _rows
+from ._errors import error_at
+from ._library import Limits, Status
+from ._walk import parent_of
+
+if TYPE_CHECKING:
+    from ._tree import Tree
+
+_Tree = TypeVar("_Tree", bound="Tree")
+StrPath = Union[str, "os.PathLike[str]"]
+OnError = Union[str, Callable[[OSError], object]]
+# The bytes of a file, or none of a directory.
+Node = Optional[bytes]
+
+
+class Snapshot:
+    """A tree as it was at a moment, by its text: two bytes are kept for each byte of a file. It is never changed, and pickled."""
+
+    def __init__(self, limits: Limits, text: str) -> None:
+        #: The limits of its names and files.
+        self.limits = limits
+        #: The text of the tree.
+        self.text = text
+
+    def __repr__(self) -> str:
+        return f"<atomfs.Snapshot of {len(self):,} nodes, {self.limits}>"
+
+    def __len__(self) -> int:
+        """How many nodes there are, the root included."""
+        return self.text.count("\n") - 1
+
+    def __eq__(self, other: object) -> bool:
+        return isinstance(other, Snapshot) and (self.limits, self.text) == (other.limits, other.text)
+
+    def __hash__(self) -> int:
+        return hash((self.limits, self.text))
+
+    def to_dict(self) -> Dict[str, Node]:
+        """As `Tree.to_dict`."""
+        return dictionary(self.text)
+
+
+def dictionary(text: str) -> Dict[str, Node]:
+    """The bytes of each file by its path, and none by that of each empty directory."""
+    rows = _rows.rows_of(text)
+    full = {path.rpartition(b"/")[0] or b"/" for path, _ in rows if path != b"/"}
+    return {_rows.told(path): data for path, data in rows if data is not None or (path not in full and path != b"/")}
+
+
+def diff(old: Union[Tree, Snapshot], new: Union[Tree, Snapshot]) -> List[Tuple[str, str]]:
+    """What became of each path from one tree to another, in byte order of paths: `added`, `removed` or `changed`."""
+    of_old, of_new = (dict(_rows.rows_of(one.text if isinstance(one, Snapshot) else one.tree())) for one in (old, new))
+    return _rows.differences(of_old, of_new)
+
+
+def restore(tree: Tree, snapshot: Snapshot) -> None:
+    """Lets a tree be what it was, by the calls that this takes."""
+    if snapshot.limits is not tree.limits:
+        raise ValueError(f"the snapshot is by {snapshot.limits}, and the tree by {tree.limits}")
+    if len(snapshot) > tree.limit:
+        raise error_at(tree, Status.FULL, ("/",))
+    with tree.lock:
+        now = tree.tree()
+        tree._none_under_way()
+        if now != snapshot.text:
+            _change(tree, now.splitlines(), snapshot.text.splitlines())
+
+
+def _change(tree: Tree, now: List[str], wanted: List[str]) -> None:
+    """Makes the calls by which the lines of a tree become others: what goes first, from below, and then what comes."""
+    there, due = set(now), set(wanted)
+    gone = dict(_rows.row_of(line) for line in now if line not in due)
+    come = [_rows.row_of(line) for line in wanted if line not in there]
+    changed = {path for path, data in come if data is not None and gone.get(path) is not None}
+    for path, data in reversed(list(gone.items())):
+        if path not in changed:
+            (tree.rmdir if data is None else tree.unlink)(path)
+    for path, data in come:
+        if data is None:
+            tree.mkdir(path)
+            continue
+        if path not in changed:
+            tree.mknod(path)
+        else:
+            tree.truncate(path, len(data))
+        if data:
+            tree.write(path, 0, data)
+
+
+@contextlib.contextmanager
+def into(tree: _Tree) -> Iterator[_Tree]:
+    """A new tree that is filled: its journal begins behind that. Where it cannot be filled, it is closed."""
+    try:
+        yield tree
+        tree.checkpoint()
+    except BaseException:
+        tree.close()
+        raise
+
+
+def of_snapshot(kind: Type[_Tree], limit: int, snapshot: Snapshot) -> _Tree:
+    """A new tree of this kind that is as the snapshot."""
+    with into(kind(limit, limits=snapshot.limits)) as tree:
+        restore(tree, snapshot)
+    return tree
+
+
+def put(tree: Tree, path: str, data: Node) -> None:
+    """Makes a file or a directory, with the directories above it."""
+    try:
+        if data is not None:
+            tree.write_bytes(path, data)
+            return
+    except FileNotFoundError:
+        tree.makedirs(parent_of(path), exist_ok=True)
+        tree.write_bytes(path, data)  # type: ignore[arg-type]
+        return
+    tree.makedirs(path, exist_ok=True)
+
+
+def from_dict(tree: Tree, files: Mapping[str, Any], above: str = "") -> None:
+    """Makes what a dictionary has: by paths bytes, texts, none for a directory, or the dictionary of what is in it."""
+    for name, value in files.items():
+        if not isinstance(name, str):
+            raise TypeError(f"a path is str, and this is {type(name).__name__}")
+        path = f"{above}/{name.strip('/')}"
+        if value is None or isinstance(value, Mapping):
+            put(tree, path, None)
+            from_dict(tree, value or {}, path)
+        else:
+            put(tree, path, value.encode() if isinstance(value, str) else memoryview(value).tobytes())
+
+
+def from_directory(tree: Tree, top: StrPath, on_error: OnError) -> None:
+    """Makes what is below a directory of the disk."""
+    if isinstance(on_error, str) and on_error not in ("raise", "skip"):
+        raise ValueError(f"on_error is raise, skip or a function, and this is {on_error!r}")
+    waiting = [(os.fsencode(top), b"")]
+    while waiting:
+        folder, above = waiting.pop()
+        found: List[os.DirEntry[bytes]] = []
+        # The folder that is asked for is there, or nothing is.
+        with _told(on_error if above else "raise", folder), os.scandir(folder) as entries:
+            found = sorted(entries, key=lambda entry: entry.name)
+        for entry in found:
+            with _told(on_error, entry.path):
+                if entry.is_dir(follow_symlinks=False):
+                    tree.mkdir(above + b"/" + entry.name)
+                    waiting.append((entry.path, above + b"/" + entry.name))
+                else:
+                    tree.write_bytes(above + b"/" + entry.name, _bytes_of(tree, entry))
+
+
+@contextlib.contextmanager
+def _told(on_error: OnError, path: bytes) -> Iterator[None]:
+    """Raises an error, leaves it, or tells it, with the path on the disk."""
+    try:
+        yield
+    except OSError as error:
+        error.filename = os.fsdecode(path)
+        if on_error == "raise":
+            raise
+        if callable(on_error):
+            on_error(error)
+
+
+def _bytes_of(tree: Tree, entry: os.DirEntry[bytes]) -> bytes:
+    """The bytes of a file on the disk, at most one more than a file of the tree may have."""
+    if not stat.S_ISREG(entry.stat().st_mode):
+        raise OSError(errno.ENOTSUP, "A tree has files and directories, and this is none of both", entry.path)
+    with open(entry.path, "rb") as file:
+        return file.read(tree.limits.file_bytes + 1)
+
+
+def to_directory(tree: Tree, top: StrPath, exist_ok: bool) -> None:
+    """Makes the tree below a directory of the disk."""
+    rows, below = _rows.rows_of(tree.tree()), os.fsencode(top)
+    os.makedirs(below, exist_ok=exist_ok)
+    for path, data in rows[1:]:
+        if data is None:
+            os.makedirs(below + path, exist_ok=exist_ok)
+        else:
+            with open(below + path, "wb" if exist_ok else "xb") as file:
+                file.write(data)
+
+
+def from_zip(tree: Tree, file: Union[StrPath, IO[bytes]]) -> None:
+    """Makes what a zip has."""
+    with zipfile.ZipFile(file) as archive:
+        for info in archive.infolist():
+            path = "/" + info.filename.strip("/")
+            if info.is_dir():
+                put(tree, path, None)
+            else:
+                with archive.open(info) as member:
+                    put(tree, path, member.read(tree.limits.file_bytes + 1))
+
+
+def to_zip(tree: Tree, file: Union[StrPath, IO[bytes]]) -> None:
+    """Writes the tree as a zip, in which all times are the first one that a zip has."""
+    # A name that is no UTF-8 is refused before anything is written.
+    nodes = [(path.decode()[1:], data) for path, data in _rows.rows_of(tree.tree())[1:]]
+    with zipfile.ZipFile(file, "w", zipfile.ZIP_DEFLATED) as archive:
+        for path, data in nodes:
+            info = zipfile.ZipInfo(path if data is not None else f"{path}/")
+            info.compress_type = zipfile.ZIP_DEFLATED
+            info.external_attr = (stat.S_IFREG | 0o644) << 16 if data is not None else (stat.S_IFDIR | 0o755) << 16 | 0x10
+            archive.writestr(info, data or b"")

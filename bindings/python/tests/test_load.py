@@ -1,0 +1,227 @@
+"""Trees that come from directories, zips and dictionaries, and go there; snapshots, and what differs."""
+import errno
+import io
+import os
+import pathlib
+import pickle
+import tempfile
+import unittest
+import zipfile
+
+import atomfs
+from atomfs import Limits, Snapshot, Tree
+
+FILES = {"/a/b/f": b"abc", "/a/g": b"", "/e": None, "/z/\N{SNOWMAN} %": bytes(range(256))}
+
+
+class OfLoads(unittest.TestCase):
+    def setUp(self):
+        folder = tempfile.TemporaryDirectory()
+        self.addCleanup(folder.cleanup)
+        self.folder = pathlib.Path(folder.name)
+
+    def kept(self, tree):
+        """A tree that is closed at the end of the test, and lawful."""
+        self.addCleanup(tree.close)
+        self.addCleanup(lambda: self.assertEqual(tree.check(), "lawful"))
+        return tree
+
+
+class Dictionaries(OfLoads):
+    def test_in_and_out(self):
+        tree = self.kept(Tree.from_dict(FILES, 50, limits=Limits.V2))
+        self.assertEqual((tree.to_dict(), tree.limit, tree.calls), (FILES, 50, 0))
+        self.assertEqual(Tree.from_dict({}).to_dict(), {})
+        tree.mkdir("/a/empty")
+        self.assertEqual(tree.to_dict()["/a/empty"], None)
+
+    def test_forms(self):
+        """Paths with and without the first slash, texts as UTF-8, anything with bytes, and dictionaries in one another."""
+        given = {"a/t": "\N{SNOWMAN}", "a": {"/u": bytearray(b"u"), "v": {}}, "w/": None, "/x/y": memoryview(b"xy")}
+        wanted = {"/a/t": "\N{SNOWMAN}".encode(), "/a/u": b"u", "/a/v": None, "/w": None, "/x/y": b"xy"}
+        self.assertEqual(self.kept(Tree.from_dict(given)).to_dict(), wanted)
+
+    def test_refused(self):
+        for files, kind, words in (
+            ({"/a": b"", "/a/b": b""}, NotADirectoryError, "'/a/b'"),
+            ({"/a/..": b""}, OSError, "A name of the path is . or ..: '/a/..'"),
+            ({"/a": bytes(1_048_577)}, OSError, "The file would have more than 1,048,576 bytes: '/a'"),
+            ({"/a": 3}, TypeError, "int"),
+            ({b"/a": b""}, TypeError, "a path is str, and this is bytes"),
+        ):
+            with self.subTest(words), self.assertRaisesRegex(kind, words):
+                Tree.from_dict(files)
+        with self.assertRaisesRegex(OSError, "All 3 nodes of the tree are in use"):
+            Tree.from_dict({"/a/b": b"", "/c": b""}, 3)
+
+
+class Directories(OfLoads):
+    def test_in_and_out(self):
+        tree = self.kept(Tree.from_dict(FILES))
+        tree.to_directory(self.folder / "new" / "out")
+        self.assertEqual((self.folder / "new" / "out" / "z" / "\N{SNOWMAN} %").read_bytes(), bytes(range(256)))
+        again = self.kept(Tree.from_directory(self.folder / "new" / "out"))
+        self.assertEqual((again.to_dict(), again.calls), (FILES, 0))
+        self.assertRaises(FileExistsError, tree.to_directory, self.folder / "new" / "out")
+        tree.write_bytes("/a/g", b"new")
+        tree.to_directory(str(self.folder / "new" / "out"), exist_ok=True)
+        self.assertEqual((self.folder / "new" / "out" / "a" / "g").read_bytes(), b"new")
+
+    def fill(self):
+        (self.folder / "sub").mkdir()
+        (self.folder / "sub" / "f").write_bytes(b"f")
+        (self.folder / "large").write_bytes(bytes(1_048_577))
+        os.mkfifo(self.folder / "pipe")
+        (self.folder / "file").symlink_to("sub/f")
+        (self.folder / "folder").symlink_to("sub")
+        (self.folder / "lost").symlink_to("nothing")
+
+    def test_errors(self):
+        """What a tree cannot have is raised with its path on the disk, left out, or told."""
+        self.fill()
+        with self.assertRaises(OSError) as raised:
+            Tree.from_directory(self.folder)
+        self.assertEqual((raised.exception.errno, raised.exception.filename), (errno.ENOTSUP, str(self.folder / "folder")))
+        told = []
+        tree = self.kept(Tree.from_directory(self.folder, on_error=told.append))
+        self.assertEqual(tree.to_dict(), {"/file": b"f", "/sub/f": b"f"})
+        wanted = {"folder": errno.ENOTSUP, "large": errno.EFBIG, "lost": errno.ENOENT, "pipe": errno.ENOTSUP}
+        self.assertEqual({os.path.basename(error.filename): error.errno for error in told}, wanted)
+        self.assertEqual(Tree.from_directory(self.folder, on_error="skip").to_dict(), tree.to_dict())
+        self.assertRaises(ValueError, Tree.from_directory, self.folder, "ignore")
+        for on_error in ("raise", "skip"):
+            self.assertRaises(FileNotFoundError, Tree.from_directory, self.folder / "none", on_error)
+
+    def test_limits(self):
+        (self.folder / ("n" * 65)).touch()
+        with self.assertRaisesRegex(OSError, "Path has a name of more than 64 bytes: '" + str(self.folder)):
+            Tree.from_directory(self.folder)
+        with self.assertRaisesRegex(OSError, "All 1 nodes of the tree are in use: '" + str(self.folder)):
+            (self.folder / ("n" * 65)).rename(self.folder / "n")
+            Tree.from_directory(self.folder, limit=1)
+
+
+class Zips(OfLoads):
+    def test_in_and_out(self):
+        tree, packed = self.kept(Tree.from_dict(FILES)), io.BytesIO()
+        tree.to_zip(packed)
+        self.assertEqual(self.kept(Tree.from_zip(packed)).to_dict(), FILES)
+        tree.to_zip(self.folder / "f.zip")
+        self.assertEqual((self.folder / "f.zip").read_bytes(), packed.getvalue())
+        self.assertEqual(Tree.from_zip(self.folder / "f.zip").to_dict(), FILES)
+        with zipfile.ZipFile(packed) as archive:
+            self.assertEqual(archive.namelist()[:3], ["a/", "a/b/", "a/b/f"])
+            self.assertIsNone(archive.testzip())
+
+    def packed(self, **files):
+        packed = io.BytesIO()
+        with zipfile.ZipFile(packed, "w") as archive:
+            for name, data in files.items():
+                archive.writestr(name.replace("_", "/"), data)
+        return packed
+
+    def test_refused(self):
+        """A name that leads out of the tree, a file that is too long, and what is no zip."""
+        self.assertEqual(Tree.from_zip(self.packed(_a_b=b"x")).to_dict(), {"/a/b": b"x"})
+        with self.assertRaisesRegex(OSError, "A name of the path is . or ..: '/../a'"):
+            Tree.from_zip(self.packed(**{".._a": b"x"}))
+        with self.assertRaisesRegex(OSError, "The file would have more than 65,536 bytes: '/a'"):
+            Tree.from_zip(self.packed(a=bytes(100_000)), limits=Limits.V1)
+        self.assertRaises(zipfile.BadZipFile, Tree.from_zip, io.BytesIO(b"no zip"))
+        tree = self.kept(Tree())
+        tree.mknod(b"/\xff")
+        self.assertRaises(UnicodeDecodeError, tree.to_zip, self.folder / "f.zip")
+        self.assertFalse((self.folder / "f.zip").exists())
+
+
+class Snapshots(OfLoads):
+    def test_restore(self):
+        """A tree is what it was, whatever became of it."""
+        tree = self.kept(Tree.from_dict(FILES))
+        snapshot = tree.snapshot()
+        self.assertEqual((repr(snapshot), len(snapshot), snapshot.to_dict()), ("<atomfs.Snapshot of 8 nodes, Limits.V2>", 8, FILES))
+        changes = (
+            lambda: None,
+            lambda: tree.rmtree("/"),
+            lambda: tree.write_bytes("/a/b/f", b"longer than it was"),
+            lambda: tree.truncate("/a/b/f", 1),
+            lambda: tree.write_bytes("/a/g", b"x"),
+            lambda: (tree.rmdir("/e"), tree.write_bytes("/e", b"a file")),
+            lambda: (tree.unlink("/a/g"), tree.makedirs("/a/g/h/i")),
+            lambda: tree.exchange("/a/b/f", "/z"),
+            lambda: tree.rename("/a", "/e/a"),
+            lambda: [tree.makedirs(f"/new/{at}/d") for at in range(50)],
+        )
+        for at, change in enumerate(changes):
+            with self.subTest(at):
+                change()
+                tree.restore(snapshot)
+                self.assertEqual(tree.snapshot(), snapshot)
+        calls = tree.calls
+        tree.restore(snapshot)
+        self.assertEqual(tree.calls, calls)
+        tree.write_bytes("/a/g", b"x")
+        tree.restore(snapshot)
+        self.assertEqual(tree.last_calls(1), ["truncate /a/g 0: ok"])
+
+    def test_a_full_tree(self):
+        """What goes makes room for what comes: of nodes, and in a directory."""
+        tree = self.kept(Tree.from_dict({str(at): b"" for at in range(256)}, 257))
+        snapshot = tree.snapshot()
+        for at in range(200):
+            tree.rename(f"/{at}", f"/n{at}")
+        tree.restore(snapshot)
+        self.assertEqual(tree.snapshot(), snapshot)
+
+    def test_refused(self):
+        """By other limits, of too many nodes, while a call is under way, and of a closed tree: the tree stays as it was."""
+        tree = self.kept(Tree(3))
+        self.assertEqual(Tree(limits=Limits.V1).snapshot().limits, Limits.V1)
+        with self.assertRaisesRegex(ValueError, "the snapshot is by Limits.V1, and the tree by Limits.V2"):
+            tree.restore(Tree(limits=Limits.V1).snapshot())
+        with self.assertRaisesRegex(OSError, "All 3 nodes of the tree are in use"):
+            tree.restore(Tree.from_dict(FILES).snapshot())
+        snapshot = tree.snapshot()
+        tree.mkdir("/a")
+        seats = tree.seat(), tree.seat()
+        self.assertEqual([seat.begin.stat("/a") for seat in seats], [2, 3])
+        seats[0].finish()
+        with self.assertRaises(atomfs.UnderWayError) as raised:
+            tree.restore(snapshot)
+        self.assertEqual((raised.exception.about, list(tree)), (3, ["/", "/a"]))
+        seats[1].finish()
+        tree.restore(snapshot)
+        self.assertEqual(list(tree), ["/"])
+        closed = Tree()
+        closed.close()
+        self.assertRaises(atomfs.ClosedError, closed.restore, snapshot)
+        self.assertRaises(atomfs.ClosedError, closed.snapshot)
+
+    def test_values(self):
+        """Snapshots are compared, are keys, and are pickled; one restores another tree too."""
+        tree = self.kept(Tree.from_dict(FILES))
+        one, other = tree.snapshot(), pickle.loads(pickle.dumps(tree.snapshot()))
+        self.assertEqual((one == other, hash(one) == hash(other), one == Tree().snapshot(), one == "text"), (True, True, False, False))
+        self.assertNotEqual(Tree(limits=Limits.V1).snapshot(), Tree().snapshot())
+        another = self.kept(Tree())
+        another.restore(other)
+        self.assertEqual(another.to_dict(), FILES)
+        self.assertIsInstance(other, Snapshot)
+
+    def test_diff(self):
+        tree = self.kept(Tree.from_dict(FILES))
+        before = tree.snapshot()
+        self.assertEqual(atomfs.diff(before, tree), [])
+        tree.rename("/a/b", "/b")
+        tree.write_bytes("/a/g", b"x")
+        tree.rmdir("/e")
+        tree.mknod("/e")
+        differs = [("removed", "/a/b"), ("removed", "/a/b/f"), ("changed", "/a/g"), ("added", "/b"), ("added", "/b/f"), ("changed", "/e")]
+        self.assertEqual(atomfs.diff(before, tree), differs)
+        turned = {"added": "removed", "removed": "added", "changed": "changed"}
+        self.assertEqual(atomfs.diff(tree, before), [(turned[what], path) for what, path in differs])
+        self.assertEqual(atomfs.diff(tree, Tree.from_dict(tree.to_dict())), [])
+
+
+if __name__ == "__main__":
+    unittest.main()
