@@ -25,7 +25,10 @@ VERSION = re.search(r'^#define ATOMFS_VERSION "(.*)"$', HEADER, re.M)[1]
 MOST_SECONDS = 5 * harness.MOST_SECONDS
 # How what the tests use comes in Debian.
 COMMANDS = {"cmake": "cmake", "pkg-config": "pkgconf", "make": "make", "cc": "gcc", "cargo": "cargo"}
-MODULES = {"fs": "python3-fs", "fsspec": "python3-fsspec", "pip": "python3-pip", "setuptools": "python3-setuptools", "wheel": "python3-wheel"}
+MODULES = {
+    **{"fs": "python3-fs", "fsspec": "python3-fsspec", "pytest": "python3-pytest"},
+    **{"pip": "python3-pip", "setuptools": "python3-setuptools", "wheel": "python3-wheel"},
+}
 # What is set here for another Python or another crate is none of the packages'.
 ELSEWHERE = ("ATOMFS_LIBRARY", "ATOMFS_LIB_DIR", "PYTHONPATH", "PYTHONHOME", "VIRTUAL_ENV", "RUSTFLAGS", "CARGO_TARGET_DIR")
 

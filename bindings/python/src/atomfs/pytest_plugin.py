@@ -1,0 +1,123 @@
+"""The plugin of pytest, which is there where `atomfs` is installed.
+
+    def test_a_tool(atom_tree):
+        atom_tree.write_text("/in.txt", "hello")
+        ...
+
+    @pytest.mark.atomfs(load="tests/data", limits=atomfs.Limits.V1)
+    def test_with_data(atom_path):
+        assert (atom_path / "in.txt").is_file()
+
+`atom_tree` is a tree of the test's own, `atom_fs` the same as a file system of PyFilesystem2, `atom_path` its root as a path. At
+the end the journal of the tree has to be lawful. The report of a test that fails shows the tree and its last 30 calls.
+"""
+from __future__ import annotations
+
+import os
+import pathlib
+import warnings
+from typing import TYPE_CHECKING, Any, Dict, Generator, Iterator, Mapping, Tuple
+
+import pytest
+
+from ._errors import Error
+from ._library import NODE_LIMIT, Limits, Status
+from ._load import Snapshot, of_snapshot
+from ._path import Path
+from ._tree import Tree
+
+if TYPE_CHECKING:
+    from .fs import AtomFS
+
+_TREE = pytest.StashKey[Tree]()
+_LOADED = pytest.StashKey[Dict[Tuple[str, int, Limits], Snapshot]]()
+_MARK = "atomfs(load=None, limit=NODE_LIMIT, limits=Limits.V2): atom_tree begins with a directory, a zip or a dictionary, by these limits"
+
+
+def pytest_configure(config: pytest.Config) -> None:
+    config.addinivalue_line("markers", _MARK)
+    loaded: Dict[Tuple[str, int, Limits], Snapshot] = {}
+    config.stash[_LOADED] = loaded
+
+
+def _asked(load: Any = None, limit: int = NODE_LIMIT, limits: Limits = Limits.V2) -> Tuple[Any, int, Limits]:
+    """The words of the mark."""
+    return load, limit, limits
+
+
+def _made(node: Any) -> Tree:
+    """The tree that a test asks for. A directory or a zip is read once for all tests."""
+    mark = node.get_closest_marker("atomfs")
+    try:
+        load, limit, limits = _asked(*mark.args, **mark.kwargs) if mark else _asked()
+    except TypeError as error:
+        raise pytest.UsageError(f"the mark atomfs: {error}") from None
+    if load is None:
+        return Tree(limit, limits=limits)
+    if isinstance(load, Mapping):
+        return Tree.from_dict(load, limit, limits=limits)
+    path = pathlib.Path(node.config.rootpath, load)
+    loaded = node.config.stash[_LOADED]
+    key = os.fspath(path), limit, limits
+    if key not in loaded:
+        of = Tree.from_directory(path, limit=limit, limits=limits) if path.is_dir() else Tree.from_zip(path, limit, limits=limits)
+        with of as tree:
+            loaded[key] = tree.snapshot()
+    return of_snapshot(Tree, limit, loaded[key])
+
+
+@pytest.fixture
+def atom_tree(request: pytest.FixtureRequest) -> Iterator[Tree]:
+    """A tree, by the mark `atomfs`. At the end of the test its journal has to be lawful."""
+    tree = request.node.stash[_TREE] = _made(request.node)
+    yield tree
+    if tree.closed:
+        return
+    try:
+        verdict = _verdict(tree)
+        if verdict != "lawful":
+            pytest.fail(f"the journal of atom_tree: {verdict}\n{_shown(tree)}", pytrace=False)
+    finally:
+        tree.close()
+
+
+def _verdict(tree: Tree) -> str:
+    """The verdict; where the journal is too large for one, a warning."""
+    try:
+        return tree.check()
+    except Error as error:
+        if error.status != Status.TOO_LARGE:
+            raise
+        warnings.warn(pytest.PytestWarning(f"atom_tree is not checked: {error}"))
+        return "lawful"
+
+
+@pytest.fixture
+def atom_fs(atom_tree: Tree) -> Iterator[AtomFS]:
+    """The tree of the test as a file system of PyFilesystem2 (the package `fs`)."""
+    from .fs import AtomFS
+
+    files = AtomFS(atom_tree)
+    with files:
+        yield files
+
+
+@pytest.fixture
+def atom_path(atom_tree: Tree) -> Path:
+    """The root of the tree of the test, as a path with the methods of `pathlib.Path`."""
+    return atom_tree.path()
+
+
+def _shown(tree: Tree) -> str:
+    """What the report of a failed test has: the tree, and its last calls."""
+    if tree.closed:
+        return repr(tree)
+    calls = "\n".join(tree.last_calls())
+    return f"{tree!r}\n{tree}\n\nThe last calls:\n{calls}"
+
+
+@pytest.hookimpl(hookwrapper=True)  # type: ignore[misc]
+def pytest_runtest_makereport(item: pytest.Item) -> Generator[None, Any, None]:
+    report = (yield).get_result()
+    if report.when == "call" and report.failed and _TREE in item.stash:
+        report.sections.append(("atom_tree", _shown(item.stash[_TREE])))

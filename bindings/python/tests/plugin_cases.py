@@ -1,0 +1,149 @@
+"""The plugin of pytest, by pytest's own `pytester`: test_plugin.py has pytest run this file."""
+import io
+import zipfile
+
+import pytest
+
+SECTION = ["*- atom_tree -*", "<atomfs.Tree open: 3 of 1,048,576 nodes, 3 calls, Limits.V2>", "/", "└── a/", "    └── f (2 bytes)", "The last calls:"]
+
+
+def outcomes(pytester, text, *options, **counts):
+    pytester.makepyfile(text)
+    result = pytester.runpytest("-p", "no:cacheprovider", "--strict-markers", *options)
+    result.assert_outcomes(**counts)
+    return result
+
+
+def test_fixtures(pytester):
+    """The three are one tree, and each test has its own."""
+    text = """
+        import atomfs
+        import pytest
+
+        @pytest.mark.parametrize("at", range(3))
+        def test_one(atom_tree, atom_path, at):
+            assert isinstance(atom_tree, atomfs.Tree) and isinstance(atom_path, atomfs.Path)
+            assert list(atom_tree) == ["/"] and atom_tree.calls == 0
+            (atom_path / "a").mkdir()
+            assert "/a" in atom_tree
+
+        def test_fs(atom_fs, atom_tree):
+            atom_fs.writetext("f", "text")
+            assert atom_tree.read_text("/f") == "text"
+
+        def test_none():
+            pass
+    """
+    outcomes(pytester, text, passed=5)
+
+
+def test_mark(pytester):
+    """A directory, a zip and a dictionary, read from the folder where pytest is run, and limits."""
+    (pytester.mkdir("data") / "f").write_text("text")
+    packed = io.BytesIO()
+    with zipfile.ZipFile(packed, "w") as archive:
+        archive.writestr("z/f", "packed")
+    (pytester.path / "data.zip").write_bytes(packed.getvalue())
+    text = """
+        import atomfs
+        import os
+        import pytest
+
+        pytestmark = pytest.mark.atomfs(load="data")
+
+        @pytest.mark.parametrize("at", range(2))
+        def test_directory(atom_tree, at):
+            assert atom_tree.to_dict() == {"/f": b"text"}
+            atom_tree.unlink("/f")
+            if os.path.exists("data/f"):
+                os.remove("data/f")
+
+        @pytest.mark.atomfs(load="data.zip", limit=9, limits=atomfs.Limits.V1)
+        def test_zip(atom_tree):
+            assert atom_tree.to_dict() == {"/z/f": b"packed"}
+            assert (atom_tree.limit, atom_tree.limits) == (9, atomfs.Limits.V1)
+
+        @pytest.mark.atomfs({"a/b": "text"})
+        def test_dictionary(atom_path):
+            assert (atom_path / "a/b").read_text() == "text"
+    """
+    outcomes(pytester, text, passed=4)
+
+
+@pytest.mark.parametrize(
+    "words, told",
+    [
+        ("lod='data'", "*the mark atomfs: *unexpected keyword argument 'lod'*"),
+        ("load='none'", "*No such file or directory: *none*"),
+        ("load={'a': b'', 'b': b''}, limit=2", "*All 2 nodes of the tree are in use: '/b'*"),
+    ],
+)
+def test_mark_refused(pytester, words, told):
+    text = f"import pytest\n@pytest.mark.atomfs({words})\ndef test_one(atom_tree):\n    pass\n"
+    outcomes(pytester, text, errors=1).stdout.fnmatch_lines([told])
+
+
+def test_markers(pytester):
+    pytester.runpytest("--markers").stdout.fnmatch_lines(["@pytest.mark.atomfs(load=None, *"])
+
+
+FAILS = """
+    def test_one(atom_path):
+        (atom_path / "a").mkdir()
+        (atom_path / "a" / "f").write_bytes(b"ab")
+        assert {}
+"""
+
+
+def test_section(pytester):
+    """A test that fails shows the tree and the last calls, and one that passes does not."""
+    result = outcomes(pytester, FAILS.format(False), failed=1)
+    result.stdout.fnmatch_lines([*SECTION, "mkdir /a: ok", "mknod /a/f: ok", "write /a/f 0 6162: wrote 2"])
+    outcomes(pytester, FAILS.format(True), "-rA", passed=1).stdout.no_fnmatch_line("*The last calls*")
+
+
+def test_section_of_last_calls(pytester):
+    text = """
+        def test_one(atom_tree):
+            for at in range(50):
+                atom_tree.exists(f"/{at}")
+            assert False
+    """
+    result = outcomes(pytester, text, failed=1)
+    result.stdout.fnmatch_lines(["The last calls:", "stat /20: failed ENOENT", "*", "stat /49: failed ENOENT"])
+    result.stdout.no_fnmatch_line("stat /19:*")
+
+
+def test_verdict(pytester):
+    """A journal that is not lawful is an error at the end of the test, with the tree."""
+    text = """
+        def test_one(atom_tree):
+            atom_tree.mkdir("/a")
+            atom_tree.check = lambda: "fault 3 WrongReply"
+    """
+    result = outcomes(pytester, text, passed=1, errors=1)
+    result.stdout.fnmatch_lines(["the journal of atom_tree: fault 3 WrongReply", "<atomfs.Tree open: *", "└── a/", "mkdir /a: ok"])
+
+
+def test_closed(pytester):
+    """A tree that the test closes has no verdict, and where the test fails too its report says so."""
+    text = """
+        def test_passes(atom_tree):
+            atom_tree.close()
+
+        def test_fails(atom_tree):
+            atom_tree.close()
+            atom_tree.mkdir("/a")
+    """
+    outcomes(pytester, text, passed=1, failed=1).stdout.fnmatch_lines(["*- atom_tree -*", "<atomfs.Tree closed>"])
+
+
+def test_large_journal(pytester):
+    """A journal that is too large to be checked is a warning."""
+    text = """
+        def test_one(atom_tree):
+            for at in range(9):
+                atom_tree.write_bytes("/f", bytes(1_048_576))
+    """
+    result = outcomes(pytester, text, passed=1, warnings=1)
+    result.stdout.fnmatch_lines(["*PytestWarning: atom_tree is not checked: the journal has more than 16,777,216 bytes*"])
