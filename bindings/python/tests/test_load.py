@@ -134,6 +134,32 @@ class Zips(OfLoads):
         self.assertFalse((self.folder / "f.zip").exists())
 
 
+class Texts(OfLoads):
+    def test_in_and_out(self):
+        tree = self.kept(Tree.from_dict(FILES))
+        again = self.kept(Tree.from_text(tree.tree(), 20))
+        self.assertEqual((again.to_dict(), again.limit, again.calls), (FILES, 20, 0))
+        self.assertEqual(Tree.from_text("tree\ndir /\n").to_dict(), {})
+
+    def test_refused(self):
+        start = "tree\ndir /\n"
+        for text, kind, words in (
+            ("", ValueError, "line 1 of the text of a tree is missing"),
+            ("tree\n", ValueError, "line 2 of the text of a tree is missing"),
+            ("atomfs 1\n", ValueError, "line 1 is none"),
+            ("tree\ndir /a\n", ValueError, "line 2 is none"),
+            (start + "dir a\n", ValueError, "line 3 is none"),
+            (start + "file /a\n", ValueError, "line 3 is none"),
+            (start + "dir /a\nfile /f 616\n", ValueError, "line 4 is none"),
+            (start + "file /f -", ValueError, "line 3 is none"),
+            (start + "file /f -\n\n", ValueError, "line 4 is none"),
+            (start + "dir /a/b\n", FileNotFoundError, "/a/b"),
+            (start + "dir /a/..\n", OSError, "A name of the path is . or .."),
+        ):
+            with self.subTest(text), self.assertRaisesRegex(kind, words):
+                Tree.from_text(text)
+
+
 class Snapshots(OfLoads):
     def test_restore(self):
         """A tree is what it was, whatever became of it."""

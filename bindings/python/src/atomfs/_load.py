@@ -4,6 +4,7 @@ from __future__ import annotations
 import contextlib
 import errno
 import os
+import re
 import stat
 import zipfile
 from typing import IO, TYPE_CHECKING, Any, Callable, Dict, Iterator, List, Mapping, Optional, Tuple, Type, TypeVar, Union
@@ -113,6 +114,18 @@ def of_snapshot(kind: Type[_Tree], limit: int, snapshot: Snapshot) -> _Tree:
     with into(kind(limit, limits=snapshot.limits)) as tree:
         restore(tree, snapshot)
     return tree
+
+
+def of_text(limits: Limits, text: str) -> Snapshot:
+    """The snapshot of a text, once each of its lines has its form."""
+    lines = text.splitlines(keepends=True)
+    for number, line in enumerate(lines, 1):
+        due = {1: "tree\\n", 2: "dir /\\n"}.get(number, "(dir /[!-~]+|file /[!-~]+ (-|(?:[0-9a-f]{2})+))\\n")
+        if not re.fullmatch(due, line):
+            raise ValueError(f"line {number} is none of the text of a tree")
+    if len(lines) < 2:
+        raise ValueError(f"line {len(lines) + 1} of the text of a tree is missing")
+    return Snapshot(limits, text)
 
 
 def put(tree: Tree, path: str, data: Node) -> None:

@@ -200,6 +200,11 @@ class Tree:
             _load.from_zip(tree, file)
         return tree
 
+    @classmethod
+    def from_text(cls: Type[_Self], text: str, limit: int = NODE_LIMIT, *, limits: Limits = Limits.V2) -> _Self:
+        """A tree by its text, as `tree()` tells it. A line that is none is a `ValueError` with its number."""
+        return _load.of_snapshot(cls, limit, _load.of_text(limits, text))
+
     def to_dict(self) -> Dict[str, Optional[bytes]]:
         """The bytes of each file by its path, and None by that of each empty directory: of one moment, and no call."""
         return _load.dictionary(self.tree())
