@@ -1,6 +1,7 @@
 //! Calls that are begun by themselves, and what comes of them.
 
 use crate::ffi::Request;
+use crate::path::AsPath;
 
 /// What stands at a path: a directory and how many entries it has, or a file and how many bytes.
 #[derive(Clone, Copy, Debug, PartialEq, Eq)]
@@ -87,68 +88,68 @@ pub enum Call<'a> {
 
 impl<'a> Call<'a> {
     /// Makes an empty directory.
-    pub fn mkdir(path: &'a (impl AsRef<[u8]> + ?Sized)) -> Self {
-        Call::Mkdir(path.as_ref())
+    pub fn mkdir(path: &'a (impl AsPath + ?Sized)) -> Self {
+        Call::Mkdir(path.path_bytes())
     }
 
     /// Makes an empty file.
-    pub fn mknod(path: &'a (impl AsRef<[u8]> + ?Sized)) -> Self {
-        Call::Mknod(path.as_ref())
+    pub fn mknod(path: &'a (impl AsPath + ?Sized)) -> Self {
+        Call::Mknod(path.path_bytes())
     }
 
     /// Removes the entry of a file.
-    pub fn unlink(path: &'a (impl AsRef<[u8]> + ?Sized)) -> Self {
-        Call::Unlink(path.as_ref())
+    pub fn unlink(path: &'a (impl AsPath + ?Sized)) -> Self {
+        Call::Unlink(path.path_bytes())
     }
 
     /// Removes the entry of an empty directory.
-    pub fn rmdir(path: &'a (impl AsRef<[u8]> + ?Sized)) -> Self {
-        Call::Rmdir(path.as_ref())
+    pub fn rmdir(path: &'a (impl AsPath + ?Sized)) -> Self {
+        Call::Rmdir(path.path_bytes())
     }
 
     /// Moves what stands at the first path to the second.
     pub fn rename(
-        path: &'a (impl AsRef<[u8]> + ?Sized),
-        other: &'a (impl AsRef<[u8]> + ?Sized),
+        path: &'a (impl AsPath + ?Sized),
+        other: &'a (impl AsPath + ?Sized),
     ) -> Self {
-        Call::Rename(path.as_ref(), other.as_ref())
+        Call::Rename(path.path_bytes(), other.path_bytes())
     }
 
     /// Lets what stands at two paths change places.
     pub fn exchange(
-        path: &'a (impl AsRef<[u8]> + ?Sized),
-        other: &'a (impl AsRef<[u8]> + ?Sized),
+        path: &'a (impl AsPath + ?Sized),
+        other: &'a (impl AsPath + ?Sized),
     ) -> Self {
-        Call::Exchange(path.as_ref(), other.as_ref())
+        Call::Exchange(path.path_bytes(), other.path_bytes())
     }
 
     /// Tells what stands at a path.
-    pub fn stat(path: &'a (impl AsRef<[u8]> + ?Sized)) -> Self {
-        Call::Stat(path.as_ref())
+    pub fn stat(path: &'a (impl AsPath + ?Sized)) -> Self {
+        Call::Stat(path.path_bytes())
     }
 
     /// Tells the names of a directory.
-    pub fn readdir(path: &'a (impl AsRef<[u8]> + ?Sized)) -> Self {
-        Call::Readdir(path.as_ref())
+    pub fn readdir(path: &'a (impl AsPath + ?Sized)) -> Self {
+        Call::Readdir(path.path_bytes())
     }
 
     /// Reads from an offset on at most so many bytes.
-    pub fn read(path: &'a (impl AsRef<[u8]> + ?Sized), offset: u64, count: u64) -> Self {
-        Call::Read(path.as_ref(), offset, count)
+    pub fn read(path: &'a (impl AsPath + ?Sized), offset: u64, count: u64) -> Self {
+        Call::Read(path.path_bytes(), offset, count)
     }
 
     /// Writes bytes into a file at an offset.
     pub fn write(
-        path: &'a (impl AsRef<[u8]> + ?Sized),
+        path: &'a (impl AsPath + ?Sized),
         offset: u64,
         bytes: &'a (impl AsRef<[u8]> + ?Sized),
     ) -> Self {
-        Call::Write(path.as_ref(), offset, bytes.as_ref())
+        Call::Write(path.path_bytes(), offset, bytes.as_ref())
     }
 
     /// Cuts a file to a size, or adds zeros up to it.
-    pub fn truncate(path: &'a (impl AsRef<[u8]> + ?Sized), size: u64) -> Self {
-        Call::Truncate(path.as_ref(), size)
+    pub fn truncate(path: &'a (impl AsPath + ?Sized), size: u64) -> Self {
+        Call::Truncate(path.path_bytes(), size)
     }
 
     /// The request of C's, which borrows what this call borrows.

@@ -39,11 +39,13 @@ mod call;
 mod error;
 mod ffi;
 mod limits;
+mod path;
 mod session;
 mod tree;
 
 pub use call::{Call, Did, Reply, Seat, Stat};
 pub use error::{Errno, Error};
+pub use path::AsPath;
 pub use session::Session;
 pub use limits::Limits;
 pub use tree::{check, run, Tree};

@@ -5,6 +5,7 @@ use std::thread;
 
 use crate::call::{Call, Did, Reply, Seat, Stat};
 use crate::error::Error;
+use crate::path::AsPath;
 use crate::tree::Tree;
 
 /// A thread's way into a shared tree: a seat of its own.
@@ -66,41 +67,41 @@ impl Session {
     }
 
     /// Makes an empty directory.
-    pub fn mkdir(&mut self, path: impl AsRef<[u8]>) -> Result<(), Error> {
+    pub fn mkdir(&mut self, path: impl AsPath) -> Result<(), Error> {
         self.done(&Call::mkdir(&path))
     }
 
     /// Makes an empty file.
-    pub fn mknod(&mut self, path: impl AsRef<[u8]>) -> Result<(), Error> {
+    pub fn mknod(&mut self, path: impl AsPath) -> Result<(), Error> {
         self.done(&Call::mknod(&path))
     }
 
     /// Removes the entry of a file.
-    pub fn unlink(&mut self, path: impl AsRef<[u8]>) -> Result<(), Error> {
+    pub fn unlink(&mut self, path: impl AsPath) -> Result<(), Error> {
         self.done(&Call::unlink(&path))
     }
 
     /// Removes the entry of an empty directory.
-    pub fn rmdir(&mut self, path: impl AsRef<[u8]>) -> Result<(), Error> {
+    pub fn rmdir(&mut self, path: impl AsPath) -> Result<(), Error> {
         self.done(&Call::rmdir(&path))
     }
 
     /// Moves what stands at `path`, with all below it, to `other`; a file or an empty directory there is replaced.
-    pub fn rename(&mut self, path: impl AsRef<[u8]>, other: impl AsRef<[u8]>) -> Result<(), Error> {
+    pub fn rename(&mut self, path: impl AsPath, other: impl AsPath) -> Result<(), Error> {
         self.done(&Call::rename(&path, &other))
     }
 
     /// Lets what stands at two paths change places, each with all below it.
     pub fn exchange(
         &mut self,
-        path: impl AsRef<[u8]>,
-        other: impl AsRef<[u8]>,
+        path: impl AsPath,
+        other: impl AsPath,
     ) -> Result<(), Error> {
         self.done(&Call::exchange(&path, &other))
     }
 
     /// What stands at a path.
-    pub fn stat(&mut self, path: impl AsRef<[u8]>) -> Result<Stat, Error> {
+    pub fn stat(&mut self, path: impl AsPath) -> Result<Stat, Error> {
         match self.call(&Call::stat(&path))? {
             Reply::Stat(stat) => Ok(stat),
             _ => Err(Error::NoReply),
@@ -108,7 +109,7 @@ impl Session {
     }
 
     /// The names of a directory, in byte order.
-    pub fn readdir(&mut self, path: impl AsRef<[u8]>) -> Result<Vec<Vec<u8>>, Error> {
+    pub fn readdir(&mut self, path: impl AsPath) -> Result<Vec<Vec<u8>>, Error> {
         match self.call(&Call::readdir(&path))? {
             Reply::Names(names) => Ok(names),
             _ => Err(Error::NoReply),
@@ -118,7 +119,7 @@ impl Session {
     /// At most `count` bytes of a file from an offset on.
     pub fn read(
         &mut self,
-        path: impl AsRef<[u8]>,
+        path: impl AsPath,
         offset: u64,
         count: u64,
     ) -> Result<Vec<u8>, Error> {
@@ -131,7 +132,7 @@ impl Session {
     /// Writes bytes into a file at an offset, all of them or none, and tells how many.
     pub fn write(
         &mut self,
-        path: impl AsRef<[u8]>,
+        path: impl AsPath,
         offset: u64,
         bytes: impl AsRef<[u8]>,
     ) -> Result<u64, Error> {
@@ -142,7 +143,7 @@ impl Session {
     }
 
     /// Cuts a file to a size, or adds zeros up to it.
-    pub fn truncate(&mut self, path: impl AsRef<[u8]>, size: u64) -> Result<(), Error> {
+    pub fn truncate(&mut self, path: impl AsPath, size: u64) -> Result<(), Error> {
         self.done(&Call::truncate(&path, size))
     }
 }

@@ -7,6 +7,7 @@ use crate::call::{Call, Did, Kind, Reply, Seat, Stat};
 use crate::error::Error;
 use crate::ffi::{self, Handle, OnPath, OnPaths, RawStat, OK, TOO_SMALL, UNTOLD, WAITS};
 use crate::limits::{Limits, TEXT_LIMIT};
+use crate::path::AsPath;
 use crate::NODE_LIMIT;
 
 /// Room for the names of a full directory, and for the bytes of most files: where a file has more, the room becomes longer.
@@ -72,43 +73,43 @@ impl Tree {
     }
 
     /// Makes an empty directory.
-    pub fn mkdir(&mut self, path: impl AsRef<[u8]>) -> Result<(), Error> {
-        self.on_path(ffi::atomfs_mkdir, path.as_ref())
+    pub fn mkdir(&mut self, path: impl AsPath) -> Result<(), Error> {
+        self.on_path(ffi::atomfs_mkdir, path.path_bytes())
     }
 
     /// Makes an empty file.
-    pub fn mknod(&mut self, path: impl AsRef<[u8]>) -> Result<(), Error> {
-        self.on_path(ffi::atomfs_mknod, path.as_ref())
+    pub fn mknod(&mut self, path: impl AsPath) -> Result<(), Error> {
+        self.on_path(ffi::atomfs_mknod, path.path_bytes())
     }
 
     /// Removes the entry of a file.
-    pub fn unlink(&mut self, path: impl AsRef<[u8]>) -> Result<(), Error> {
-        self.on_path(ffi::atomfs_unlink, path.as_ref())
+    pub fn unlink(&mut self, path: impl AsPath) -> Result<(), Error> {
+        self.on_path(ffi::atomfs_unlink, path.path_bytes())
     }
 
     /// Removes the entry of an empty directory.
-    pub fn rmdir(&mut self, path: impl AsRef<[u8]>) -> Result<(), Error> {
-        self.on_path(ffi::atomfs_rmdir, path.as_ref())
+    pub fn rmdir(&mut self, path: impl AsPath) -> Result<(), Error> {
+        self.on_path(ffi::atomfs_rmdir, path.path_bytes())
     }
 
     /// Moves what stands at `path`, with all below it, to `other`; a file or an empty directory there is replaced.
-    pub fn rename(&mut self, path: impl AsRef<[u8]>, other: impl AsRef<[u8]>) -> Result<(), Error> {
-        self.on_paths(ffi::atomfs_rename, path.as_ref(), other.as_ref())
+    pub fn rename(&mut self, path: impl AsPath, other: impl AsPath) -> Result<(), Error> {
+        self.on_paths(ffi::atomfs_rename, path.path_bytes(), other.path_bytes())
     }
 
     /// Lets what stands at two paths change places, each with all below it.
     pub fn exchange(
         &mut self,
-        path: impl AsRef<[u8]>,
-        other: impl AsRef<[u8]>,
+        path: impl AsPath,
+        other: impl AsPath,
     ) -> Result<(), Error> {
-        self.on_paths(ffi::atomfs_exchange, path.as_ref(), other.as_ref())
+        self.on_paths(ffi::atomfs_exchange, path.path_bytes(), other.path_bytes())
     }
 
     /// What stands at a path.
-    pub fn stat(&mut self, path: impl AsRef<[u8]>) -> Result<Stat, Error> {
+    pub fn stat(&mut self, path: impl AsPath) -> Result<Stat, Error> {
         let own = self.own()?;
-        let (path, mut stat, mut number) = (path.as_ref(), RawStat::default(), 0);
+        let (path, mut stat, mut number) = (path.path_bytes(), RawStat::default(), 0);
         let status = unsafe {
             ffi::atomfs_stat(
                 &mut *self.handle,
@@ -124,9 +125,9 @@ impl Tree {
     }
 
     /// The names of a directory, in byte order.
-    pub fn readdir(&mut self, path: impl AsRef<[u8]>) -> Result<Vec<Vec<u8>>, Error> {
+    pub fn readdir(&mut self, path: impl AsPath) -> Result<Vec<Vec<u8>>, Error> {
         let own = self.own()?;
-        let (path, mut count, mut number) = (path.as_ref(), 0, 0);
+        let (path, mut count, mut number) = (path.path_bytes(), 0, 0);
         let (out, room) = (self.room.as_mut_ptr(), self.room.len());
         let status = unsafe {
             ffi::atomfs_readdir(
@@ -150,11 +151,11 @@ impl Tree {
     /// At most `count` bytes of a file from an offset on.
     pub fn read(
         &mut self,
-        path: impl AsRef<[u8]>,
+        path: impl AsPath,
         offset: u64,
         count: usize,
     ) -> Result<Vec<u8>, Error> {
-        let path = path.as_ref();
+        let path = path.path_bytes();
         if count > self.room.len() {
             // The file may be shorter than what is asked for by far.
             let size = usize::try_from(self.stat(path)?.size).unwrap_or(usize::MAX);
@@ -170,12 +171,12 @@ impl Tree {
     /// Reads bytes of a file from an offset on into `out`: as many as it has room for, or as there are.
     pub fn read_into(
         &mut self,
-        path: impl AsRef<[u8]>,
+        path: impl AsPath,
         offset: u64,
         out: &mut [u8],
     ) -> Result<usize, Error> {
         let own = self.own()?;
-        let (path, mut count, mut number) = (path.as_ref(), 0, 0);
+        let (path, mut count, mut number) = (path.path_bytes(), 0, 0);
         let mut status = unsafe {
             ffi::atomfs_read(
                 &mut *self.handle,
@@ -207,12 +208,12 @@ impl Tree {
     /// Writes bytes into a file at an offset, all of them or none, and tells how many. A gap before them reads as zeros.
     pub fn write(
         &mut self,
-        path: impl AsRef<[u8]>,
+        path: impl AsPath,
         offset: u64,
         bytes: impl AsRef<[u8]>,
     ) -> Result<u64, Error> {
         let own = self.own()?;
-        let (path, bytes, mut wrote, mut number) = (path.as_ref(), bytes.as_ref(), 0, 0);
+        let (path, bytes, mut wrote, mut number) = (path.path_bytes(), bytes.as_ref(), 0, 0);
         let status = unsafe {
             ffi::atomfs_write(
                 &mut *self.handle,
@@ -231,9 +232,9 @@ impl Tree {
     }
 
     /// Cuts a file to a size, or adds zeros up to it.
-    pub fn truncate(&mut self, path: impl AsRef<[u8]>, size: u64) -> Result<(), Error> {
+    pub fn truncate(&mut self, path: impl AsPath, size: u64) -> Result<(), Error> {
         let own = self.own()?;
-        let (path, mut number) = (path.as_ref(), 0);
+        let (path, mut number) = (path.path_bytes(), 0);
         let status = unsafe {
             ffi::atomfs_truncate(
                 &mut *self.handle,

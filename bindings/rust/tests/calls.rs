@@ -1,8 +1,14 @@
 //! Trees, seats and errors.
 
+use std::borrow::Cow;
+use std::ffi::{OsStr, OsString};
 use std::io;
+use std::os::unix::ffi::OsStrExt;
+use std::path::{Path, PathBuf};
+use std::rc::Rc;
+use std::sync::Arc;
 
-use atomfs::{check, run, Call, Did, Errno, Error, Reply, Stat, Tree};
+use atomfs::{check, run, AsPath, Call, Did, Errno, Error, Reply, Stat, Tree};
 
 #[test]
 fn each_call() {
@@ -184,7 +190,7 @@ fn a_large_journal() {
     let mut tree = Tree::new().unwrap();
     tree.mknod("/f").unwrap();
     for _ in 0..9 {
-        tree.write("/f", 0, &[0; 1 << 20]).unwrap();
+        tree.write("/f", 0, [0; 1 << 20]).unwrap();
     }
     assert_eq!(tree.check(), Err(Error::JournalTooLarge));
     assert_eq!(
@@ -303,4 +309,37 @@ fn each_piece_of_a_journal_is_lawful() {
 #[test]
 fn versions() {
     assert_eq!(atomfs::version(), env!("CARGO_PKG_VERSION"));
+}
+
+/// A path can be text, bytes or a path of the standard library, and the bytes are the same.
+#[test]
+fn each_kind_of_path() {
+    let mut tree = Tree::new().unwrap();
+    let name = "/a";
+    let rows: [(&str, Box<dyn AsPath>); 14] = [
+        ("str", Box::new("/a")),
+        ("String", Box::new(name.to_string())),
+        ("bytes", Box::new(*b"/a")),
+        ("a slice", Box::new(&b"/a"[..])),
+        ("a vector", Box::new(name.as_bytes().to_vec())),
+        ("Path", Box::new(Path::new("/a"))),
+        ("PathBuf", Box::new(PathBuf::from("/a"))),
+        ("OsStr", Box::new(OsStr::new("/a"))),
+        ("OsString", Box::new(OsString::from("/a"))),
+        ("Rc", Box::new(Rc::<str>::from("/a"))),
+        ("Arc", Box::new(Arc::<Path>::from(Path::new("/a")))),
+        ("Cow of text", Box::new(Cow::Borrowed("/a"))),
+        ("Cow of a path", Box::new(Path::new("/a").to_string_lossy())),
+        ("Box", Box::new(name.as_bytes().to_vec().into_boxed_slice())),
+    ];
+    for (what, path) in rows {
+        tree.mkdir(&path).unwrap();
+        assert_eq!(tree.readdir(Path::new("/")).unwrap(), [b"a"], "{what}");
+        assert_eq!(Call::rmdir(&path), Call::Rmdir(b"/a"), "{what}");
+        tree.rmdir(path).unwrap();
+    }
+    tree.mkdir(Path::new("/b").join("..")).unwrap_err();
+    assert_eq!(tree.mkdir(OsStr::from_bytes(b"/\xff")), Ok(()));
+    assert_eq!(tree.readdir("/").unwrap(), [b"\xff"]);
+    assert_eq!(tree.check().unwrap(), "lawful");
 }
