@@ -108,18 +108,12 @@ impl<'a> Call<'a> {
     }
 
     /// Moves what stands at the first path to the second.
-    pub fn rename(
-        path: &'a (impl AsPath + ?Sized),
-        other: &'a (impl AsPath + ?Sized),
-    ) -> Self {
+    pub fn rename(path: &'a (impl AsPath + ?Sized), other: &'a (impl AsPath + ?Sized)) -> Self {
         Call::Rename(path.path_bytes(), other.path_bytes())
     }
 
     /// Lets what stands at two paths change places.
-    pub fn exchange(
-        path: &'a (impl AsPath + ?Sized),
-        other: &'a (impl AsPath + ?Sized),
-    ) -> Self {
+    pub fn exchange(path: &'a (impl AsPath + ?Sized), other: &'a (impl AsPath + ?Sized)) -> Self {
         Call::Exchange(path.path_bytes(), other.path_bytes())
     }
 

@@ -85,6 +85,8 @@ pub enum Error {
     /// The tree's journal has more bytes than a text may have: `Tree::checkpoint` hands it out in pieces, each of which can be
     /// checked.
     JournalTooLarge,
+    /// The options to open a file by contradict each other, or ask for no access.
+    BadOptions,
     /// Another status of the library.
     Other(u8),
 }
@@ -135,6 +137,8 @@ impl Error {
             Error::UnderWay(_) => ffi::UNDER_WAY,
             Error::BadPath => ffi::BAD_PATH,
             Error::JournalTooLarge => ffi::TOO_LARGE,
+            // No status of the library.
+            Error::BadOptions => ffi::OK,
             Error::BadText(status, _) | Error::Other(status) => status,
         }
     }
@@ -155,6 +159,9 @@ impl fmt::Display for Error {
             Error::JournalTooLarge => write!(
                 f,
                 "the journal has more than {TEXT_LIMIT} bytes: checkpoint, and check the pieces"
+            ),
+            Error::BadOptions => f.write_str(
+                "the options to open a file by contradict each other, or ask for no access",
             ),
             Error::Untold(number) | Error::UnderWay(number) => write!(f, "call {number}: {words}"),
             _ => f.write_str(words),
@@ -203,9 +210,11 @@ impl From<Error> for io::Error {
         match error {
             Error::Failed(errno) => io::Error::from_raw_os_error(errno.number()),
             Error::Full => io::Error::from_raw_os_error(Errno::ENOSPC.number()),
-            Error::BadPath | Error::BadLimit | Error::BadText(..) | Error::JournalTooLarge => {
-                io::Error::new(io::ErrorKind::InvalidInput, error)
-            }
+            Error::BadPath
+            | Error::BadLimit
+            | Error::BadText(..)
+            | Error::JournalTooLarge
+            | Error::BadOptions => io::Error::new(io::ErrorKind::InvalidInput, error),
             Error::OutOfMemory | Error::Untold(_) => {
                 io::Error::new(io::ErrorKind::OutOfMemory, error)
             }

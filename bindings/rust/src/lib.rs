@@ -15,7 +15,7 @@
 //! # }
 //! ```
 //!
-//! Threads share a tree by [`Session`]s, whose calls interleave step by step. [`Tree::seat`], [`Tree::begin`] and
+//! Threads share a tree as a [`SharedTree`] or by [`Session`]s, whose calls interleave step by step. [`Tree::seat`], [`Tree::begin`] and
 //! [`Tree::step`] play an interleaving of your own.
 //!
 //! Errors of calls are those of the operating system:
@@ -38,17 +38,23 @@
 mod call;
 mod error;
 mod ffi;
+mod file;
 mod limits;
 mod path;
 mod session;
+mod shared;
 mod tree;
+mod whole;
 
 pub use call::{Call, Did, Reply, Seat, Stat};
 pub use error::{Errno, Error};
+pub use file::{File, OpenOptions};
+pub use limits::Limits;
 pub use path::AsPath;
 pub use session::Session;
-pub use limits::Limits;
+pub use shared::SharedTree;
 pub use tree::{check, run, Tree};
+pub use whole::{Calls, Entry};
 
 /// The greatest limit of nodes.
 pub const NODE_LIMIT: usize = 1_048_576;

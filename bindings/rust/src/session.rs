@@ -1,12 +1,12 @@
 //! Sessions of threads.
 
 use std::sync::{Arc, Mutex, MutexGuard, PoisonError};
-use std::thread;
 
 use crate::call::{Call, Did, Reply, Seat, Stat};
 use crate::error::Error;
 use crate::path::AsPath;
 use crate::tree::Tree;
+use crate::whole::Calls;
 
 /// A thread's way into a shared tree: a seat of its own.
 ///
@@ -36,30 +36,24 @@ pub struct Session {
 }
 
 impl Session {
-    /// A session on a tree, with a new seat. Seats stay as long as the tree does, so keep a session rather than make many.
+    /// A session on a tree, with a seat that no other one has. It gives the seat back when it is dropped.
     pub fn new(tree: &Arc<Mutex<Tree>>) -> Result<Session, Error> {
-        let seat = lock(tree).seat()?;
+        let seat = lock(tree).take_seat()?;
         Ok(Session {
             tree: Arc::clone(tree),
             seat,
         })
     }
 
-    /// Makes a call, step by step between those of other threads. While it has to wait for a node it yields and tries again.
+    /// Its seat, by whose number the journal tells its calls from others.
+    pub fn seat(&self) -> Seat {
+        self.seat
+    }
+
+    /// Makes a call, step by step between those of other threads. While it has to wait for a node it sleeps, and the step by which
+    /// the call that holds it lets a node go wakes it.
     pub fn call(&mut self, call: &Call) -> Result<Reply, Error> {
-        lock(&self.tree).begin(self.seat, call)?;
-        loop {
-            // The lock is held up to the reply, which a checkpoint of another thread would take away.
-            let mut tree = lock(&self.tree);
-            let did = tree.step(self.seat)?;
-            if matches!(did, Did::Returned | Did::Idle) {
-                return tree.reply(self.seat);
-            }
-            drop(tree);
-            if matches!(did, Did::WaitsFor(_)) {
-                thread::yield_now();
-            }
-        }
+        run(&self.tree, self.seat, call)
     }
 
     fn done(&mut self, call: &Call) -> Result<(), Error> {
@@ -92,11 +86,7 @@ impl Session {
     }
 
     /// Lets what stands at two paths change places, each with all below it.
-    pub fn exchange(
-        &mut self,
-        path: impl AsPath,
-        other: impl AsPath,
-    ) -> Result<(), Error> {
+    pub fn exchange(&mut self, path: impl AsPath, other: impl AsPath) -> Result<(), Error> {
         self.done(&Call::exchange(&path, &other))
     }
 
@@ -117,12 +107,7 @@ impl Session {
     }
 
     /// At most `count` bytes of a file from an offset on.
-    pub fn read(
-        &mut self,
-        path: impl AsPath,
-        offset: u64,
-        count: u64,
-    ) -> Result<Vec<u8>, Error> {
+    pub fn read(&mut self, path: impl AsPath, offset: u64, count: u64) -> Result<Vec<u8>, Error> {
         match self.call(&Call::read(&path, offset, count))? {
             Reply::Bytes(bytes) => Ok(bytes),
             _ => Err(Error::NoReply),
@@ -148,7 +133,39 @@ impl Session {
     }
 }
 
+impl Calls for Session {
+    fn call(&mut self, call: &Call) -> Result<Reply, Error> {
+        Session::call(self, call)
+    }
+}
+
+impl Drop for Session {
+    fn drop(&mut self) {
+        lock(&self.tree).give_back(self.seat);
+    }
+}
+
+/// Runs a call on a seat of a tree that is shared. It takes the lock for the begin and for each step.
+pub(crate) fn run(tree: &Mutex<Tree>, seat: Seat, call: &Call) -> Result<Reply, Error> {
+    lock(tree).begin(seat, call)?;
+    let mut now = lock(tree);
+    loop {
+        match now.step(seat)? {
+            // The lock is held up to the reply, which a checkpoint of another thread would take away.
+            Did::Returned | Did::Idle => return now.reply(seat),
+            Did::WaitsFor(holder) => {
+                let sleeps = now.sleeps_for(holder);
+                now = sleeps.wait(now).unwrap_or_else(PoisonError::into_inner);
+            }
+            _ => {
+                drop(now);
+                now = lock(tree);
+            }
+        }
+    }
+}
+
 /// The tree, whole at each step, so also where a thread panicked that held its lock.
-fn lock(tree: &Mutex<Tree>) -> MutexGuard<'_, Tree> {
+pub(crate) fn lock(tree: &Mutex<Tree>) -> MutexGuard<'_, Tree> {
     tree.lock().unwrap_or_else(PoisonError::into_inner)
 }

@@ -1,7 +1,9 @@
 //! Trees.
 
+use std::collections::BTreeMap;
 use std::fmt;
 use std::ptr;
+use std::sync::{Arc, Condvar};
 
 use crate::call::{Call, Did, Kind, Reply, Seat, Stat};
 use crate::error::Error;
@@ -22,7 +24,27 @@ pub struct Tree {
     /// The seat of the tree's own calls; none where the last of them waits on it.
     own: Option<Seat>,
     /// The last call that was begun on each seat.
-    last: Vec<(u64, Kind)>,
+    last: Vec<Last>,
+    /// The seats that sessions gave back.
+    free: Vec<Seat>,
+    /// Where sessions sleep that wait for a node of the call of a number.
+    sleepers: BTreeMap<u64, Arc<Condvar>>,
+}
+
+/// A call that was begun on a seat.
+#[derive(Clone, Copy)]
+struct Last {
+    number: u64,
+    kind: Kind,
+    under_way: bool,
+}
+
+impl Last {
+    const NONE: Last = Last {
+        number: 0,
+        kind: Kind::Done,
+        under_way: false,
+    };
 }
 
 // The library proves that a handle may go from thread to thread.
@@ -66,6 +88,8 @@ impl Tree {
             room: vec![0; ROOM],
             own: None,
             last: Vec::new(),
+            free: Vec::new(),
+            sleepers: BTreeMap::new(),
         };
         done(unsafe { ffi::atomfs_open_with(&mut *tree.handle, limit, limits as u8) })?;
         tree.own()?;
@@ -98,11 +122,7 @@ impl Tree {
     }
 
     /// Lets what stands at two paths change places, each with all below it.
-    pub fn exchange(
-        &mut self,
-        path: impl AsPath,
-        other: impl AsPath,
-    ) -> Result<(), Error> {
+    pub fn exchange(&mut self, path: impl AsPath, other: impl AsPath) -> Result<(), Error> {
         self.on_paths(ffi::atomfs_exchange, path.path_bytes(), other.path_bytes())
     }
 
@@ -149,12 +169,7 @@ impl Tree {
     }
 
     /// At most `count` bytes of a file from an offset on.
-    pub fn read(
-        &mut self,
-        path: impl AsPath,
-        offset: u64,
-        count: usize,
-    ) -> Result<Vec<u8>, Error> {
+    pub fn read(&mut self, path: impl AsPath, offset: u64, count: usize) -> Result<Vec<u8>, Error> {
         let path = path.path_bytes();
         if count > self.room.len() {
             // The file may be shorter than what is asked for by far.
@@ -246,6 +261,35 @@ impl Tree {
             )
         };
         self.called(status, number, Kind::Done)
+    }
+
+    /// Runs a call to its return, and tells its reply: as the method of its name does.
+    ///
+    /// ```
+    /// use atomfs::{Call, Reply, Tree};
+    ///
+    /// let mut tree = Tree::new()?;
+    /// assert_eq!(tree.call(&Call::mkdir("/a"))?, Reply::Done);
+    /// assert_eq!(tree.call(&Call::readdir("/"))?, Reply::Names(vec![b"a".to_vec()]));
+    /// # Ok::<(), atomfs::Error>(())
+    /// ```
+    pub fn call(&mut self, call: &Call) -> Result<Reply, Error> {
+        match *call {
+            Call::Mkdir(path) => self.mkdir(path).map(|()| Reply::Done),
+            Call::Mknod(path) => self.mknod(path).map(|()| Reply::Done),
+            Call::Unlink(path) => self.unlink(path).map(|()| Reply::Done),
+            Call::Rmdir(path) => self.rmdir(path).map(|()| Reply::Done),
+            Call::Rename(path, other) => self.rename(path, other).map(|()| Reply::Done),
+            Call::Exchange(path, other) => self.exchange(path, other).map(|()| Reply::Done),
+            Call::Stat(path) => self.stat(path).map(Reply::Stat),
+            Call::Readdir(path) => self.readdir(path).map(Reply::Names),
+            Call::Read(path, offset, count) => {
+                let count = usize::try_from(count).unwrap_or(usize::MAX);
+                self.read(path, offset, count).map(Reply::Bytes)
+            }
+            Call::Write(path, offset, bytes) => self.write(path, offset, bytes).map(Reply::Wrote),
+            Call::Truncate(path, size) => self.truncate(path, size).map(|()| Reply::Done),
+        }
     }
 
     fn on_path(&mut self, function: OnPath, path: &[u8]) -> Result<(), Error> {
@@ -340,16 +384,56 @@ impl Tree {
     fn began(&mut self, seat: Seat, number: u64, kind: Kind) {
         let at = usize::try_from(seat.0).expect("a seat is in memory");
         if at >= self.last.len() {
-            self.last.resize(at + 1, (0, Kind::Done));
+            self.last.resize(at + 1, Last::NONE);
         }
-        self.last[at] = (number, kind);
+        self.last[at] = Last {
+            number,
+            kind,
+            under_way: true,
+        };
+    }
+
+    /// The last call that was begun on a seat since the last checkpoint.
+    fn last(&mut self, seat: Seat) -> Option<&mut Last> {
+        self.last.get_mut(usize::try_from(seat.0).ok()?)
+    }
+
+    /// A seat without a call under way that nobody else has.
+    pub(crate) fn take_seat(&mut self) -> Result<Seat, Error> {
+        self.free.pop().map_or_else(|| self.seat(), Ok)
+    }
+
+    /// Gives a seat back to `take_seat`.
+    pub(crate) fn give_back(&mut self, seat: Seat) {
+        if !self.last(seat).map_or(false, |last| last.under_way) {
+            self.free.push(seat);
+        }
+    }
+
+    /// Where a session sleeps that waits for a node of the call of a number: it is woken when that call lets a node go.
+    pub(crate) fn sleeps_for(&mut self, holder: u64) -> Arc<Condvar> {
+        Arc::clone(self.sleepers.entry(holder).or_default())
+    }
+
+    /// What a step of the call on a seat did, of which those are told that wait for it.
+    fn stepped(&mut self, seat: Seat, did: Did) -> Did {
+        if let Some(last) = self.last(seat) {
+            last.under_way &= did != Did::Returned;
+            let number = last.number;
+            if matches!(did, Did::LetGo(_)) {
+                if let Some(sleepers) = self.sleepers.remove(&number) {
+                    sleepers.notify_all();
+                }
+            }
+        }
+        did
     }
 
     /// Makes one step of the call on a seat.
     pub fn step(&mut self, seat: Seat) -> Result<Did, Error> {
         let (mut did, mut about) = (0, 0);
         done(unsafe { ffi::atomfs_step(&mut *self.handle, seat.0, &mut did, &mut about) })?;
-        Ok(Did::of(did, about))
+        Ok(self.stepped(seat, Did::of(did, about)))
     }
 
     /// Makes one step of a call that does not wait, whichever it is, and tells its seat. It tells none where no call is under
@@ -374,7 +458,7 @@ impl Tree {
         done(unsafe { ffi::atomfs_step_any(&mut *self.handle, &mut seat, &mut did, &mut about) })?;
         Ok(match Did::of(did, about) {
             Did::Idle => None,
-            did => Some((Seat(seat), did)),
+            did => Some((Seat(seat), self.stepped(Seat(seat), did))),
         })
     }
 
@@ -392,8 +476,7 @@ impl Tree {
 
     /// The reply of the last call that was begun on a seat, once it has returned.
     pub fn reply(&mut self, seat: Seat) -> Result<Reply, Error> {
-        let at = usize::try_from(seat.0).unwrap_or(usize::MAX);
-        let (number, kind) = self.last.get(at).copied().ok_or(Error::NoReply)?;
+        let Last { number, kind, .. } = *self.last(seat).ok_or(Error::NoReply)?;
         match kind {
             Kind::Done => {
                 done(unsafe { ffi::atomfs_reply_done(&mut *self.handle, number) })?;
