@@ -4,7 +4,7 @@
 use std::sync::{Arc, Mutex};
 use std::thread;
 
-use atomfs::{Call, Did, Error, Session, Tree};
+use atomfs::{Call, Did, Error, ErrorKind, Session, Tree};
 
 /// A mkdir stands half-way in /a/d, which a rename moves and helps, and a stat has to wait for it.
 fn meet(tree: &mut Tree) -> Result<(), Error> {
@@ -21,7 +21,7 @@ fn meet(tree: &mut Tree) -> Result<(), Error> {
         }
         did = tree.step(mover)?;
     }
-    if let Err(Error::Waits(waits)) = tree.stat("/b/d/x") {
+    if let Err(ErrorKind::Waits(waits)) = tree.stat("/b/d/x").map_err(|error| error.kind()) {
         eprintln!("the stat waits");
         eprintln!("mkdir: {:?}", tree.finish(maker)?);
         eprintln!("stat: {:?}", tree.finish(waits)?);

@@ -12,14 +12,18 @@ pub struct Stat {
     pub size: u64,
 }
 
-/// A place for one call under way, of the tree that made it.
+/// A place for one call under way, of the tree that made it: another tree refuses it.
 #[derive(Clone, Copy, Debug, PartialEq, Eq, Hash)]
-pub struct Seat(pub(crate) u64);
+pub struct Seat {
+    /// The number of its tree, which no other tree of the process has.
+    pub(crate) tree: u64,
+    pub(crate) number: u64,
+}
 
 impl Seat {
     /// Its number in the journal: 0, 1, 2 and so on. The tree's own calls have a seat too, the first.
     pub fn number(self) -> u64 {
-        self.0
+        self.number
     }
 }
 
@@ -175,6 +179,22 @@ impl<'a> Call<'a> {
         }
     }
 
+    /// Its path, and its second one where it has two.
+    pub(crate) fn paths(&self) -> (&'a [u8], Option<&'a [u8]>) {
+        match *self {
+            Call::Rename(path, other) | Call::Exchange(path, other) => (path, Some(other)),
+            Call::Mkdir(path)
+            | Call::Mknod(path)
+            | Call::Unlink(path)
+            | Call::Rmdir(path)
+            | Call::Stat(path)
+            | Call::Readdir(path)
+            | Call::Read(path, ..)
+            | Call::Write(path, ..)
+            | Call::Truncate(path, _) => (path, None),
+        }
+    }
+
     /// Which reply its return has.
     pub(crate) fn kind(&self) -> Kind {
         match self {
@@ -188,8 +208,9 @@ impl<'a> Call<'a> {
 }
 
 /// The kind of a reply.
-#[derive(Clone, Copy, Debug, PartialEq, Eq)]
+#[derive(Clone, Copy, Debug, Default, PartialEq, Eq)]
 pub(crate) enum Kind {
+    #[default]
     Done,
     Stat,
     Names,

@@ -1,9 +1,12 @@
 //! Errors of calls, and what else the library refuses.
 
+use std::ffi::OsStr;
 use std::fmt;
 use std::io;
+use std::os::unix::ffi::OsStrExt;
+use std::path::{Path, PathBuf};
 
-use crate::call::Seat;
+use crate::call::{Call, Seat};
 use crate::ffi;
 use crate::limits::{Limits, ENTRY_LIMIT, TEXT_LIMIT};
 
@@ -52,11 +55,162 @@ impl Errno {
     }
 }
 
-/// Why there is no answer. After `Waits` and `Untold` the call has begun; after every other error nothing has changed, but
-/// that a call that failed is in the journal.
+/// Why bytes are no path: the first check that they fail.
+#[derive(Clone, Copy, Debug, PartialEq, Eq, Hash)]
+pub enum PathFault {
+    /// It is empty, or its first byte is no slash.
+    NotAbsolute,
+    /// It has a byte 0.
+    Nul,
+    /// A name has more bytes than the limits allow.
+    NameTooLong,
+    /// It has more than 64 names.
+    TooManyNames,
+    /// A name is `.` or `..`.
+    Dot,
+    /// It has a name, and a slash at its end.
+    TrailingSlash,
+}
+
+impl PathFault {
+    const ALL: [(u8, PathFault); 6] = [
+        (ffi::PATH_NOT_ABSOLUTE, PathFault::NotAbsolute),
+        (ffi::PATH_NUL, PathFault::Nul),
+        (ffi::PATH_NAME_TOO_LONG, PathFault::NameTooLong),
+        (ffi::PATH_TOO_MANY_NAMES, PathFault::TooManyNames),
+        (ffi::PATH_DOT, PathFault::Dot),
+        (ffi::PATH_TRAILING_SLASH, PathFault::TrailingSlash),
+    ];
+
+    fn status(self) -> u8 {
+        let found = PathFault::ALL.into_iter().find(|(_, fault)| *fault == self);
+        found.map_or(ffi::BAD_PATH, |(status, _)| status)
+    }
+}
+
+/// Why there is no answer: its kind, and the path that it is about. After the kinds `Waits` and `Untold` the call has begun; after
+/// every other one nothing has changed, but that a call that failed is in the journal.
+///
+/// ```
+/// use atomfs::{Errno, ErrorKind, PathFault, Tree};
+///
+/// let error = Tree::new()?.mknod("/a/f").unwrap_err();
+/// assert_eq!(error, ErrorKind::Failed(Errno::ENOENT));
+/// assert_eq!(error.path(), Some("/a/f".as_ref()));
+/// let error = Tree::new()?.mkdir("/a/").unwrap_err();
+/// assert_eq!(error, ErrorKind::BadPath(PathFault::TrailingSlash));
+/// # Ok::<(), atomfs::Error>(())
+/// ```
+#[derive(Clone, Debug, PartialEq, Eq, Hash)]
+pub struct Error {
+    kind: ErrorKind,
+    paths: Option<Box<(PathBuf, Option<PathBuf>)>>,
+}
+
+impl Error {
+    /// Its kind.
+    pub fn kind(&self) -> ErrorKind {
+        self.kind
+    }
+
+    /// The error of the call, where one has failed.
+    pub fn errno(&self) -> Option<Errno> {
+        match self.kind {
+            ErrorKind::Failed(errno) => Some(errno),
+            _ => None,
+        }
+    }
+
+    /// The path of the call; of two the first, but where the second one is no path that one.
+    pub fn path(&self) -> Option<&Path> {
+        self.paths.as_deref().map(|paths| paths.0.as_path())
+    }
+
+    /// The second path of a rename or an exchange that failed.
+    pub fn other_path(&self) -> Option<&Path> {
+        self.paths.as_deref()?.1.as_deref()
+    }
+
+    /// The error of a call with its paths. For want of memory it takes none.
+    pub(crate) fn of_call(kind: ErrorKind, (path, other): (&[u8], Option<&[u8]>)) -> Error {
+        let paths = match kind {
+            ErrorKind::OutOfMemory | ErrorKind::Untold(_) => None,
+            _ => Some(Box::new((owned(path), other.map(owned)))),
+        };
+        Error { kind, paths }
+    }
+
+    /// The error of a call on one path.
+    pub(crate) fn at(kind: ErrorKind, path: &[u8]) -> Error {
+        Error::of_call(kind, (path, None))
+    }
+
+    /// The error of a status by which a call did not begin, or failed. Of a path that is none it says why.
+    pub(crate) fn of_refused(status: u8, number: u64, call: &Call, limits: Limits) -> Error {
+        let (path, other) = call.paths();
+        if status == ffi::BAD_PATH {
+            for path in [path].into_iter().chain(other) {
+                let fault =
+                    unsafe { ffi::atomfs_check_path(path.as_ptr(), path.len(), limits as u8) };
+                if fault != ffi::OK {
+                    return Error::at(ErrorKind::of(fault, 0), path);
+                }
+            }
+        }
+        Error::of_call(ErrorKind::of(status, number), (path, other))
+    }
+
+    /// The error of a status.
+    pub(crate) fn of(status: u8, about: u64) -> Error {
+        ErrorKind::of(status, about).into()
+    }
+
+    /// The error of a text.
+    pub(crate) fn of_text(status: u8, line: usize) -> Error {
+        let kind = match status {
+            ffi::NO_MEMORY => ErrorKind::OutOfMemory,
+            ffi::UNDER_WAY => ErrorKind::UnderWay(line as u64),
+            _ => ErrorKind::BadText(status, line),
+        };
+        kind.into()
+    }
+}
+
+fn owned(path: &[u8]) -> PathBuf {
+    PathBuf::from(OsStr::from_bytes(path))
+}
+
+impl From<ErrorKind> for Error {
+    fn from(kind: ErrorKind) -> Error {
+        Error { kind, paths: None }
+    }
+}
+
+impl PartialEq<ErrorKind> for Error {
+    fn eq(&self, kind: &ErrorKind) -> bool {
+        self.kind == *kind
+    }
+}
+
+impl fmt::Display for Error {
+    fn fmt(&self, f: &mut fmt::Formatter<'_>) -> fmt::Result {
+        if let Some(path) = self.path() {
+            write!(f, "{path:?}")?;
+            if let Some(other) = self.other_path() {
+                write!(f, ", {other:?}")?;
+            }
+            f.write_str(": ")?;
+        }
+        self.kind.fmt(f)
+    }
+}
+
+impl std::error::Error for Error {}
+
+/// The kind of an error.
 #[derive(Clone, Copy, Debug, PartialEq, Eq, Hash)]
 #[non_exhaustive]
-pub enum Error {
+pub enum ErrorKind {
     /// The call returned with an error.
     Failed(Errno),
     /// The call is under way on this seat, and a call of another seat holds the node that it wants next: `Tree::step` or
@@ -66,8 +220,8 @@ pub enum Error {
     Untold(u64),
     /// The call of this number is under way, where none may be.
     UnderWay(u64),
-    /// The path is none: not absolute, a name too long, a `.`, a slash at its end.
-    BadPath,
+    /// The path is none.
+    BadPath(PathFault),
     /// The call needs a node, and all are in use.
     Full,
     /// Out of memory.
@@ -76,6 +230,8 @@ pub enum Error {
     BadLimit,
     /// There is no such seat.
     NoSeat,
+    /// The seat is of another tree.
+    ForeignSeat,
     /// The seat has a call under way.
     SeatBusy,
     /// The last call of the seat has not returned, or none was begun since the last checkpoint.
@@ -91,79 +247,76 @@ pub enum Error {
     Other(u8),
 }
 
-impl Error {
+impl ErrorKind {
     /// The error of a status. `about` is the number of a call, or the line of a text.
-    pub(crate) fn of(status: u8, about: u64) -> Error {
+    fn of(status: u8, about: u64) -> ErrorKind {
         if let Some(number) = status.checked_sub(ffi::FAILED) {
             let errno = Errno::ALL
                 .into_iter()
                 .find(|errno| errno.number() == i32::from(number));
-            return errno.map_or(Error::Other(status), Error::Failed);
+            return errno.map_or(ErrorKind::Other(status), ErrorKind::Failed);
+        }
+        let fault = PathFault::ALL.into_iter().find(|(of, _)| *of == status);
+        if let Some((_, fault)) = fault {
+            return ErrorKind::BadPath(fault);
         }
         match status {
-            ffi::UNTOLD => Error::Untold(about),
-            ffi::BAD_LIMIT => Error::BadLimit,
-            ffi::NO_MEMORY => Error::OutOfMemory,
-            ffi::NO_SEAT => Error::NoSeat,
-            ffi::SEAT_BUSY => Error::SeatBusy,
-            ffi::FULL => Error::Full,
-            ffi::NO_REPLY => Error::NoReply,
-            ffi::UNDER_WAY => Error::UnderWay(about),
-            ffi::BAD_PATH => Error::BadPath,
-            _ => Error::Other(status),
-        }
-    }
-
-    /// The error of a text.
-    pub(crate) fn of_text(status: u8, line: usize) -> Error {
-        match status {
-            ffi::NO_MEMORY => Error::OutOfMemory,
-            ffi::UNDER_WAY => Error::UnderWay(line as u64),
-            _ => Error::BadText(status, line),
+            ffi::UNTOLD => ErrorKind::Untold(about),
+            ffi::BAD_LIMIT => ErrorKind::BadLimit,
+            ffi::NO_MEMORY => ErrorKind::OutOfMemory,
+            ffi::NO_SEAT => ErrorKind::NoSeat,
+            ffi::SEAT_BUSY => ErrorKind::SeatBusy,
+            ffi::FULL => ErrorKind::Full,
+            ffi::NO_REPLY => ErrorKind::NoReply,
+            ffi::UNDER_WAY => ErrorKind::UnderWay(about),
+            _ => ErrorKind::Other(status),
         }
     }
 
     fn status(self) -> u8 {
         match self {
-            Error::Failed(errno) => ffi::FAILED + errno as u8,
-            Error::Waits(_) => ffi::WAITS,
-            Error::Untold(_) => ffi::UNTOLD,
-            Error::BadLimit => ffi::BAD_LIMIT,
-            Error::OutOfMemory => ffi::NO_MEMORY,
-            Error::NoSeat => ffi::NO_SEAT,
-            Error::SeatBusy => ffi::SEAT_BUSY,
-            Error::Full => ffi::FULL,
-            Error::NoReply => ffi::NO_REPLY,
-            Error::UnderWay(_) => ffi::UNDER_WAY,
-            Error::BadPath => ffi::BAD_PATH,
-            Error::JournalTooLarge => ffi::TOO_LARGE,
-            // No status of the library.
-            Error::BadOptions => ffi::OK,
-            Error::BadText(status, _) | Error::Other(status) => status,
+            ErrorKind::Failed(errno) => ffi::FAILED + errno as u8,
+            ErrorKind::Waits(_) => ffi::WAITS,
+            ErrorKind::Untold(_) => ffi::UNTOLD,
+            ErrorKind::BadLimit => ffi::BAD_LIMIT,
+            ErrorKind::OutOfMemory => ffi::NO_MEMORY,
+            ErrorKind::NoSeat => ffi::NO_SEAT,
+            ErrorKind::SeatBusy => ffi::SEAT_BUSY,
+            ErrorKind::Full => ffi::FULL,
+            ErrorKind::NoReply => ffi::NO_REPLY,
+            ErrorKind::UnderWay(_) => ffi::UNDER_WAY,
+            ErrorKind::BadPath(fault) => fault.status(),
+            ErrorKind::JournalTooLarge => ffi::TOO_LARGE,
+            // The library has no status for these.
+            ErrorKind::BadOptions | ErrorKind::ForeignSeat => ffi::OK,
+            ErrorKind::BadText(status, _) | ErrorKind::Other(status) => status,
         }
     }
 }
 
-impl fmt::Display for Error {
+impl fmt::Display for ErrorKind {
     fn fmt(&self, f: &mut fmt::Formatter<'_>) -> fmt::Result {
-        if let Error::Failed(errno) = self {
+        if let ErrorKind::Failed(errno) = self {
             write!(f, "{}", io::Error::from_raw_os_error(errno.number()))?;
             return limit_of(*errno).map_or(Ok(()), |limit| write!(f, ": {limit}"));
         }
         let words = ffi::words(unsafe { ffi::atomfs_status_text(self.status()) });
         match self {
-            Error::BadText(status, line) => match kind_of(*status) {
+            ErrorKind::BadText(status, line) => match kind_of(*status) {
                 Some(kind) => write!(f, "line {line}: {kind}: {words}"),
                 None => write!(f, "line {line}: {words}"),
             },
-            Error::JournalTooLarge => write!(
+            ErrorKind::JournalTooLarge => write!(
                 f,
                 "the journal has more than {TEXT_LIMIT} bytes: checkpoint, and check the pieces"
             ),
-            Error::BadOptions => f.write_str(
+            ErrorKind::BadOptions => f.write_str(
                 "the options to open a file by contradict each other, or ask for no access",
             ),
-            Error::Untold(number) | Error::UnderWay(number) => write!(f, "call {number}: {words}"),
+            ErrorKind::ForeignSeat => f.write_str("the seat is of another tree"),
+            ErrorKind::Untold(number) | ErrorKind::UnderWay(number) => {
+                write!(f, "call {number}: {words}")
+            }
             _ => f.write_str(words),
         }
     }
@@ -203,22 +356,20 @@ fn kind_of(status: u8) -> Option<&'static str> {
         .copied()
 }
 
-impl std::error::Error for Error {}
-
 impl From<Error> for io::Error {
     fn from(error: Error) -> io::Error {
-        match error {
-            Error::Failed(errno) => io::Error::from_raw_os_error(errno.number()),
-            Error::Full => io::Error::from_raw_os_error(Errno::ENOSPC.number()),
-            Error::BadPath
-            | Error::BadLimit
-            | Error::BadText(..)
-            | Error::JournalTooLarge
-            | Error::BadOptions => io::Error::new(io::ErrorKind::InvalidInput, error),
-            Error::OutOfMemory | Error::Untold(_) => {
+        match error.kind {
+            ErrorKind::Failed(errno) => io::Error::from_raw_os_error(errno.number()),
+            ErrorKind::Full => io::Error::from_raw_os_error(Errno::ENOSPC.number()),
+            ErrorKind::BadPath(_)
+            | ErrorKind::BadLimit
+            | ErrorKind::BadText(..)
+            | ErrorKind::JournalTooLarge
+            | ErrorKind::BadOptions => io::Error::new(io::ErrorKind::InvalidInput, error),
+            ErrorKind::OutOfMemory | ErrorKind::Untold(_) => {
                 io::Error::new(io::ErrorKind::OutOfMemory, error)
             }
-            Error::Waits(_) => io::Error::new(io::ErrorKind::WouldBlock, error),
+            ErrorKind::Waits(_) => io::Error::new(io::ErrorKind::WouldBlock, error),
             _ => io::Error::new(io::ErrorKind::Other, error),
         }
     }

@@ -43,6 +43,12 @@ pub const UNDER_WAY: u8 = 12;
 pub const BAD_HEADER: u8 = 16;
 pub const BAD_PATH: u8 = 20;
 pub const TOO_LARGE: u8 = 25;
+pub const PATH_NOT_ABSOLUTE: u8 = 28;
+pub const PATH_NUL: u8 = 29;
+pub const PATH_NAME_TOO_LONG: u8 = 30;
+pub const PATH_TOO_MANY_NAMES: u8 = 31;
+pub const PATH_DOT: u8 = 32;
+pub const PATH_TRAILING_SLASH: u8 = 33;
 /// From here on a call has failed, and the rest is the number of its error.
 pub const FAILED: u8 = 128;
 
@@ -217,6 +223,8 @@ extern "C" {
         room: usize,
         count: *mut usize,
     ) -> u8;
+
+    pub fn atomfs_check_path(path: *const u8, length: usize, version: u8) -> u8;
 }
 
 /// A text of the library that stays as it is.

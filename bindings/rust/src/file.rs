@@ -3,7 +3,7 @@
 use std::io::{self, Read, Seek, SeekFrom, Write};
 
 use crate::call::{Call, Stat};
-use crate::error::{Errno, Error};
+use crate::error::{Errno, Error, ErrorKind};
 use crate::path::AsPath;
 use crate::whole::{self, Calls};
 
@@ -80,8 +80,8 @@ impl OpenOptions {
 
     /// Opens a file of a tree.
     ///
-    /// `Error::BadOptions`, where no access is asked for, or a new or an emptied file without write, or an emptied one to append
-    /// to. `Error::Failed` with `EISDIR` of a directory, and as the calls fail else. By an error the tree is as before.
+    /// `ErrorKind::BadOptions`, where no access is asked for, or a new or an emptied file without write, or an emptied one to append
+    /// to. `EISDIR` of a directory, and as the calls fail else. By an error the tree is as before.
     pub fn open<C: Calls>(&self, mut calls: C, path: impl AsPath) -> Result<File<C>, Error> {
         let path = path.path_bytes().to_vec();
         let writes = self.write || self.append;
@@ -89,7 +89,7 @@ impl OpenOptions {
         let changes = empties || self.create || self.create_new;
         let none = !self.read && !writes;
         if none || (changes && !writes) || (empties && self.append) {
-            return Err(Error::BadOptions);
+            return Err(Error::at(ErrorKind::BadOptions, &path));
         }
         if !self.make(&mut calls, &path)? && empties {
             calls.call(&Call::Truncate(&path, 0))?;
@@ -119,7 +119,7 @@ impl OpenOptions {
             found = whole::stat(calls, path);
         }
         if found?.is_dir {
-            return Err(Error::Failed(Errno::EISDIR));
+            return Err(Error::at(ErrorKind::Failed(Errno::EISDIR), path));
         }
         Ok(false)
     }

@@ -25,7 +25,7 @@
 //! # fn main() -> Result<(), atomfs::Error> {
 //! let mut tree = atomfs::Tree::new()?;
 //! let error = tree.stat("/nowhere").unwrap_err();
-//! assert_eq!(error, atomfs::Error::Failed(atomfs::Errno::ENOENT));
+//! assert_eq!(error, atomfs::ErrorKind::Failed(atomfs::Errno::ENOENT));
 //! assert_eq!(io::Error::from(error).kind(), io::ErrorKind::NotFound);
 //! # Ok(())
 //! # }
@@ -47,7 +47,7 @@ mod tree;
 mod whole;
 
 pub use call::{Call, Did, Reply, Seat, Stat};
-pub use error::{Errno, Error};
+pub use error::{Errno, Error, ErrorKind, PathFault};
 pub use file::{File, OpenOptions};
 pub use limits::Limits;
 pub use path::AsPath;

@@ -3,7 +3,7 @@
 use std::sync::{Arc, Mutex, MutexGuard, PoisonError};
 
 use crate::call::{Call, Did, Reply, Seat, Stat};
-use crate::error::Error;
+use crate::error::{Error, ErrorKind};
 use crate::path::AsPath;
 use crate::tree::Tree;
 use crate::whole::Calls;
@@ -94,7 +94,7 @@ impl Session {
     pub fn stat(&mut self, path: impl AsPath) -> Result<Stat, Error> {
         match self.call(&Call::stat(&path))? {
             Reply::Stat(stat) => Ok(stat),
-            _ => Err(Error::NoReply),
+            _ => Err(ErrorKind::NoReply.into()),
         }
     }
 
@@ -102,7 +102,7 @@ impl Session {
     pub fn readdir(&mut self, path: impl AsPath) -> Result<Vec<Vec<u8>>, Error> {
         match self.call(&Call::readdir(&path))? {
             Reply::Names(names) => Ok(names),
-            _ => Err(Error::NoReply),
+            _ => Err(ErrorKind::NoReply.into()),
         }
     }
 
@@ -110,7 +110,7 @@ impl Session {
     pub fn read(&mut self, path: impl AsPath, offset: u64, count: u64) -> Result<Vec<u8>, Error> {
         match self.call(&Call::read(&path, offset, count))? {
             Reply::Bytes(bytes) => Ok(bytes),
-            _ => Err(Error::NoReply),
+            _ => Err(ErrorKind::NoReply.into()),
         }
     }
 
@@ -123,7 +123,7 @@ impl Session {
     ) -> Result<u64, Error> {
         match self.call(&Call::write(&path, offset, &bytes))? {
             Reply::Wrote(count) => Ok(count),
-            _ => Err(Error::NoReply),
+            _ => Err(ErrorKind::NoReply.into()),
         }
     }
 

@@ -3,7 +3,7 @@
 use std::sync::{Arc, Mutex, MutexGuard};
 
 use crate::call::{Call, Reply, Stat};
-use crate::error::Error;
+use crate::error::{Error, ErrorKind};
 use crate::file::{File, OpenOptions};
 use crate::limits::Limits;
 use crate::path::AsPath;
@@ -53,7 +53,7 @@ impl SharedTree {
     }
 
     /// The tree itself: for its journal and its verdict, and for steps of your own. Calls of other threads stand still meanwhile, so
-    /// one that waits for theirs is not made by it: it ends with `Error::Waits`.
+    /// one that waits for theirs is not made by it: it ends with `ErrorKind::Waits`.
     pub fn lock(&self) -> MutexGuard<'_, Tree> {
         lock(&self.tree)
     }
@@ -109,7 +109,7 @@ impl SharedTree {
     pub fn stat(&self, path: impl AsPath) -> Result<Stat, Error> {
         match self.call(&Call::stat(&path))? {
             Reply::Stat(stat) => Ok(stat),
-            _ => Err(Error::NoReply),
+            _ => Err(ErrorKind::NoReply.into()),
         }
     }
 
@@ -117,7 +117,7 @@ impl SharedTree {
     pub fn readdir(&self, path: impl AsPath) -> Result<Vec<Vec<u8>>, Error> {
         match self.call(&Call::readdir(&path))? {
             Reply::Names(names) => Ok(names),
-            _ => Err(Error::NoReply),
+            _ => Err(ErrorKind::NoReply.into()),
         }
     }
 
@@ -125,7 +125,7 @@ impl SharedTree {
     pub fn read(&self, path: impl AsPath, offset: u64, count: u64) -> Result<Vec<u8>, Error> {
         match self.call(&Call::read(&path, offset, count))? {
             Reply::Bytes(bytes) => Ok(bytes),
-            _ => Err(Error::NoReply),
+            _ => Err(ErrorKind::NoReply.into()),
         }
     }
 
@@ -138,7 +138,7 @@ impl SharedTree {
     ) -> Result<u64, Error> {
         match self.call(&Call::write(&path, offset, &bytes))? {
             Reply::Wrote(count) => Ok(count),
-            _ => Err(Error::NoReply),
+            _ => Err(ErrorKind::NoReply.into()),
         }
     }
 

@@ -3,10 +3,11 @@
 use std::collections::BTreeMap;
 use std::fmt;
 use std::ptr;
+use std::sync::atomic::{AtomicU64, Ordering};
 use std::sync::{Arc, Condvar};
 
 use crate::call::{Call, Did, Kind, Reply, Seat, Stat};
-use crate::error::Error;
+use crate::error::{Error, ErrorKind};
 use crate::ffi::{self, Handle, OnPath, OnPaths, RawStat, OK, TOO_SMALL, UNTOLD, WAITS};
 use crate::limits::{Limits, TEXT_LIMIT};
 use crate::path::AsPath;
@@ -15,11 +16,21 @@ use crate::NODE_LIMIT;
 /// Room for the names of a full directory, and for the bytes of most files: where a file has more, the room becomes longer.
 const ROOM: usize = 65_536;
 
+/// How many trees have been opened.
+static TREES: AtomicU64 = AtomicU64::new(0);
+
 /// A tree with the journal of its calls. It is closed when it is dropped.
 ///
 /// Each method runs one call at a time. Threads share a tree in a `Mutex`, or by [`Session`](crate::Session)s.
 pub struct Tree {
-    handle: Box<Handle>,
+    /// A box, which the tree owns.
+    handle: *mut Handle,
+    /// What tells its seats from those of other trees.
+    id: u64,
+    limit: usize,
+    limits: Limits,
+    /// How many calls have begun since the last checkpoint.
+    calls: u64,
     room: Vec<u8>,
     /// The seat of the tree's own calls; none where the last of them waits on it.
     own: Option<Seat>,
@@ -32,19 +43,23 @@ pub struct Tree {
 }
 
 /// A call that was begun on a seat.
-#[derive(Clone, Copy)]
+#[derive(Default)]
 struct Last {
     number: u64,
     kind: Kind,
     under_way: bool,
+    path: Vec<u8>,
+    other: Option<Vec<u8>>,
 }
 
 impl Last {
-    const NONE: Last = Last {
-        number: 0,
-        kind: Kind::Done,
-        under_way: false,
-    };
+    fn begins(&mut self, number: u64, call: &Call) {
+        let (path, other) = call.paths();
+        self.path.clear();
+        self.path.extend_from_slice(path);
+        self.other = other.map(<[u8]>::to_vec);
+        (self.number, self.kind, self.under_way) = (number, call.kind(), true);
+    }
 }
 
 // The library proves that a handle may go from thread to thread.
@@ -61,7 +76,7 @@ impl Tree {
     /// ```
     /// let mut tree = atomfs::Tree::with_limit(2)?;
     /// tree.mkdir("/a")?;
-    /// assert_eq!(tree.mkdir("/b"), Err(atomfs::Error::Full));
+    /// assert_eq!(tree.mkdir("/b").unwrap_err(), atomfs::ErrorKind::Full);
     /// # Ok::<(), atomfs::Error>(())
     /// ```
     pub fn with_limit(limit: usize) -> Result<Tree, Error> {
@@ -71,12 +86,12 @@ impl Tree {
     /// The same with names and files by these limits.
     ///
     /// ```
-    /// use atomfs::{Errno, Error, Limits, Tree, NODE_LIMIT};
+    /// use atomfs::{Errno, ErrorKind, Limits, Tree, NODE_LIMIT};
     ///
     /// let mut tree = Tree::with_limits(NODE_LIMIT, Limits::V1)?;
     /// tree.mknod("/f")?;
-    /// assert_eq!(tree.truncate("/f", 65_537), Err(Error::Failed(Errno::EFBIG)));
-    /// # Ok::<(), Error>(())
+    /// assert_eq!(tree.truncate("/f", 65_537).unwrap_err(), ErrorKind::Failed(Errno::EFBIG));
+    /// # Ok::<(), atomfs::Error>(())
     /// ```
     pub fn with_limits(limit: usize, limits: Limits) -> Result<Tree, Error> {
         let handle = Box::new(Handle {
@@ -84,46 +99,50 @@ impl Tree {
             at: ptr::null_mut(),
         });
         let mut tree = Tree {
-            handle,
+            handle: Box::into_raw(handle),
+            id: TREES.fetch_add(1, Ordering::Relaxed),
+            limit,
+            limits,
+            calls: 0,
             room: vec![0; ROOM],
             own: None,
             last: Vec::new(),
             free: Vec::new(),
             sleepers: BTreeMap::new(),
         };
-        done(unsafe { ffi::atomfs_open_with(&mut *tree.handle, limit, limits as u8) })?;
+        done(unsafe { ffi::atomfs_open_with(tree.handle, limit, limits as u8) })?;
         tree.own()?;
         Ok(tree)
     }
 
     /// Makes an empty directory.
     pub fn mkdir(&mut self, path: impl AsPath) -> Result<(), Error> {
-        self.on_path(ffi::atomfs_mkdir, path.path_bytes())
+        self.on_path(ffi::atomfs_mkdir, &Call::mkdir(&path))
     }
 
     /// Makes an empty file.
     pub fn mknod(&mut self, path: impl AsPath) -> Result<(), Error> {
-        self.on_path(ffi::atomfs_mknod, path.path_bytes())
+        self.on_path(ffi::atomfs_mknod, &Call::mknod(&path))
     }
 
     /// Removes the entry of a file.
     pub fn unlink(&mut self, path: impl AsPath) -> Result<(), Error> {
-        self.on_path(ffi::atomfs_unlink, path.path_bytes())
+        self.on_path(ffi::atomfs_unlink, &Call::unlink(&path))
     }
 
     /// Removes the entry of an empty directory.
     pub fn rmdir(&mut self, path: impl AsPath) -> Result<(), Error> {
-        self.on_path(ffi::atomfs_rmdir, path.path_bytes())
+        self.on_path(ffi::atomfs_rmdir, &Call::rmdir(&path))
     }
 
     /// Moves what stands at `path`, with all below it, to `other`; a file or an empty directory there is replaced.
     pub fn rename(&mut self, path: impl AsPath, other: impl AsPath) -> Result<(), Error> {
-        self.on_paths(ffi::atomfs_rename, path.path_bytes(), other.path_bytes())
+        self.on_paths(ffi::atomfs_rename, &Call::rename(&path, &other))
     }
 
     /// Lets what stands at two paths change places, each with all below it.
     pub fn exchange(&mut self, path: impl AsPath, other: impl AsPath) -> Result<(), Error> {
-        self.on_paths(ffi::atomfs_exchange, path.path_bytes(), other.path_bytes())
+        self.on_paths(ffi::atomfs_exchange, &Call::exchange(&path, &other))
     }
 
     /// What stands at a path.
@@ -132,7 +151,7 @@ impl Tree {
         let (path, mut stat, mut number) = (path.path_bytes(), RawStat::default(), 0);
         let status = unsafe {
             ffi::atomfs_stat(
-                &mut *self.handle,
+                self.handle,
                 own,
                 path.as_ptr(),
                 path.len(),
@@ -140,7 +159,7 @@ impl Tree {
                 &mut number,
             )
         };
-        self.called(status, number, Kind::Stat)?;
+        self.called(status, number, &Call::Stat(path))?;
         Ok(stat_of(stat))
     }
 
@@ -151,7 +170,7 @@ impl Tree {
         let (out, room) = (self.room.as_mut_ptr(), self.room.len());
         let status = unsafe {
             ffi::atomfs_readdir(
-                &mut *self.handle,
+                self.handle,
                 own,
                 path.as_ptr(),
                 path.len(),
@@ -162,9 +181,10 @@ impl Tree {
             )
         };
         if status == TOO_SMALL || status == UNTOLD {
+            self.calls = number;
             return self.told_names(number);
         }
-        self.called(status, number, Kind::Names)?;
+        self.called(status, number, &Call::Readdir(path))?;
         Ok(names_of(&self.room[..count]))
     }
 
@@ -194,7 +214,7 @@ impl Tree {
         let (path, mut count, mut number) = (path.path_bytes(), 0, 0);
         let mut status = unsafe {
             ffi::atomfs_read(
-                &mut *self.handle,
+                self.handle,
                 own,
                 path.as_ptr(),
                 path.len(),
@@ -208,7 +228,7 @@ impl Tree {
         if status == UNTOLD {
             status = unsafe {
                 ffi::atomfs_reply_bytes(
-                    &mut *self.handle,
+                    self.handle,
                     number,
                     out.as_mut_ptr(),
                     out.len(),
@@ -216,7 +236,7 @@ impl Tree {
                 )
             };
         }
-        self.called(status, number, Kind::Bytes)?;
+        self.called(status, number, &Call::Read(path, offset, out.len() as u64))?;
         Ok(count)
     }
 
@@ -231,7 +251,7 @@ impl Tree {
         let (path, bytes, mut wrote, mut number) = (path.path_bytes(), bytes.as_ref(), 0, 0);
         let status = unsafe {
             ffi::atomfs_write(
-                &mut *self.handle,
+                self.handle,
                 own,
                 path.as_ptr(),
                 path.len(),
@@ -242,7 +262,7 @@ impl Tree {
                 &mut number,
             )
         };
-        self.called(status, number, Kind::Wrote)?;
+        self.called(status, number, &Call::Write(path, offset, bytes))?;
         Ok(wrote)
     }
 
@@ -252,7 +272,7 @@ impl Tree {
         let (path, mut number) = (path.path_bytes(), 0);
         let status = unsafe {
             ffi::atomfs_truncate(
-                &mut *self.handle,
+                self.handle,
                 own,
                 path.as_ptr(),
                 path.len(),
@@ -260,7 +280,7 @@ impl Tree {
                 &mut number,
             )
         };
-        self.called(status, number, Kind::Done)
+        self.called(status, number, &Call::Truncate(path, size))
     }
 
     /// Runs a call to its return, and tells its reply: as the method of its name does.
@@ -292,27 +312,20 @@ impl Tree {
         }
     }
 
-    fn on_path(&mut self, function: OnPath, path: &[u8]) -> Result<(), Error> {
+    fn on_path(&mut self, function: OnPath, call: &Call) -> Result<(), Error> {
         let own = self.own()?;
-        let mut number = 0;
-        let status = unsafe {
-            function(
-                &mut *self.handle,
-                own,
-                path.as_ptr(),
-                path.len(),
-                &mut number,
-            )
-        };
-        self.called(status, number, Kind::Done)
+        let ((path, _), mut number) = (call.paths(), 0);
+        let status = unsafe { function(self.handle, own, path.as_ptr(), path.len(), &mut number) };
+        self.called(status, number, call)
     }
 
-    fn on_paths(&mut self, function: OnPaths, path: &[u8], other: &[u8]) -> Result<(), Error> {
+    fn on_paths(&mut self, function: OnPaths, call: &Call) -> Result<(), Error> {
         let own = self.own()?;
-        let mut number = 0;
+        let ((path, other), mut number) = (call.paths(), 0);
+        let other = other.unwrap_or(path);
         let status = unsafe {
             function(
-                &mut *self.handle,
+                self.handle,
                 own,
                 path.as_ptr(),
                 path.len(),
@@ -321,21 +334,21 @@ impl Tree {
                 &mut number,
             )
         };
-        self.called(status, number, Kind::Done)
+        self.called(status, number, call)
     }
 
     /// What came of a call of the tree's own. One that waits keeps its seat, and the tree takes another.
-    fn called(&mut self, status: u8, number: u64, kind: Kind) -> Result<(), Error> {
-        if status != WAITS {
-            return if status == OK {
-                Ok(())
-            } else {
-                Err(Error::of(status, number))
-            };
+    fn called(&mut self, status: u8, number: u64, call: &Call) -> Result<(), Error> {
+        self.calls = self.calls.max(number);
+        match status {
+            OK => Ok(()),
+            WAITS => {
+                let waits = self.own.take().ok_or(ErrorKind::NoSeat)?;
+                self.began(waits, number, call);
+                Err(Error::of_call(ErrorKind::Waits(waits), call.paths()))
+            }
+            _ => Err(Error::of_refused(status, number, call, self.limits)),
         }
-        let waits = self.own.take().ok_or(Error::NoSeat)?;
-        self.began(waits, number, kind);
-        Err(Error::Waits(waits))
     }
 
     /// The seat of the tree's own calls.
@@ -345,14 +358,30 @@ impl Tree {
             None => self.seat()?,
         };
         self.own = Some(own);
-        Ok(own.0)
+        Ok(own.number)
     }
 
     /// Adds a seat, on which one call at a time can be under way.
     pub fn seat(&mut self) -> Result<Seat, Error> {
         let mut number = 0;
-        done(unsafe { ffi::atomfs_seat(&mut *self.handle, &mut number) })?;
-        Ok(Seat(number))
+        done(unsafe { ffi::atomfs_seat(self.handle, &mut number) })?;
+        Ok(self.seat_of(number))
+    }
+
+    /// The seat of a number.
+    fn seat_of(&self, number: u64) -> Seat {
+        Seat {
+            tree: self.id,
+            number,
+        }
+    }
+
+    /// Refuses the seat of another tree.
+    fn own_seat(&self, seat: Seat) -> Result<(), Error> {
+        match seat.tree == self.id {
+            true => Ok(()),
+            false => Err(ErrorKind::ForeignSeat.into()),
+        }
     }
 
     /// Begins a call on a seat, and tells its number.
@@ -375,27 +404,29 @@ impl Tree {
     /// # Ok::<(), atomfs::Error>(())
     /// ```
     pub fn begin(&mut self, seat: Seat, call: &Call) -> Result<u64, Error> {
+        self.own_seat(seat)?;
         let (request, mut number) = (call.request(), 0);
-        done(unsafe { ffi::atomfs_begin_call(&mut *self.handle, seat.0, &request, &mut number) })?;
-        self.began(seat, number, call.kind());
-        Ok(number)
+        match unsafe { ffi::atomfs_begin_call(self.handle, seat.number, &request, &mut number) } {
+            OK => {
+                self.began(seat, number, call);
+                Ok(number)
+            }
+            status => Err(Error::of_refused(status, number, call, self.limits)),
+        }
     }
 
-    fn began(&mut self, seat: Seat, number: u64, kind: Kind) {
-        let at = usize::try_from(seat.0).expect("a seat is in memory");
+    fn began(&mut self, seat: Seat, number: u64, call: &Call) {
+        self.calls = number;
+        let at = usize::try_from(seat.number).expect("a seat is in memory");
         if at >= self.last.len() {
-            self.last.resize(at + 1, Last::NONE);
+            self.last.resize_with(at + 1, Last::default);
         }
-        self.last[at] = Last {
-            number,
-            kind,
-            under_way: true,
-        };
+        self.last[at].begins(number, call);
     }
 
     /// The last call that was begun on a seat since the last checkpoint.
     fn last(&mut self, seat: Seat) -> Option<&mut Last> {
-        self.last.get_mut(usize::try_from(seat.0).ok()?)
+        self.last.get_mut(usize::try_from(seat.number).ok()?)
     }
 
     /// A seat without a call under way that nobody else has.
@@ -432,7 +463,8 @@ impl Tree {
     /// Makes one step of the call on a seat.
     pub fn step(&mut self, seat: Seat) -> Result<Did, Error> {
         let (mut did, mut about) = (0, 0);
-        done(unsafe { ffi::atomfs_step(&mut *self.handle, seat.0, &mut did, &mut about) })?;
+        self.own_seat(seat)?;
+        done(unsafe { ffi::atomfs_step(self.handle, seat.number, &mut did, &mut about) })?;
         Ok(self.stepped(seat, Did::of(did, about)))
     }
 
@@ -455,41 +487,60 @@ impl Tree {
     /// ```
     pub fn step_any(&mut self) -> Result<Option<(Seat, Did)>, Error> {
         let (mut seat, mut did, mut about) = (0, 0, 0);
-        done(unsafe { ffi::atomfs_step_any(&mut *self.handle, &mut seat, &mut did, &mut about) })?;
+        done(unsafe { ffi::atomfs_step_any(self.handle, &mut seat, &mut did, &mut about) })?;
         Ok(match Did::of(did, about) {
             Did::Idle => None,
-            did => Some((Seat(seat), self.stepped(Seat(seat), did))),
+            did => {
+                let seat = self.seat_of(seat);
+                Some((seat, self.stepped(seat, did)))
+            }
         })
     }
 
-    /// Makes the steps of the call on a seat up to its return, and tells its reply. `Error::Waits` says that the call of
+    /// Makes the steps of the call on a seat up to its return, and tells its reply. `ErrorKind::Waits` says that the call of
     /// another seat has to go on first.
     pub fn finish(&mut self, seat: Seat) -> Result<Reply, Error> {
         loop {
             match self.step(seat)? {
                 Did::Returned | Did::Idle => return self.reply(seat),
-                Did::WaitsFor(_) => return Err(Error::Waits(seat)),
+                Did::WaitsFor(_) => return Err(self.of_last(seat, ErrorKind::Waits(seat))),
                 _ => {}
             }
         }
     }
 
+    /// An error of the last call that was begun on a seat.
+    fn of_last(&mut self, seat: Seat, kind: ErrorKind) -> Error {
+        match self.last(seat) {
+            Some(last) => Error::of_call(kind, (&last.path, last.other.as_deref())),
+            None => kind.into(),
+        }
+    }
+
     /// The reply of the last call that was begun on a seat, once it has returned.
     pub fn reply(&mut self, seat: Seat) -> Result<Reply, Error> {
-        let Last { number, kind, .. } = *self.last(seat).ok_or(Error::NoReply)?;
+        self.own_seat(seat)?;
+        let last = self.last(seat).ok_or(ErrorKind::NoReply)?;
+        let (number, kind) = (last.number, last.kind);
+        let told = self.told(number, kind);
+        told.map_err(|error| self.of_last(seat, error.kind()))
+    }
+
+    /// The reply of the call of a number.
+    fn told(&mut self, number: u64, kind: Kind) -> Result<Reply, Error> {
         match kind {
             Kind::Done => {
-                done(unsafe { ffi::atomfs_reply_done(&mut *self.handle, number) })?;
+                done(unsafe { ffi::atomfs_reply_done(self.handle, number) })?;
                 Ok(Reply::Done)
             }
             Kind::Stat => {
                 let mut stat = RawStat::default();
-                done(unsafe { ffi::atomfs_reply_stat(&mut *self.handle, number, &mut stat) })?;
+                done(unsafe { ffi::atomfs_reply_stat(self.handle, number, &mut stat) })?;
                 Ok(Reply::Stat(stat_of(stat)))
             }
             Kind::Wrote => {
                 let mut wrote = 0;
-                done(unsafe { ffi::atomfs_reply_wrote(&mut *self.handle, number, &mut wrote) })?;
+                done(unsafe { ffi::atomfs_reply_wrote(self.handle, number, &mut wrote) })?;
                 Ok(Reply::Wrote(wrote))
             }
             Kind::Names => self.told_names(number).map(Reply::Names),
@@ -505,7 +556,7 @@ impl Tree {
             let (out, room) = (self.room.as_mut_ptr(), self.room.len());
             let status = unsafe {
                 ffi::atomfs_reply_names(
-                    &mut *self.handle,
+                    self.handle,
                     number,
                     after.as_ptr(),
                     after.len(),
@@ -544,26 +595,29 @@ impl Tree {
 
     /// The verdict on the journal: `lawful`, or the first entry at fault.
     ///
-    /// `Error::JournalTooLarge` where it has more than 16,777,216 bytes as a text: checkpoint, and check the pieces.
+    /// `ErrorKind::JournalTooLarge` where it has more than 16,777,216 bytes as a text: checkpoint, and check the pieces.
     pub fn check(&mut self) -> Result<String, Error> {
         let journal = self.journal()?;
         if journal.len() > TEXT_LIMIT {
-            return Err(Error::JournalTooLarge);
+            return Err(ErrorKind::JournalTooLarge.into());
         }
         check(journal)
     }
 
     /// Hands the journal out, and lets it begin again at the tree as it stands, which gives its memory back.
-    /// `Error::UnderWay` tells the number of a call that is under way.
+    /// `ErrorKind::UnderWay` tells the number of a call that is under way.
     pub fn checkpoint(&mut self) -> Result<String, Error> {
         let mut number = 0;
         let told = self.text(|handle, out, room, count| unsafe {
             ffi::atomfs_checkpoint(handle, out, room, count, &mut number)
         });
         match told {
-            Err(Error::UnderWay(_)) => Err(Error::UnderWay(number)),
+            Err(error) if matches!(error.kind(), ErrorKind::UnderWay(_)) => {
+                Err(ErrorKind::UnderWay(number).into())
+            }
             Ok(_) => {
                 self.last.clear();
+                self.calls = 0;
                 told
             }
             _ => told,
@@ -573,6 +627,22 @@ impl Tree {
     /// The text of the tree: a line for each node.
     pub fn text_of_tree(&mut self) -> Result<String, Error> {
         self.text(|handle, out, room, count| unsafe { ffi::atomfs_tree(handle, out, room, count) })
+    }
+
+    /// How many nodes there are: the lines of the tree but the first. None for want of memory.
+    fn nodes(&self) -> Option<usize> {
+        let (mut room, mut count) = (vec![0; ROOM], 0);
+        loop {
+            let (out, size) = (room.as_mut_ptr(), room.len());
+            match unsafe { ffi::atomfs_tree(self.handle, out, size, &mut count) } {
+                OK => {
+                    let lines = room[..count].iter().filter(|byte| **byte == b'\n');
+                    return Some(lines.count().saturating_sub(1));
+                }
+                TOO_SMALL => room.resize(count, 0),
+                _ => return None,
+            }
+        }
     }
 
     fn text(
@@ -591,7 +661,7 @@ impl Tree {
         loop {
             let mut count = 0;
             match ask(
-                &mut *self.handle,
+                self.handle,
                 self.room.as_mut_ptr(),
                 self.room.len(),
                 &mut count,
@@ -612,13 +682,23 @@ impl Tree {
 
 impl Drop for Tree {
     fn drop(&mut self) {
-        unsafe { ffi::atomfs_close(&mut *self.handle) };
+        unsafe {
+            ffi::atomfs_close(self.handle);
+            drop(Box::from_raw(self.handle));
+        }
     }
 }
 
+/// It shows how many nodes there are, for which it asks for the text of the tree, and how many calls have begun since the last
+/// checkpoint.
 impl fmt::Debug for Tree {
     fn fmt(&self, f: &mut fmt::Formatter<'_>) -> fmt::Result {
-        f.debug_struct("Tree").finish_non_exhaustive()
+        f.debug_struct("Tree")
+            .field("nodes", &self.nodes())
+            .field("calls", &self.calls)
+            .field("limit", &self.limit)
+            .field("limits", &self.limits)
+            .finish_non_exhaustive()
     }
 }
 
@@ -648,11 +728,12 @@ fn ascii(bytes: &[u8]) -> String {
     String::from_utf8_lossy(bytes).into_owned()
 }
 
-/// The verdict on a journal: `lawful`, or the first entry at fault. `Error::BadText` tells the line of what is no journal.
+/// The verdict on a journal: `lawful`, or the first entry at fault. `ErrorKind::BadText` tells the line of what is no journal.
 ///
 /// ```
 /// assert_eq!(atomfs::check("atomfs-journal 1\n")?, "lawful");
-/// assert!(matches!(atomfs::check("no journal"), Err(atomfs::Error::BadText(_, 1))));
+/// let error = atomfs::check("no journal").unwrap_err();
+/// assert!(matches!(error.kind(), atomfs::ErrorKind::BadText(_, 1)));
 /// # Ok::<(), atomfs::Error>(())
 /// ```
 pub fn check(journal: impl AsRef<[u8]>) -> Result<String, Error> {
@@ -661,7 +742,7 @@ pub fn check(journal: impl AsRef<[u8]>) -> Result<String, Error> {
         .to_string())
 }
 
-/// The journal, the tree and the counts of a script, run by its own schedule. `Error::BadText` tells the line of what is no
+/// The journal, the tree and the counts of a script, run by its own schedule. `ErrorKind::BadText` tells the line of what is no
 /// script.
 ///
 /// ```

@@ -5,7 +5,7 @@ use std::os::unix::ffi::OsStrExt;
 use std::path::{Path, PathBuf};
 
 use crate::call::{Call, Reply, Stat};
-use crate::error::{Errno, Error};
+use crate::error::{Errno, Error, ErrorKind};
 use crate::file::{File, OpenOptions};
 use crate::path::AsPath;
 use crate::tree::Tree;
@@ -126,14 +126,14 @@ impl Entry {
 pub(crate) fn stat(calls: &mut impl Calls, path: &[u8]) -> Result<Stat, Error> {
     match calls.call(&Call::Stat(path))? {
         Reply::Stat(stat) => Ok(stat),
-        _ => Err(Error::NoReply),
+        _ => Err(ErrorKind::NoReply.into()),
     }
 }
 
 pub(crate) fn readdir(calls: &mut impl Calls, path: &[u8]) -> Result<Vec<Vec<u8>>, Error> {
     match calls.call(&Call::Readdir(path))? {
         Reply::Names(names) => Ok(names),
-        _ => Err(Error::NoReply),
+        _ => Err(ErrorKind::NoReply.into()),
     }
 }
 
@@ -145,7 +145,7 @@ pub(crate) fn read(
 ) -> Result<Vec<u8>, Error> {
     match calls.call(&Call::Read(path, offset, count))? {
         Reply::Bytes(bytes) => Ok(bytes),
-        _ => Err(Error::NoReply),
+        _ => Err(ErrorKind::NoReply.into()),
     }
 }
 
@@ -157,13 +157,13 @@ pub(crate) fn write(
 ) -> Result<u64, Error> {
     match calls.call(&Call::Write(path, offset, bytes))? {
         Reply::Wrote(count) => Ok(count),
-        _ => Err(Error::NoReply),
+        _ => Err(ErrorKind::NoReply.into()),
     }
 }
 
 /// Whether a call failed with this error.
 pub(crate) fn failed<T>(came: &Result<T, Error>, errno: Errno) -> bool {
-    matches!(came, Err(Error::Failed(found)) if *found == errno)
+    matches!(came, Err(error) if error.errno() == Some(errno))
 }
 
 /// Makes a directory, and those above it that are missing. By an error those that it made are taken back.
@@ -187,8 +187,8 @@ fn create_missing<'p>(
     // What is no path is refused as a whole, before any part of it is made.
     match stat(calls, path) {
         Ok(found) if found.is_dir => return Ok(()),
-        Ok(_) => return Err(Error::Failed(Errno::EEXIST)),
-        Err(Error::Failed(Errno::ENOENT)) => {}
+        Ok(_) => return Err(Error::at(ErrorKind::Failed(Errno::EEXIST), path)),
+        Err(error) if error.errno() == Some(Errno::ENOENT) => {}
         Err(error) => return Err(error),
     }
     let slashes = path

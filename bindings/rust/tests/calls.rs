@@ -8,7 +8,15 @@ use std::path::{Path, PathBuf};
 use std::rc::Rc;
 use std::sync::Arc;
 
-use atomfs::{check, run, AsPath, Call, Did, Errno, Error, Reply, Stat, Tree};
+use atomfs::{
+    check, run, AsPath, Call, Did, Errno, Error, ErrorKind, Limits, PathFault, Reply, Stat, Tree,
+    NODE_LIMIT,
+};
+
+/// What came of a call, of an error its kind.
+fn kind<T>(came: Result<T, Error>) -> Result<T, ErrorKind> {
+    came.map_err(|error| error.kind())
+}
 
 #[test]
 fn each_call() {
@@ -99,49 +107,73 @@ fn each_error() {
             io::Error::from_raw_os_error(27).kind(),
         ),
     ];
-    for (came, errno, kind) in rows {
-        assert_eq!(came, Err(Error::Failed(errno)));
-        let error = io::Error::from(Error::Failed(errno));
+    for (came, errno, of_std) in rows {
+        assert_eq!(kind(came), Err(ErrorKind::Failed(errno)));
+        let error = io::Error::from(Error::from(ErrorKind::Failed(errno)));
         assert_eq!(
             (error.raw_os_error(), error.kind()),
-            (Some(errno.number()), kind)
+            (Some(errno.number()), of_std)
         );
         let more = match errno {
             Errno::ENOSPC => ": the directory has 256 entries",
             Errno::EFBIG => ": the file would have more than 65536 bytes by the first limits, or 1048576 by the second ones",
             _ => "",
         };
-        assert_eq!(Error::Failed(errno).to_string(), format!("{error}{more}"));
+        assert_eq!(
+            ErrorKind::Failed(errno).to_string(),
+            format!("{error}{more}")
+        );
     }
     assert_eq!(tree.check().unwrap(), "lawful");
 }
 
 #[test]
 fn what_is_refused_is_not_in_the_journal() {
-    assert_eq!(Tree::with_limit(0).err(), Some(Error::BadLimit));
+    assert_eq!(kind(Tree::with_limit(0)).err(), Some(ErrorKind::BadLimit));
     let mut tree = Tree::with_limit(1).unwrap();
-    for path in [
-        "",
-        "a",
-        "/a/",
-        "/a/../b",
-        "/a\0b",
-        "/01234567890123456789012345678901234567890123456789012345678901234",
-    ] {
-        assert_eq!(tree.mkdir(path), Err(Error::BadPath), "{path:?}");
+    let long = format!("/{}", "0123456789".repeat(7));
+    let deep = "/a".repeat(65);
+    let rows = [
+        ("", PathFault::NotAbsolute),
+        ("a", PathFault::NotAbsolute),
+        ("/a/", PathFault::TrailingSlash),
+        ("/a/../b", PathFault::Dot),
+        ("/.", PathFault::Dot),
+        ("/a\0b", PathFault::Nul),
+        (
+            "/01234567890123456789012345678901234567890123456789012345678901234",
+            PathFault::NameTooLong,
+        ),
+        (&long, PathFault::NameTooLong),
+        (&deep, PathFault::TooManyNames),
+    ];
+    let mut words = Vec::new();
+    for (path, fault) in rows {
+        let error = tree.mkdir(path).unwrap_err();
+        assert_eq!(error, ErrorKind::BadPath(fault), "{path:?}");
+        assert_eq!(error.path(), Some(Path::new(path)));
+        let said = error.kind().to_string();
+        assert_eq!(error.to_string(), format!("{path:?}: {said}"));
+        words.push(said);
     }
-    assert_eq!(tree.mkdir("/a"), Err(Error::Full));
+    words.dedup();
+    assert_eq!(words.len(), 6, "{words:?}");
+    assert_eq!(kind(tree.mkdir("/a")), Err(ErrorKind::Full));
     let seat = tree.seat().unwrap();
-    assert_eq!(tree.reply(seat), Err(Error::NoReply));
+    assert_eq!(kind(tree.reply(seat)), Err(ErrorKind::NoReply));
     assert_eq!(
         tree.journal().unwrap(),
         "atomfs-journal 3\nstart\ndir /\nentries\n"
     );
     tree.begin(seat, &Call::stat("/")).unwrap();
-    assert_eq!(tree.begin(seat, &Call::stat("/")), Err(Error::SeatBusy));
-    assert_eq!(tree.checkpoint(), Err(Error::UnderWay(1)));
-    assert_eq!(io::Error::from(Error::Full).raw_os_error(), Some(28));
-    let shown: Box<dyn std::error::Error> = Box::new(Error::BadPath);
+    assert_eq!(
+        kind(tree.begin(seat, &Call::stat("/"))),
+        Err(ErrorKind::SeatBusy)
+    );
+    assert_eq!(kind(tree.checkpoint()), Err(ErrorKind::UnderWay(1)));
+    let full = Error::from(ErrorKind::Full);
+    assert_eq!(io::Error::from(full).raw_os_error(), Some(28));
+    let shown: Box<dyn std::error::Error> = Box::new(tree.mkdir("a").unwrap_err());
     assert!(!shown.to_string().is_empty());
 }
 
@@ -179,7 +211,7 @@ fn words_of_texts() {
         assert_eq!(came.unwrap_err().to_string(), words);
     }
     assert_eq!(
-        Error::BadText(27, 3).to_string(),
+        ErrorKind::BadText(27, 3).to_string(),
         "line 3: BadStart: the start tree is none"
     );
 }
@@ -192,9 +224,9 @@ fn a_large_journal() {
     for _ in 0..9 {
         tree.write("/f", 0, [0; 1 << 20]).unwrap();
     }
-    assert_eq!(tree.check(), Err(Error::JournalTooLarge));
+    assert_eq!(kind(tree.check()), Err(ErrorKind::JournalTooLarge));
     assert_eq!(
-        Error::JournalTooLarge.to_string(),
+        ErrorKind::JournalTooLarge.to_string(),
         "the journal has more than 16777216 bytes: checkpoint, and check the pieces"
     );
     tree.checkpoint().unwrap();
@@ -238,7 +270,10 @@ fn each_begin() {
         assert_eq!(tree.reply(seat), Ok(wanted));
     }
     tree.begin(seat, &Call::unlink("/x")).unwrap();
-    assert_eq!(tree.finish(seat), Err(Error::Failed(Errno::ENOENT)));
+    assert_eq!(
+        kind(tree.finish(seat)),
+        Err(ErrorKind::Failed(Errno::ENOENT))
+    );
     assert_eq!(tree.step(seat), Ok(Did::Idle));
     assert_eq!(tree.check().unwrap(), "lawful");
 }
@@ -271,11 +306,13 @@ fn a_call_that_waits_keeps_its_seat() {
     let seat = tree.seat().unwrap();
     tree.begin(seat, &Call::mkdir("/a/x")).unwrap();
     while tree.step(seat).unwrap() != Did::Committed {}
-    let waits = match tree.stat("/a/x") {
-        Err(Error::Waits(waits)) => waits,
+    let waits = match kind(tree.stat("/a/x")) {
+        Err(ErrorKind::Waits(waits)) => waits,
         other => panic!("{other:?}"),
     };
-    assert_eq!(tree.finish(waits), Err(Error::Waits(waits)));
+    let error = tree.finish(waits).unwrap_err();
+    assert_eq!(error, ErrorKind::Waits(waits));
+    assert_eq!(error.path(), Some(Path::new("/a/x")));
     assert_eq!(tree.finish(seat), Ok(Reply::Done));
     assert_eq!(
         tree.finish(waits),
@@ -342,4 +379,85 @@ fn each_kind_of_path() {
     assert_eq!(tree.mkdir(OsStr::from_bytes(b"/\xff")), Ok(()));
     assert_eq!(tree.readdir("/").unwrap(), [b"\xff"]);
     assert_eq!(tree.check().unwrap(), "lawful");
+}
+
+/// An error has the paths of its call, and says them.
+#[test]
+fn paths_of_errors() {
+    let mut tree = Tree::with_limits(NODE_LIMIT, Limits::V1).unwrap();
+    let seat = tree.seat().unwrap();
+    tree.begin(seat, &Call::rename("/b", "/c")).unwrap();
+    let rows = [
+        (tree.finish(seat).map(|_| ()), "/b", Some("/c")),
+        (tree.mkdir("/x/y"), "/x/y", None),
+        (tree.stat("/x").map(|_| ()), "/x", None),
+        (tree.readdir("/x").map(|_| ()), "/x", None),
+        (tree.read("/x", 0, 1).map(|_| ()), "/x", None),
+        (tree.write("/x", 0, "a").map(|_| ()), "/x", None),
+        (tree.truncate("/x", 0), "/x", None),
+        (tree.exchange("/x", "/y"), "/x", Some("/y")),
+        (tree.reply(seat).map(|_| ()), "/b", Some("/c")),
+        (tree.open("/x").map(|_| ()), "/x", None),
+        (tree.walk("/x").map(|_| ()), "/x", None),
+        (tree.write_file("/x/y", ""), "/x/y", None),
+    ];
+    for (came, path, other) in rows {
+        let error = came.unwrap_err();
+        assert_eq!(error.errno(), Some(Errno::ENOENT), "{error}");
+        assert_eq!(error.path(), Some(Path::new(path)), "{error}");
+        assert_eq!(error.other_path(), other.map(Path::new), "{error}");
+        let second = other.map_or(String::new(), |other| format!(", {other:?}"));
+        let words = "No such file or directory (os error 2)";
+        assert_eq!(error.to_string(), format!("{path:?}{second}: {words}"));
+    }
+    // Of two paths it names the one that is none, by the limits of the tree.
+    let long = "/0123456789012345678901234567890123456789";
+    let error = tree.rename("/b", long).unwrap_err();
+    assert_eq!(error, ErrorKind::BadPath(PathFault::NameTooLong));
+    assert_eq!(error.path(), Some(Path::new(long)));
+    assert_eq!(error.other_path(), None);
+    assert_eq!(Tree::new().unwrap().mkdir(long), Ok(()));
+    assert_eq!(check("no journal").unwrap_err().path(), None);
+}
+
+/// A seat of another tree is refused, and both trees stay as they were.
+#[test]
+fn a_seat_of_another_tree() {
+    let (mut tree, mut other) = (Tree::new().unwrap(), Tree::new().unwrap());
+    let (seat, of_other) = (tree.seat().unwrap(), other.seat().unwrap());
+    assert_eq!(seat.number(), of_other.number());
+    assert_ne!(seat, of_other);
+    other.begin(of_other, &Call::mkdir("/a")).unwrap();
+    let before = (tree.journal().unwrap(), other.journal().unwrap());
+    let foreign = ErrorKind::ForeignSeat;
+    assert_eq!(kind(tree.begin(of_other, &Call::mkdir("/b"))), Err(foreign));
+    assert_eq!(kind(tree.step(of_other)), Err(foreign));
+    assert_eq!(kind(tree.finish(of_other)), Err(foreign));
+    assert_eq!(kind(tree.reply(of_other)), Err(foreign));
+    assert_eq!(foreign.to_string(), "the seat is of another tree");
+    let after = (tree.journal().unwrap(), other.journal().unwrap());
+    assert_eq!(before, after);
+    assert_eq!(other.finish(of_other), Ok(Reply::Done));
+}
+
+#[test]
+fn what_a_tree_shows() {
+    let mut tree = Tree::with_limits(100, Limits::V1).unwrap();
+    assert_eq!(
+        format!("{tree:?}"),
+        "Tree { nodes: Some(1), calls: 0, limit: 100, limits: V1, .. }"
+    );
+    tree.create_dir_all("/a/b").unwrap();
+    tree.write_file("/a/f", vec![1; 60_000]).unwrap();
+    let calls = tree.journal().unwrap().matches("\nbegin ").count();
+    let shown = format!("{tree:?}");
+    assert_eq!(
+        shown,
+        format!("Tree {{ nodes: Some(4), calls: {calls}, limit: 100, limits: V1, .. }}")
+    );
+    tree.checkpoint().unwrap();
+    let seat = tree.seat().unwrap();
+    tree.begin(seat, &Call::unlink("/a/f")).unwrap();
+    tree.finish(seat).unwrap();
+    assert!(format!("{tree:?}").starts_with("Tree { nodes: Some(3), calls: 1,"));
 }

@@ -4,7 +4,9 @@ use std::io::{self, BufRead, BufReader, Read, Seek, SeekFrom, Write};
 use std::path::Path;
 use std::sync::{Arc, Mutex};
 
-use atomfs::{Errno, Error, File, Limits, OpenOptions, Session, Stat, Tree, NODE_LIMIT};
+use atomfs::{
+    Errno, Error, ErrorKind, File, Limits, OpenOptions, PathFault, Session, Stat, Tree, NODE_LIMIT,
+};
 
 const FILE: Stat = Stat {
     is_dir: false,
@@ -26,7 +28,10 @@ fn stays<T: std::fmt::Debug>(
     call: impl Fn(&mut Tree) -> Result<T, Error>,
 ) {
     let before = tree.text_of_tree().unwrap();
-    assert_eq!(call(tree).map(|_| ()), Err(Error::Failed(errno)));
+    assert_eq!(
+        call(tree).map(|_| ()).unwrap_err(),
+        ErrorKind::Failed(errno)
+    );
     assert_eq!(tree.text_of_tree().unwrap(), before);
 }
 
@@ -107,22 +112,22 @@ fn each_way_to_open() {
         ("wc", "/a/new", Ok("yo")),
         ("ac", "/a/new", Ok("yo")),
         ("wx", "/a/new", Ok("yo")),
-        ("wx", "/a/f", Err(Error::Failed(Errno::EEXIST))),
-        ("wxt", "/a/f", Err(Error::Failed(Errno::EEXIST))),
-        ("wx", "/a/b", Err(Error::Failed(Errno::EEXIST))),
-        ("w", "/a/new", Err(Error::Failed(Errno::ENOENT))),
-        ("wt", "/a/new", Err(Error::Failed(Errno::ENOENT))),
-        ("r", "/a/new", Err(Error::Failed(Errno::ENOENT))),
-        ("r", "/a/b", Err(Error::Failed(Errno::EISDIR))),
-        ("wct", "/a/b", Err(Error::Failed(Errno::EISDIR))),
-        ("wc", "/a/f/g", Err(Error::Failed(Errno::ENOTDIR))),
-        ("wc", "/x/y", Err(Error::Failed(Errno::ENOENT))),
-        ("wc", "/", Err(Error::Failed(Errno::EISDIR))),
-        ("", "/a/f", Err(Error::BadOptions)),
-        ("c", "/a/f", Err(Error::BadOptions)),
-        ("rt", "/a/f", Err(Error::BadOptions)),
-        ("rx", "/a/new", Err(Error::BadOptions)),
-        ("at", "/a/f", Err(Error::BadOptions)),
+        ("wx", "/a/f", Err(ErrorKind::Failed(Errno::EEXIST))),
+        ("wxt", "/a/f", Err(ErrorKind::Failed(Errno::EEXIST))),
+        ("wx", "/a/b", Err(ErrorKind::Failed(Errno::EEXIST))),
+        ("w", "/a/new", Err(ErrorKind::Failed(Errno::ENOENT))),
+        ("wt", "/a/new", Err(ErrorKind::Failed(Errno::ENOENT))),
+        ("r", "/a/new", Err(ErrorKind::Failed(Errno::ENOENT))),
+        ("r", "/a/b", Err(ErrorKind::Failed(Errno::EISDIR))),
+        ("wct", "/a/b", Err(ErrorKind::Failed(Errno::EISDIR))),
+        ("wc", "/a/f/g", Err(ErrorKind::Failed(Errno::ENOTDIR))),
+        ("wc", "/x/y", Err(ErrorKind::Failed(Errno::ENOENT))),
+        ("wc", "/", Err(ErrorKind::Failed(Errno::EISDIR))),
+        ("", "/a/f", Err(ErrorKind::BadOptions)),
+        ("c", "/a/f", Err(ErrorKind::BadOptions)),
+        ("rt", "/a/f", Err(ErrorKind::BadOptions)),
+        ("rx", "/a/new", Err(ErrorKind::BadOptions)),
+        ("at", "/a/f", Err(ErrorKind::BadOptions)),
     ];
     for (letters, path, due) in rows {
         let mut tree = tree();
@@ -138,15 +143,17 @@ fn each_way_to_open() {
                 );
             }
             Err(error) => {
-                assert_eq!(came, Err(error), "{letters} {path}");
+                let came = came.unwrap_err();
+                assert_eq!(came, error, "{letters} {path}");
+                assert_eq!(came.path(), Some(Path::new(path)));
                 assert_eq!(tree.text_of_tree().unwrap(), before, "{letters} {path}");
             }
         }
         assert_eq!(tree.check().unwrap(), "lawful");
     }
-    assert!(!Error::BadOptions.to_string().is_empty());
+    assert!(!ErrorKind::BadOptions.to_string().is_empty());
     assert_eq!(
-        io::Error::from(Error::BadOptions).kind(),
+        io::Error::from(Error::from(ErrorKind::BadOptions)).kind(),
         io::ErrorKind::InvalidInput
     );
 }
@@ -179,7 +186,7 @@ fn a_file_is_its_path() {
     ] {
         assert_eq!(came.unwrap_err().kind(), io::ErrorKind::NotFound);
     }
-    assert_eq!(file.stat(), Err(Error::Failed(Errno::ENOENT)));
+    assert_eq!(file.stat().unwrap_err(), ErrorKind::Failed(Errno::ENOENT));
     let mut tree = tree.lock().unwrap();
     assert_eq!(tree.read_to_end("/a/g").unwrap(), b"hello12");
     assert_eq!(tree.check().unwrap(), "lawful");
@@ -197,10 +204,11 @@ fn directories_with_those_above_them() {
         tree.create_dir_all("/a/f/x/y")
     });
     let before = tree.text_of_tree().unwrap();
-    assert_eq!(tree.create_dir_all("/n/m/.."), Err(Error::BadPath));
+    let error = tree.create_dir_all("/n/m/..").unwrap_err();
+    assert_eq!(error, ErrorKind::BadPath(PathFault::Dot));
     assert_eq!(tree.text_of_tree().unwrap(), before);
     let mut small = Tree::with_limit(3).unwrap();
-    assert_eq!(small.create_dir_all("/p/q/r"), Err(Error::Full));
+    assert_eq!(small.create_dir_all("/p/q/r").unwrap_err(), ErrorKind::Full);
     assert_eq!(small.text_of_tree().unwrap(), "tree\ndir /\n");
     small.create_dir_all("/p/q").unwrap();
     assert_eq!(tree.check().unwrap(), "lawful");
@@ -259,7 +267,10 @@ fn a_walk() {
     let names: Vec<_> = names.iter().map(|entry| entry.name().unwrap()).collect();
     assert_eq!(names, ["b", "c", "g"]);
     assert_eq!(tree.walk("/").unwrap()[0].name(), None);
-    assert_eq!(tree.walk("/x"), Err(Error::Failed(Errno::ENOENT)));
+    assert_eq!(
+        tree.walk("/x").unwrap_err(),
+        ErrorKind::Failed(Errno::ENOENT)
+    );
     let mut deep = String::new();
     for at in 0..64 {
         deep += &format!("/{at}");

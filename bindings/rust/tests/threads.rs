@@ -6,7 +6,7 @@ use std::sync::{Arc, Mutex};
 use std::thread;
 use std::time::Duration;
 
-use atomfs::{Call, Did, Errno, Error, Reply, Session, SharedTree, Tree};
+use atomfs::{Call, Did, Errno, ErrorKind, Reply, Session, SharedTree, Tree};
 
 const ROUNDS: usize = 100;
 
@@ -21,13 +21,11 @@ fn work(session: &mut Session, thread: usize) {
             session.rename("/away", "/top"),
             session.rmdir(&mine),
         ] {
+            let errno = came.as_ref().err().map(|error| error.errno());
             assert!(
                 matches!(
-                    came,
-                    Ok(())
-                        | Err(Error::Failed(
-                            Errno::ENOENT | Errno::EEXIST | Errno::ENOTEMPTY
-                        ))
+                    errno,
+                    None | Some(Some(Errno::ENOENT | Errno::EEXIST | Errno::ENOTEMPTY))
                 ),
                 "{came:?}"
             );
@@ -72,7 +70,7 @@ fn a_journal_in_pieces_while_threads_call() {
             let came = tree.lock().unwrap().checkpoint();
             match came {
                 Ok(piece) => pieces.push(piece),
-                Err(came) => assert!(matches!(came, Error::UnderWay(_)), "{came:?}"),
+                Err(came) => assert!(matches!(came.kind(), ErrorKind::UnderWay(_)), "{came:?}"),
             }
             thread::yield_now();
         }
@@ -267,7 +265,10 @@ fn each_call_of_a_shared_tree() {
     tree.rmdir("/a/f").unwrap();
     tree.unlink("/b").unwrap();
     tree.rename("/a", "/c").unwrap();
-    assert_eq!(tree.stat("/a"), Err(Error::Failed(Errno::ENOENT)));
+    assert_eq!(
+        tree.stat("/a").unwrap_err(),
+        ErrorKind::Failed(Errno::ENOENT)
+    );
     assert_eq!(tree.lock().check().unwrap(), "lawful");
 }
 
@@ -306,7 +307,10 @@ fn each_call_of_a_session() {
     session.rmdir("/a/f").unwrap();
     session.unlink("/b").unwrap();
     session.rename("/a", "/c").unwrap();
-    assert_eq!(session.stat("/a"), Err(Error::Failed(Errno::ENOENT)));
+    assert_eq!(
+        session.stat("/a").unwrap_err(),
+        ErrorKind::Failed(Errno::ENOENT)
+    );
     let mut tree = tree.lock().unwrap();
     assert_eq!(tree.check().unwrap(), "lawful");
 }
