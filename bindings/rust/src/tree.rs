@@ -434,9 +434,10 @@ impl Tree {
         self.free.pop().map_or_else(|| self.seat(), Ok)
     }
 
-    /// Gives a seat back to `take_seat`.
+    /// Gives a seat of this tree back to `take_seat`.
     pub(crate) fn give_back(&mut self, seat: Seat) {
-        if !self.last(seat).map_or(false, |last| last.under_way) {
+        let busy = self.last(seat).map_or(false, |last| last.under_way);
+        if self.own_seat(seat).is_ok() && !busy {
             self.free.push(seat);
         }
     }
@@ -682,6 +683,10 @@ impl Tree {
 
 impl Drop for Tree {
     fn drop(&mut self) {
+        // Another tree stands in its place by then, and refuses their seats.
+        for sleepers in self.sleepers.values() {
+            sleepers.notify_all();
+        }
         unsafe {
             ffi::atomfs_close(self.handle);
             drop(Box::from_raw(self.handle));

@@ -291,6 +291,29 @@ fn seats_of_sessions() {
     );
 }
 
+/// Where another tree takes the place of a shared one, calls that were under way end, and sessions of the old one are refused.
+#[test]
+fn another_tree_in_its_place() {
+    let (tree, _) = held();
+    let mut session = tree.session().unwrap();
+    let waits = thread::spawn({
+        let tree = tree.clone();
+        move || tree.stat("/a/x")
+    });
+    while tree.lock().journal().unwrap().matches("\nbegin ").count() < 3 {
+        thread::sleep(Duration::from_millis(5));
+    }
+    thread::sleep(Duration::from_millis(50));
+    *tree.lock() = Tree::new().unwrap();
+    let error = waits.join().unwrap().unwrap_err();
+    assert_eq!(error, ErrorKind::ForeignSeat);
+    assert_eq!(session.mkdir("/b").unwrap_err(), ErrorKind::ForeignSeat);
+    drop(session);
+    tree.mkdir("/b").unwrap();
+    assert_eq!(tree.readdir("/").unwrap(), [b"b"]);
+    assert_eq!(tree.lock().check().unwrap(), "lawful");
+}
+
 #[test]
 fn each_call_of_a_session() {
     let tree = Arc::new(Mutex::new(Tree::new().unwrap()));
