@@ -15,6 +15,8 @@
 //! # }
 //! ```
 //!
+//! [`Tree::open`], [`Tree::create`] and [`OpenOptions`] give a [`File`] to read, write and seek.
+//!
 //! Threads share a tree as a [`SharedTree`] or by [`Session`]s, whose calls interleave step by step. [`Tree::seat`], [`Tree::begin`] and
 //! [`Tree::step`] play an interleaving of your own.
 //!

@@ -21,7 +21,7 @@ static TREES: AtomicU64 = AtomicU64::new(0);
 
 /// A tree with the journal of its calls. It is closed when it is dropped.
 ///
-/// Each method runs one call at a time. Threads share a tree in a `Mutex`, or by [`Session`](crate::Session)s.
+/// Each method runs one call at a time, or several where it says so. Threads share a tree as a [`SharedTree`](crate::SharedTree).
 pub struct Tree {
     /// A box, which the tree owns.
     handle: *mut Handle,

@@ -115,7 +115,8 @@ fn held() -> (SharedTree, atomfs::Seat) {
     (tree, holder)
 }
 
-/// A call that waits sleeps until the node is let go: it uses next to no processor time, and all of those that wait come through.
+/// A call that waits sleeps until the node is let go: it uses a tenth of the processor time of one that tries again, at most. All of
+/// those that wait come through.
 #[test]
 fn a_call_that_waits_sleeps() {
     let (tree, holder) = held();
@@ -138,13 +139,18 @@ fn a_call_that_waits_sleeps() {
     while tree.lock().journal().unwrap().matches("\nbegin ").count() < 1 + 1 + 4 {
         thread::sleep(Duration::from_millis(5));
     }
-    thread::sleep(Duration::from_millis(400));
+    // As long as it takes one that tries again and again to use a tenth of a second.
+    let before = used();
+    while used() - before < Duration::from_millis(100) {
+        drop(tree.lock());
+        thread::yield_now();
+    }
     assert!(!stats.is_finished() && !waits.iter().any(|thread| thread.is_finished()));
     assert_eq!(tree.lock().finish(holder), Ok(Reply::Done));
     for thread in waits.into_iter().chain([stats]) {
         let (came, used) = thread.join().unwrap();
         assert_eq!(came, Ok(()));
-        assert!(used < Duration::from_millis(40), "{used:?}");
+        assert!(used < Duration::from_millis(10), "{used:?}");
     }
     assert_eq!(tree.readdir("/a").unwrap(), [b"0", b"1", b"2", b"x"]);
     assert_eq!(tree.lock().check().unwrap(), "lawful");
