@@ -211,6 +211,12 @@ fn directories_with_those_above_them() {
     assert_eq!(small.create_dir_all("/p/q/r").unwrap_err(), ErrorKind::Full);
     assert_eq!(small.text_of_tree().unwrap(), "tree\ndir /\n");
     small.create_dir_all("/p/q").unwrap();
+    assert_eq!(small.write_file("/f", "x").unwrap_err(), ErrorKind::Full);
+    assert_eq!(small.create("/f").unwrap_err(), ErrorKind::Full);
+    assert_eq!(
+        small.text_of_tree().unwrap(),
+        "tree\ndir /\ndir /p\ndir /p/q\n"
+    );
     assert_eq!(tree.check().unwrap(), "lawful");
     assert_eq!(small.check().unwrap(), "lawful");
 }

@@ -258,8 +258,10 @@ fn files_of_a_shared_tree() {
 
 #[test]
 fn each_call_of_a_shared_tree() {
+    fn shares<T: Clone + Send + Sync>(_: &T) {}
     let tree = SharedTree::from(Tree::new().unwrap());
-    tree.mkdir("/a").unwrap();
+    shares(&tree);
+    thread::scope(|scope| scope.spawn(|| tree.mkdir("/a").unwrap()).join().unwrap());
     tree.mknod("/a/f").unwrap();
     assert_eq!(tree.write("/a/f", 0, "hello"), Ok(5));
     assert_eq!(tree.read("/a/f", 1, 3).unwrap(), b"ell");
