@@ -1,7 +1,9 @@
 """What `Tree` makes of several calls, and `Path`: the words that a Python programmer knows."""
+import copy
 import errno
 import io
 import pathlib
+import pickle
 import shutil
 import stat
 import threading
@@ -210,6 +212,15 @@ class Directories(OfTree):
         self.assertRaises(shutil.SameFileError, self.tree.copy, "/new", "/new")
         self.assertEqual(self.tree.read("/new"), b"abc")
 
+    def test_rmtree_that_is_refused(self):
+        """What cannot be removed is raised, or left with what is above it."""
+        self.fill()
+        self.tree.rmdir, refused = lambda path: self.tree.unlink("/x"), self.tree.rmdir
+        self.assertRaises(FileNotFoundError, self.tree.rmtree, "/a")
+        self.tree.rmtree("/a", ignore_errors=True)
+        self.tree.rmdir = refused
+        self.assertEqual(list(self.tree), ["/", "/a", "/a/b", "/z"])
+
     def test_copy_without_room(self):
         """Of a directory that is not copied whole nothing stays."""
         with atomfs.Tree(9) as tree:
@@ -323,6 +334,14 @@ class Paths(OfTree):
             self.assertIs(one.tree, self.tree)
         self.assertEqual((repr(path), path.name, self.tree.path("/a/b/f")), ("atomfs.Path('/a/b/f')", "f", path))
         self.assertRaisesRegex(TypeError, "a Path is one of a tree", Path, "/a")
+
+    def test_copies(self):
+        """A copied path is of the same tree, and one that is deeply copied or pickled of a copy of its tree."""
+        path = self.root / "a" / "g"
+        self.assertIs(copy.copy(path).tree, self.tree)
+        for other in (copy.deepcopy(path), pickle.loads(pickle.dumps(path))):
+            self.addCleanup(other.tree.close)
+            self.assertEqual((other, other.read_bytes(), other.tree is self.tree), (path, b"g", False))
 
     def test_looks(self):
         self.assertEqual([str(path) for path in self.root.iterdir()], ["/a", "/z"])

@@ -130,15 +130,14 @@ def of_text(limits: Limits, text: str) -> Snapshot:
 
 def put(tree: Tree, path: str, data: Node) -> None:
     """Makes a file or a directory, with the directories above it."""
+    if data is None:
+        tree.makedirs(path, exist_ok=True)
+        return
     try:
-        if data is not None:
-            tree.write_bytes(path, data)
-            return
+        tree.write_bytes(path, data)
     except FileNotFoundError:
         tree.makedirs(parent_of(path), exist_ok=True)
-        tree.write_bytes(path, data)  # type: ignore[arg-type]
-        return
-    tree.makedirs(path, exist_ok=True)
+        tree.write_bytes(path, data)
 
 
 def from_dict(tree: Tree, files: Mapping[str, Any], above: str = "") -> None:

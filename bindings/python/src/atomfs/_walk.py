@@ -133,19 +133,16 @@ def _matched(tree: Tree, paths: List[str], part: str) -> Iterator[str]:
 
 def rmtree(tree: Tree, path: AnyPath, ignore_errors: bool) -> None:
     """Removes a directory with all below it; of the root, all below it."""
-    raised: List[OSError] = []
+
+    def onerror(error: OSError) -> None:
+        if not ignore_errors:
+            raise error
 
     def tried(call: Callable[[str], None], at: str) -> None:
         try:
             call(at)
         except OSError as error:
-            if not ignore_errors:
-                raise
-            raised.append(error)
-
-    def onerror(error: OSError) -> None:
-        if not ignore_errors:
-            raise error
+            onerror(error)
 
     for at, _, files in walk(tree, path, False, onerror):
         for name in files:

@@ -47,8 +47,7 @@ class _Draft:
                 raise FileExistsError(errno.EEXIST, os.strerror(errno.EEXIST), self._path)
         if "w" in mode:
             kept = b""
-        self._tree.mknod(self._draft)
-        self._tree.write(self._draft, 0, kept)
+        self._tree.write_bytes(self._draft, kept)
 
     def __getattr__(self, name: str) -> Any:
         return getattr(self._file, name)
