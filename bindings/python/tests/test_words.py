@@ -63,7 +63,7 @@ class Looks(OfTree):
         self.assertTrue(all(path in self.tree for path in self.tree) and b"/a/g" in self.tree and "/x" not in self.tree)
         self.assertTrue(self.tree)
         self.tree.close()
-        self.assertEqual((repr(self.tree), str(self.tree)), ("<atomfs.Tree closed>",) * 2)
+        self.assertEqual((repr(self.tree), str(self.tree), bool(self.tree)), (*("<atomfs.Tree closed>",) * 2, True))
         self.assertRaises(atomfs.ClosedError, len, self.tree)
         self.assertRaises(atomfs.ClosedError, list, self.tree)
         self.assertRaises(atomfs.ClosedError, lambda: "/" in self.tree)

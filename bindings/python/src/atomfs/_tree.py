@@ -252,6 +252,10 @@ class Tree:
         """How many nodes there are, the root included."""
         return self.tree().count("\n") - 1
 
+    def __bool__(self) -> bool:
+        """A tree is true, open or closed: nothing is looked at."""
+        return True
+
     def __iter__(self) -> Iterator[str]:
         """The names of all nodes by their paths, the root first and each directory before what is in it."""
         return iter([_rows.told(_rows.path_of(line)) for line in self.tree().splitlines()[1:]])
