@@ -190,6 +190,23 @@ class Snapshots(OfLoads):
         tree.restore(snapshot)
         self.assertEqual(tree.last_calls(1), ["truncate /a/g 0: ok"])
 
+    def test_calls(self):
+        """It makes calls for what has changed alone: two for a file that comes or has other bytes, one for what goes or is empty."""
+        tree = self.kept(Tree.from_dict({f"d{at % 20}/{at}": b"bytes" for at in range(980)}))
+        snapshot = tree.snapshot()
+
+        def calls_after(*changes):
+            for change, *given in changes:
+                change(*given)
+            before = tree.calls
+            tree.restore(snapshot)
+            return tree.calls - before
+
+        self.assertEqual(len(tree), 1_001)
+        self.assertEqual(calls_after((tree.rmtree, "/")), 20 + 2 * 980)
+        self.assertEqual(calls_after((tree.write_bytes, "/d0/0", b"other"), (tree.unlink, "/d1/1"), (tree.mknod, "/new")), 2 + 2 + 1)
+        self.assertEqual(calls_after(), 0)
+
     def test_a_full_tree(self):
         """What goes makes room for what comes: of nodes, and in a directory."""
         tree = self.kept(Tree.from_dict({str(at): b"" for at in range(256)}, 257))
