@@ -417,6 +417,14 @@ fn paths_of_errors() {
     assert_eq!(error.path(), Some(Path::new(long)));
     assert_eq!(error.other_path(), None);
     assert_eq!(Tree::new().unwrap().mkdir(long), Ok(()));
+    // A call that is begun by itself is refused in the same words.
+    let error = tree.begin(seat, &Call::exchange("/b", "/c/")).unwrap_err();
+    assert_eq!(error, ErrorKind::BadPath(PathFault::TrailingSlash));
+    assert_eq!(error.path(), Some(Path::new("/c/")));
+    tree.begin(seat, &Call::stat("/x")).unwrap();
+    let error = tree.begin(seat, &Call::rename("/b", "/c")).unwrap_err();
+    assert_eq!(error, ErrorKind::SeatBusy);
+    assert_eq!(error.other_path(), Some(Path::new("/c")));
     assert_eq!(check("no journal").unwrap_err().path(), None);
 }
 
