@@ -1,4 +1,4 @@
-use Rattle.check_threads.proofs.again.are_lawful.Given as goal
+use Rattle.check_threads.proofs.again.are_lawful_of.Given as goal
 
 abbrev pub ghosts-play_on-N-Named : goal.ghosts-play_on-N-Named
 ghosts-play_on-N-Named g a = record { book = a.opened }
