@@ -2,7 +2,9 @@
 
 ghost use Rattle.std.specs.Prelude.{◌≡◌, ◌≢◌, ◌+◌, ◌<◌, ◌≤◌, [], IfOk, OnOk, OnErr, vec_len, vec_capacity};
 ghost use Rattle.std.specs.Arc.{arc_value};
+ghost use Rattle.slab.specs.Slab.{HasRoomFor, slab_len};
 
+use slab::Slab;
 use std::alloc::{AllocError, Global};
 use std::marker::Model;
 use std::sync::Arc;
@@ -63,11 +65,12 @@ impl Memory {
         self.counted(list.reserve(count))
     }
 
-    /// An empty list with room for so many items.
+    /// An empty list with room for so many items. Room for none is never refused.
     #[inline]
     pub fn with_room<T>(&mut self, alloc: Global, count: usize) -> Result<Vec<T>, AllocError>
         ensures items { IfOk result (λ list. list.items ≡ []) }
         ensures room { IfOk result (λ list. count ≤ vec_capacity list) }
+        ensures some { OnErr result (0 < count) }
         ensures granted { OnOk result (self.new ≡ self.old) }
         ensures refused { OnErr result (self.new ≢ self.old) }
     {
@@ -92,5 +95,38 @@ impl Memory {
         ensures refused { OnErr result (self.new ≢ self.old) }
     {
         self.counted(Arc::try_clone(shared))
+    }
+
+    /// The value in memory of its own.
+    #[inline]
+    pub fn boxed<T: Drop>(&mut self, alloc: Global, value: T) -> Result<Box<T>, AllocError>
+        ensures value { IfOk result (λ boxed. boxed.value ≡ value) }
+        ensures granted { OnOk result (self.new ≡ self.old) }
+        ensures refused { OnErr result (self.new ≢ self.old) }
+    {
+        self.counted(Box::new(alloc, value).map_err(|_| AllocError))
+    }
+
+    /// Room for so many more values in a slab. Where it is refused the slab had less room than that.
+    #[inline]
+    pub fn reserve_keys<T>(&mut self, slab: &mut Slab<T>, count: usize) -> Result<(), AllocError>
+        ensures ok { OnOk result (HasRoomFor slab.new count) }
+        ensures rest { slab.new ≡ record slab.old { capacity = slab.new.capacity } }
+        ensures capacity { slab.old.capacity ≤ slab.new.capacity }
+        ensures full { OnErr result (slab.old.capacity < slab_len slab.old + count) }
+        ensures granted { OnOk result (self.new ≡ self.old) }
+        ensures refused { OnErr result (self.new ≢ self.old) }
+    {
+        self.counted(slab.reserve(count))
+    }
+
+    /// The same value again, by its own `clone`.
+    #[inline]
+    pub fn clone_of<T: Clone>(&mut self, value: &T) -> Result<T, AllocError>
+        ensures copy { IfOk result (λ copy. T.is_clone value.now copy) }
+        ensures granted { OnOk result (self.new ≡ self.old) }
+        ensures refused { OnErr result (self.new ≢ self.old) }
+    {
+        self.counted(value.clone())
     }
 }

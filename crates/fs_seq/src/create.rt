@@ -1,6 +1,6 @@
 //! The calls that make a node.
 
-ghost use Rattle.std.specs.Prelude.{◌≡◌, ◌≤◌, Some, None, [], length, IfOk, OnOk, OnErr};
+ghost use Rattle.std.specs.Prelude.{◌≡◌, ◌≢◌, ◌≤◌, Some, None, [], length, IfOk, OnOk, OnErr};
 ghost use Rattle.fs_calls.specs.Tree.{inserted};
 ghost use Rattle.fs_slab.specs.code.Nodes.{graph, place};
 ghost use Rattle.fs_slab.specs.code.Slots.{IsForest, place_at, links_at, links_of, tree_of, Dir as IsDir};
@@ -8,6 +8,7 @@ ghost use Rattle.fs_seq.specs.code.Effects.{Answers, Attaches, FindsGap, Gives, 
 
 use fs_calls::path_errors::root_error;
 use fs_calls::{Call, EntryCall, Errno, Reply};
+use fs_memory::Memory;
 use fs_names::{Name, Path};
 use fs_slab::nodes::{add_link, look_up};
 use fs_slab::{HeldName, Link, Node};
@@ -17,6 +18,7 @@ use std::alloc::{AllocError, Global};
 /// Adds a node, and an entry for it to a directory at a place.
 pub fn attach(
     alloc: Global,
+    memory: &mut Memory,
     nodes: &mut Slab<Node>,
     dir: usize,
     i: usize,
@@ -27,15 +29,17 @@ pub fn attach(
     requires within { i ≤ length (links_at (graph nodes.old) dir) }
     ensures ok { OnOk result (Attaches (graph nodes.old) (graph nodes.new) dir i name.now (place node)) }
     ensures err { OnErr result (graph nodes.new ≡ graph nodes.old) }
+    ensures granted { OnOk result (memory.new ≡ memory.old) }
+    ensures refused { OnErr result (memory.new ≢ memory.old) }
 {
-    nodes.reserve(1)?;
+    memory.reserve_keys(nodes, 1)?;
     let number = nodes.vacant_key();
-    let held = HeldName::new(alloc, name)?;
+    let held = HeldName::new(alloc, memory, name)?;
     let link = Link {
         name: held,
         node: number,
     };
-    add_link(nodes, dir, i, link)?;
+    add_link(memory, nodes, dir, i, link)?;
     nodes.insert_reserved(node);
     Ok(())
 }
@@ -58,38 +62,68 @@ fn gap(nodes: &Slab<Node>, path: &Path) -> Result<(usize, usize), Errno>
 }
 
 /// Makes a node without entries at the path.
-fn make(alloc: Global, nodes: &mut Slab<Node>, path: &Path, node: Node) -> Result<Reply, AllocError>
+fn make(
+    alloc: Global,
+    memory: &mut Memory,
+    nodes: &mut Slab<Node>,
+    path: &Path,
+    node: Node,
+) -> Result<Reply, AllocError>
     requires forest { IsForest (graph nodes.old) }
     requires bare { links_of (Some (place node)) ≡ [] }
     ensures given { IfOk result (Gives (graph nodes.old) (graph nodes.new) (making_fault (tree_of (graph nodes.old)) path.now) Reply.Done (inserted (tree_of (graph nodes.old)) path.now (tree_node node))) }
     ensures err { OnErr result (graph nodes.new ≡ graph nodes.old) }
     ensures memory { OnErr result (making_fault (tree_of (graph nodes.old)) path.now ≡ None) }
+    ensures granted { OnOk result (memory.new ≡ memory.old) }
+    ensures refused { OnErr result (memory.new ≢ memory.old) }
 {
     match gap(nodes, path) {
         Err(errno) => Ok(Reply::Failed(errno)),
         Ok((dir, i)) => {
-            attach(alloc, nodes, dir, i, path.name(path.len() - 1), node)?;
+            attach(
+                alloc,
+                memory,
+                nodes,
+                dir,
+                i,
+                path.name(path.len() - 1),
+                node,
+            )?;
             Ok(Reply::Done)
         }
     }
 }
 
 /// Makes an empty directory.
-pub fn mkdir(alloc: Global, nodes: &mut Slab<Node>, path: &Path) -> Result<Reply, AllocError>
+pub fn mkdir(
+    alloc: Global,
+    memory: &mut Memory,
+    nodes: &mut Slab<Node>,
+    path: &Path,
+) -> Result<Reply, AllocError>
     requires { IsForest (graph nodes.old) }
     ensures given { IfOk result (Answers (graph nodes.old) (graph nodes.new) (Call.Mkdir path.now)) }
     ensures err { OnErr result (graph nodes.new ≡ graph nodes.old) }
     ensures memory { OnErr result (NeedsMemory (tree_of (graph nodes.old)) (Call.Mkdir path.now)) }
+    ensures granted { OnOk result (memory.new ≡ memory.old) }
+    ensures refused { OnErr result (memory.new ≢ memory.old) }
 {
-    make(alloc, nodes, path, Node::Dir(Vec::new(alloc)))
+    make(alloc, memory, nodes, path, Node::Dir(Vec::new(alloc)))
 }
 
 /// Makes an empty file.
-pub fn mknod(alloc: Global, nodes: &mut Slab<Node>, path: &Path) -> Result<Reply, AllocError>
+pub fn mknod(
+    alloc: Global,
+    memory: &mut Memory,
+    nodes: &mut Slab<Node>,
+    path: &Path,
+) -> Result<Reply, AllocError>
     requires { IsForest (graph nodes.old) }
     ensures given { IfOk result (Answers (graph nodes.old) (graph nodes.new) (Call.Mknod path.now)) }
     ensures err { OnErr result (graph nodes.new ≡ graph nodes.old) }
     ensures memory { OnErr result (NeedsMemory (tree_of (graph nodes.old)) (Call.Mknod path.now)) }
+    ensures granted { OnOk result (memory.new ≡ memory.old) }
+    ensures refused { OnErr result (memory.new ≢ memory.old) }
 {
-    make(alloc, nodes, path, Node::File(Vec::new(alloc)))
+    make(alloc, memory, nodes, path, Node::File(Vec::new(alloc)))
 }

@@ -11,6 +11,7 @@ ghost use Rattle.fs_slab.specs.code.Slots.{IsForest, links_of, tree_of, walk};
 use crate::create::attach;
 use crate::rows::Row;
 use fs_calls::ranges::{fits_size, is_full};
+use fs_memory::Memory;
 use fs_names::{Kind, Name};
 use fs_slab::Node;
 use fs_slab::copying::copied_bytes;
@@ -125,7 +126,7 @@ fn add_row(
         return Ok(false);
     };
     let node = bare_node(alloc, row)?;
-    attach(alloc, nodes, dir, i, name, node)?;
+    attach(alloc, &mut Memory::new(), nodes, dir, i, name, node)?;
     Ok(true)
 }
 

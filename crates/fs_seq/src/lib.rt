@@ -1,7 +1,8 @@
 //! The sequential tree, running: one tree for one thread.
 //!
 //! `SeqTree::apply` gives a call the reply of the table of errors, and leaves the tree that the table says. Out of memory
-//! it leaves the tree as it was, and it fails so only for a call that has to allocate (`specs/Memory.antt`).
+//! it leaves the tree as it was, and it fails so only for a call that has to allocate (`specs/Memory.antt`). `apply_counted` and
+//! `copy_counted` fail exactly where a `Memory` counts a refusal.
 //!
 //! `SeqTree::copy` makes the same tree again, `SeqTree::rows` tells its entries, and `SeqTree::from_rows` makes a tree of
 //! entries or tells the first that no tree within the limits has there (`specs/Rows.antt`, with a law in `laws`).

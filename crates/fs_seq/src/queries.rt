@@ -1,6 +1,6 @@
 //! The calls that change nothing: what stands at a path.
 
-ghost use Rattle.std.specs.Prelude.{◌≡◌, ℕ, Some, MatchResult, IfOk, OnErr, IsTrue, map};
+ghost use Rattle.std.specs.Prelude.{◌≡◌, ◌≢◌, ℕ, Some, MatchResult, IfOk, OnOk, OnErr, IsTrue, map};
 ghost use Rattle.fs_calls.specs.Outcomes.{reply};
 ghost use Rattle.fs_calls.specs.Sights.{has_any};
 ghost use Rattle.fs_calls.specs.code.Targets.{node_call};
@@ -10,6 +10,7 @@ ghost use Rattle.fs_seq.specs.code.Effects.{IsFound, NeedsMemory, node_error};
 
 use fs_calls::ranges::part;
 use fs_calls::{Bytes, Call, Errno, NameList, NodeCall, Reply};
+use fs_memory::Memory;
 use fs_names::{Kind, Path};
 use fs_slab::nodes::resolve;
 use fs_slab::{Link, Node};
@@ -47,45 +48,57 @@ pub fn stat(nodes: &Slab<Node>, path: &Path) -> Reply
 }
 
 /// The names of links, in their order.
-fn names_of(alloc: Global, links: &[Link]) -> Result<NameList, AllocError>
+fn names_of(alloc: Global, memory: &mut Memory, links: &[Link]) -> Result<NameList, AllocError>
     ensures ok { IfOk result (λ names. names ≡ map (λ l. l.0) (pairs links.now)) }
     ensures memory { OnErr result (IsTrue (has_any (map (λ l. l.0) (pairs links.now)))) }
+    ensures granted { OnOk result (memory.new ≡ memory.old) }
+    ensures refused { OnErr result (memory.new ≢ memory.old) }
 {
-    let mut names = Vec::with_capacity(alloc, links.len())?;
+    let mut names = memory.with_room(alloc, links.len())?;
     for link in links {
-        names.push(link.name.name().copy())?;
+        names.push_reserved(link.name.name().copy());
     }
     Ok(NameList::new(names))
 }
 
 /// All names of a directory, in byte order.
-pub fn readdir(alloc: Global, nodes: &Slab<Node>, path: &Path) -> Result<Reply, AllocError>
+pub fn readdir(
+    alloc: Global,
+    memory: &mut Memory,
+    nodes: &Slab<Node>,
+    path: &Path,
+) -> Result<Reply, AllocError>
     requires { IsForest (graph nodes.now) }
     ensures reply { IfOk result (λ r. (most : ℕ) → r ≡ reply most (tree_of (graph nodes.now)) (Call.Readdir path.now)) }
     ensures memory { OnErr result (NeedsMemory (tree_of (graph nodes.now)) (Call.Readdir path.now)) }
+    ensures granted { OnOk result (memory.new ≡ memory.old) }
+    ensures refused { OnErr result (memory.new ≢ memory.old) }
 {
     match find(nodes, path, NodeCall::Readdir) {
         Err(errno) => Ok(Reply::Failed(errno)),
         Ok(node) => {
-            let names = names_of(alloc, node.links())?;
+            let names = names_of(alloc, memory, node.links())?;
             Ok(Reply::Names(names))
         }
     }
 }
 
 /// The same bytes again, in exactly as much memory.
-fn copied(alloc: Global, bytes: &[u8]) -> Result<Bytes, AllocError>
+fn copied(alloc: Global, memory: &mut Memory, bytes: &[u8]) -> Result<Bytes, AllocError>
     ensures ok { IfOk result (λ copy. copy ≡ bytes.now) }
     ensures memory { OnErr result (IsTrue (has_any bytes.now)) }
+    ensures granted { OnOk result (memory.new ≡ memory.old) }
+    ensures refused { OnErr result (memory.new ≢ memory.old) }
 {
-    let mut copy = Vec::with_capacity(alloc, bytes.len())?;
-    copy.extend_from_slice(bytes)?;
+    let mut copy = memory.with_room(alloc, bytes.len())?;
+    let _room_was_made = copy.extend_from_slice(bytes);
     Ok(Bytes::new(copy))
 }
 
 /// The bytes of a file from an offset on, and no more than a count.
 pub fn read(
     alloc: Global,
+    memory: &mut Memory,
     nodes: &Slab<Node>,
     path: &Path,
     off: u64,
@@ -94,11 +107,13 @@ pub fn read(
     requires { IsForest (graph nodes.now) }
     ensures reply { IfOk result (λ r. (most : ℕ) → r ≡ reply most (tree_of (graph nodes.now)) (Call.Read path.now off count)) }
     ensures memory { OnErr result (NeedsMemory (tree_of (graph nodes.now)) (Call.Read path.now off count)) }
+    ensures granted { OnOk result (memory.new ≡ memory.old) }
+    ensures refused { OnErr result (memory.new ≢ memory.old) }
 {
     match find(nodes, path, NodeCall::Read(off, count)) {
         Err(errno) => Ok(Reply::Failed(errno)),
         Ok(node) => {
-            let copy = copied(alloc, part(node.bytes(), off, count))?;
+            let copy = copied(alloc, memory, part(node.bytes(), off, count))?;
             Ok(Reply::Bytes(copy))
         }
     }

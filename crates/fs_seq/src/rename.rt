@@ -15,6 +15,7 @@ ghost use Rattle.slab.specs.Slab.{ContainsKey};
 use fs_calls::ranges::is_full;
 use fs_calls::rows::PairSight;
 use fs_calls::{Call, Errno, PairCall, Reply, Sight, rename_error};
+use fs_memory::Memory;
 use fs_names::{Name, Path};
 use fs_slab::nodes::{add_link, look_up, remove_link, search, sight_of};
 use fs_slab::{Entry, HeldName, Link, Node, Spot};
@@ -155,6 +156,7 @@ fn displace(nodes: &mut Slab<Node>, entry: Entry, victim: Entry, name: &Name)
 /// Puts the entry under a name into another directory at a place, and takes it out of its own.
 fn transfer(
     alloc: Global,
+    memory: &mut Memory,
     nodes: &mut Slab<Node>,
     entry: Entry,
     dir: usize,
@@ -168,13 +170,15 @@ fn transfer(
     requires other { entry.dir ≢ dir }
     ensures ok { OnOk result (Transfers (graph nodes.old) (graph nodes.new) entry dir place name.now) }
     ensures err { OnErr result (graph nodes.new ≡ graph nodes.old) }
+    ensures granted { OnOk result (memory.new ≡ memory.old) }
+    ensures refused { OnErr result (memory.new ≢ memory.old) }
 {
-    let held = HeldName::new(alloc, name)?;
+    let held = HeldName::new(alloc, memory, name)?;
     let link = Link {
         name: held,
         node: entry.node,
     };
-    add_link(nodes, dir, place, link)?;
+    add_link(memory, nodes, dir, place, link)?;
     remove_link(nodes, entry.dir, entry.place);
     Ok(())
 }
@@ -183,6 +187,7 @@ fn transfer(
 /// two directories, and allocates only where it adds an entry to another one.
 pub fn rename(
     alloc: Global,
+    memory: &mut Memory,
     nodes: &mut Slab<Node>,
     from: &Path,
     to: &Path,
@@ -191,6 +196,8 @@ pub fn rename(
     ensures given { IfOk result (Answers (graph nodes.old) (graph nodes.new) (Call.Rename from.now to.now)) }
     ensures err { OnErr result (graph nodes.new ≡ graph nodes.old) }
     ensures memory { OnErr result (NeedsMemory (tree_of (graph nodes.old)) (Call.Rename from.now to.now)) }
+    ensures granted { OnOk result (memory.new ≡ memory.old) }
+    ensures refused { OnErr result (memory.new ≢ memory.old) }
 {
     let plan = match decide(nodes, from, to) {
         Ok(plan) => plan,
@@ -208,7 +215,7 @@ pub fn rename(
             Ok(Reply::Done)
         }
         Plan::Across(entry, dir, place) => {
-            transfer(alloc, nodes, entry, dir, place, name)?;
+            transfer(alloc, memory, nodes, entry, dir, place, name)?;
             Ok(Reply::Done)
         }
     }

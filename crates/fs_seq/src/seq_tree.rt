@@ -1,6 +1,6 @@
 //! The sequential tree: a value of its own for one thread.
 
-ghost use Rattle.std.specs.Prelude.{◌≡◌, ℕ, true, None, Some, Err, map, IfOk, OnOk, OnErr, IsTrue};
+ghost use Rattle.std.specs.Prelude.{◌≡◌, ◌≢◌, ℕ, true, None, Some, Err, map, IfOk, OnOk, OnErr, IsTrue};
 ghost use Rattle.fs_names.specs.Limits.{file_limit};
 ghost use Rattle.fs_calls.specs.Starts.{root_start};
 ghost use Rattle.fs_calls.specs.Outcomes.{reply_at, called};
@@ -13,6 +13,7 @@ use crate::from_rows::{self, NotTree};
 use crate::rows::{self, Row};
 use crate::{create, exchange, queries, remove, rename, write};
 use fs_calls::{Bytes, Call, Reply};
+use fs_memory::Memory;
 use fs_names::{Limits, Path};
 use fs_slab::{Node, copying};
 use slab::Slab;
@@ -70,7 +71,16 @@ impl SeqTree {
     pub fn copy(&self) -> Result<SeqTree, AllocError>
         ensures { IfOk result (λ tree. tree ≡ self.now) }
     {
-        let nodes = copying::copied(&self.nodes)?;
+        self.copy_counted(&mut Memory::new())
+    }
+
+    /// The same, and a refusal is counted.
+    pub fn copy_counted(&self, memory: &mut Memory) -> Result<SeqTree, AllocError>
+        ensures tree { IfOk result (λ tree. tree ≡ self.now) }
+        ensures granted { OnOk result (memory.new ≡ memory.old) }
+        ensures refused { OnErr result (memory.new ≢ memory.old) }
+    {
+        let nodes = copying::copied(memory, &self.nodes)?;
         Ok(SeqTree {
             nodes,
             limits: self.limits,
@@ -110,16 +120,35 @@ impl SeqTree {
         ensures err { OnErr result (self.new ≡ self.old) }
         ensures memory { OnErr result (IsTrue (needs_memory (file_limit self.old.limits) self.old.tree call.now)) }
     {
+        self.apply_counted(alloc, &mut Memory::new(), call)
+    }
+
+    /// The same, and a refusal is counted.
+    pub fn apply_counted(
+        &mut self,
+        alloc: Global,
+        memory: &mut Memory,
+        call: &Call,
+    ) -> Result<Reply, AllocError>
+        ensures reply { IfOk result (λ r. r ≡ reply_at self.old call.now) }
+        ensures tree { OnOk result (self.new ≡ called self.old call.now) }
+        ensures err { OnErr result (self.new ≡ self.old) }
+        ensures memory { OnErr result (IsTrue (needs_memory (file_limit self.old.limits) self.old.tree call.now)) }
+        ensures granted { OnOk result (memory.new ≡ memory.old) }
+        ensures refused { OnErr result (memory.new ≢ memory.old) }
+    {
         match call {
-            Call::Mkdir(path) => self.mkdir(alloc, path),
-            Call::Mknod(path) => self.mknod(alloc, path),
+            Call::Mkdir(path) => self.mkdir(alloc, memory, path),
+            Call::Mknod(path) => self.mknod(alloc, memory, path),
             Call::Unlink(path) => Ok(self.unlink(path)),
             Call::Rmdir(path) => Ok(self.rmdir(path)),
-            Call::Rename(from, to) => self.rename(alloc, from, to),
+            Call::Rename(from, to) => self.rename(alloc, memory, from, to),
             Call::Exchange(path, other) => Ok(self.exchange(path, other)),
-            Call::Stat(_) | Call::Readdir(_) | Call::Read(_, _, _) => self.look(alloc, call),
-            Call::Write(path, off, bytes) => self.write(path, *off, bytes),
-            Call::Truncate(path, size) => self.truncate(path, *size),
+            Call::Stat(_) | Call::Readdir(_) | Call::Read(_, _, _) => {
+                self.look_counted(alloc, memory, call)
+            }
+            Call::Write(path, off, bytes) => self.write(memory, path, *off, bytes),
+            Call::Truncate(path, size) => self.truncate(memory, path, *size),
         }
     }
 
@@ -130,32 +159,62 @@ impl SeqTree {
         ensures reply { IfOk result (λ r. r ≡ reply_at self.now call.now) }
         ensures memory { OnErr result (IsTrue (needs_memory (file_limit self.now.limits) self.now.tree call.now)) }
     {
+        self.look_counted(alloc, &mut Memory::new(), call)
+    }
+
+    /// The same, and a refusal is counted.
+    fn look_counted(
+        &self,
+        alloc: Global,
+        memory: &mut Memory,
+        call: &Call,
+    ) -> Result<Reply, AllocError>
+        requires { IsTrue (is_look call.now) }
+        ensures reply { IfOk result (λ r. r ≡ reply_at self.now call.now) }
+        ensures memory { OnErr result (IsTrue (needs_memory (file_limit self.now.limits) self.now.tree call.now)) }
+        ensures granted { OnOk result (memory.new ≡ memory.old) }
+        ensures refused { OnErr result (memory.new ≢ memory.old) }
+    {
         match call {
             Call::Stat(path) => Ok(self.stat(path)),
-            Call::Readdir(path) => self.readdir(alloc, path),
-            Call::Read(path, off, count) => self.read(alloc, path, *off, *count),
+            Call::Readdir(path) => self.readdir(alloc, memory, path),
+            Call::Read(path, off, count) => self.read(alloc, memory, path, *off, *count),
             Call::Mkdir(_) | Call::Mknod(_) | Call::Unlink(_) | Call::Rmdir(_) => unreachable!(),
             Call::Rename(_, _) | Call::Exchange(_, _) => unreachable!(),
             Call::Write(_, _, _) | Call::Truncate(_, _) => unreachable!(),
         }
     }
 
-    fn mkdir(&mut self, alloc: Global, path: &Path) -> Result<Reply, AllocError>
+    fn mkdir(
+        &mut self,
+        alloc: Global,
+        memory: &mut Memory,
+        path: &Path,
+    ) -> Result<Reply, AllocError>
         ensures reply { IfOk result (λ r. r ≡ reply_at self.old (Call.Mkdir path.now)) }
         ensures tree { OnOk result (self.new ≡ called self.old (Call.Mkdir path.now)) }
         ensures err { OnErr result (self.new ≡ self.old) }
         ensures memory { OnErr result (IsTrue (needs_memory (file_limit self.old.limits) self.old.tree (Call.Mkdir path.now))) }
+        ensures granted { OnOk result (memory.new ≡ memory.old) }
+        ensures refused { OnErr result (memory.new ≢ memory.old) }
     {
-        create::mkdir(alloc, &mut self.nodes, path)
+        create::mkdir(alloc, memory, &mut self.nodes, path)
     }
 
-    fn mknod(&mut self, alloc: Global, path: &Path) -> Result<Reply, AllocError>
+    fn mknod(
+        &mut self,
+        alloc: Global,
+        memory: &mut Memory,
+        path: &Path,
+    ) -> Result<Reply, AllocError>
         ensures reply { IfOk result (λ r. r ≡ reply_at self.old (Call.Mknod path.now)) }
         ensures tree { OnOk result (self.new ≡ called self.old (Call.Mknod path.now)) }
         ensures err { OnErr result (self.new ≡ self.old) }
         ensures memory { OnErr result (IsTrue (needs_memory (file_limit self.old.limits) self.old.tree (Call.Mknod path.now))) }
+        ensures granted { OnOk result (memory.new ≡ memory.old) }
+        ensures refused { OnErr result (memory.new ≢ memory.old) }
     {
-        create::mknod(alloc, &mut self.nodes, path)
+        create::mknod(alloc, memory, &mut self.nodes, path)
     }
 
     fn unlink(&mut self, path: &Path) -> Reply
@@ -172,13 +231,21 @@ impl SeqTree {
         remove::rmdir(&mut self.nodes, path)
     }
 
-    fn rename(&mut self, alloc: Global, from: &Path, to: &Path) -> Result<Reply, AllocError>
+    fn rename(
+        &mut self,
+        alloc: Global,
+        memory: &mut Memory,
+        from: &Path,
+        to: &Path,
+    ) -> Result<Reply, AllocError>
         ensures reply { IfOk result (λ r. r ≡ reply_at self.old (Call.Rename from.now to.now)) }
         ensures tree { OnOk result (self.new ≡ called self.old (Call.Rename from.now to.now)) }
         ensures err { OnErr result (self.new ≡ self.old) }
         ensures memory { OnErr result (IsTrue (needs_memory (file_limit self.old.limits) self.old.tree (Call.Rename from.now to.now))) }
+        ensures granted { OnOk result (memory.new ≡ memory.old) }
+        ensures refused { OnErr result (memory.new ≢ memory.old) }
     {
-        rename::rename(alloc, &mut self.nodes, from, to)
+        rename::rename(alloc, memory, &mut self.nodes, from, to)
     }
 
     fn exchange(&mut self, path: &Path, other: &Path) -> Reply
@@ -194,35 +261,63 @@ impl SeqTree {
         queries::stat(&self.nodes, path)
     }
 
-    fn readdir(&self, alloc: Global, path: &Path) -> Result<Reply, AllocError>
+    fn readdir(&self, alloc: Global, memory: &mut Memory, path: &Path) -> Result<Reply, AllocError>
         ensures reply { IfOk result (λ r. r ≡ reply_at self.now (Call.Readdir path.now)) }
         ensures memory { OnErr result (IsTrue (needs_memory (file_limit self.now.limits) self.now.tree (Call.Readdir path.now))) }
+        ensures granted { OnOk result (memory.new ≡ memory.old) }
+        ensures refused { OnErr result (memory.new ≢ memory.old) }
     {
-        queries::readdir(alloc, &self.nodes, path)
+        queries::readdir(alloc, memory, &self.nodes, path)
     }
 
-    fn read(&self, alloc: Global, path: &Path, off: u64, count: u64) -> Result<Reply, AllocError>
+    fn read(
+        &self,
+        alloc: Global,
+        memory: &mut Memory,
+        path: &Path,
+        off: u64,
+        count: u64,
+    ) -> Result<Reply, AllocError>
         ensures reply { IfOk result (λ r. r ≡ reply_at self.now (Call.Read path.now off count)) }
         ensures memory { OnErr result (IsTrue (needs_memory (file_limit self.now.limits) self.now.tree (Call.Read path.now off count))) }
+        ensures granted { OnOk result (memory.new ≡ memory.old) }
+        ensures refused { OnErr result (memory.new ≢ memory.old) }
     {
-        queries::read(alloc, &self.nodes, path, off, count)
+        queries::read(alloc, memory, &self.nodes, path, off, count)
     }
 
-    fn write(&mut self, path: &Path, off: u64, bytes: &Bytes) -> Result<Reply, AllocError>
+    fn write(
+        &mut self,
+        memory: &mut Memory,
+        path: &Path,
+        off: u64,
+        bytes: &Bytes,
+    ) -> Result<Reply, AllocError>
         ensures reply { IfOk result (λ r. r ≡ reply_at self.old (Call.Write path.now off bytes.now)) }
         ensures tree { OnOk result (self.new ≡ called self.old (Call.Write path.now off bytes.now)) }
         ensures err { OnErr result (self.new ≡ self.old) }
         ensures memory { OnErr result (IsTrue (needs_memory (file_limit self.old.limits) self.old.tree (Call.Write path.now off bytes.now))) }
+        ensures granted { OnOk result (memory.new ≡ memory.old) }
+        ensures refused { OnErr result (memory.new ≢ memory.old) }
     {
-        write::write(&mut self.nodes, path, off, bytes, self.limits.file())
+        write::write(
+            memory,
+            &mut self.nodes,
+            path,
+            off,
+            bytes,
+            self.limits.file(),
+        )
     }
 
-    fn truncate(&mut self, path: &Path, size: u64) -> Result<Reply, AllocError>
+    fn truncate(&mut self, memory: &mut Memory, path: &Path, size: u64) -> Result<Reply, AllocError>
         ensures reply { IfOk result (λ r. r ≡ reply_at self.old (Call.Truncate path.now size)) }
         ensures tree { OnOk result (self.new ≡ called self.old (Call.Truncate path.now size)) }
         ensures err { OnErr result (self.new ≡ self.old) }
         ensures memory { OnErr result (IsTrue (needs_memory (file_limit self.old.limits) self.old.tree (Call.Truncate path.now size))) }
+        ensures granted { OnOk result (memory.new ≡ memory.old) }
+        ensures refused { OnErr result (memory.new ≢ memory.old) }
     {
-        write::truncate(&mut self.nodes, path, size, self.limits.file())
+        write::truncate(memory, &mut self.nodes, path, size, self.limits.file())
     }
 }

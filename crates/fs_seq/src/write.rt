@@ -1,6 +1,6 @@
 //! The calls that change the bytes of a file.
 
-ghost use Rattle.std.specs.Prelude.{◌≡◌, ◌<◌, ◌+◌, ◌++◌, ◌-◌, ◌^◌, replicate, IfOk, OnOk, OnErr, IsTrue, length, nat_lt, None, Some, ◌&&◌};
+ghost use Rattle.std.specs.Prelude.{◌≡◌, ◌≢◌, ◌<◌, ◌+◌, ◌++◌, ◌-◌, ◌^◌, replicate, IfOk, OnOk, OnErr, IsTrue, length, nat_lt, None, Some, ◌&&◌};
 ghost use Rattle.fs_calls.specs.Rows.{node_fault, written, resized};
 ghost use Rattle.fs_calls.specs.Sights.{has_any, bytes_of};
 ghost use Rattle.fs_calls.specs.Forms as calls;
@@ -11,6 +11,7 @@ ghost use Rattle.fs_seq.specs.code.Effects.{AnswersWithin, Rewrites, written_if_
 
 use fs_calls::ranges::put;
 use fs_calls::{Bytes, Call, NodeCall, Reply};
+use fs_memory::Memory;
 use fs_names::Path;
 use fs_slab::Node;
 use fs_slab::nodes::resolve;
@@ -18,84 +19,116 @@ use slab::Slab;
 use std::alloc::AllocError;
 
 /// Adds zeros up to a length, where there are fewer bytes.
-fn grow(bytes: &mut Vec<u8>, len: usize) -> Result<(), AllocError>
+fn grow(memory: &mut Memory, bytes: &mut Vec<u8>, len: usize) -> Result<(), AllocError>
     ensures ok { OnOk result (bytes.new.items ≡ bytes.old.items ++ replicate (len - length bytes.old.items) 0) }
     ensures err { OnErr result (bytes.new.items ≡ bytes.old.items) }
     ensures memory { OnErr result (length bytes.old.items < len) }
+    ensures granted { OnOk result (memory.new ≡ memory.old) }
+    ensures refused { OnErr result (memory.new ≢ memory.old) }
 {
     if bytes.len() < len {
-        bytes.resize(len, 0)?;
+        memory.reserve(bytes, len - bytes.len())?;
+        let _room_was_made = bytes.resize(len, 0);
     }
     Ok(())
 }
 
 /// Puts bytes over those from an offset on, where the file may grow; a gap is filled with zeros.
-fn overwrite(old: &mut Vec<u8>, off: usize, bytes: &[u8]) -> Result<(), AllocError>
+fn overwrite(
+    memory: &mut Memory,
+    old: &mut Vec<u8>,
+    off: usize,
+    bytes: &[u8],
+) -> Result<(), AllocError>
     requires { off + length bytes.now < 2 ^ 64 }
     ensures ok { OnOk result (old.new.items ≡ written old.old.items off bytes.now) }
     ensures err { OnErr result (old.new.items ≡ old.old.items) }
     ensures memory { OnErr result (length old.old.items < off + length bytes.now) }
+    ensures granted { OnOk result (memory.new ≡ memory.old) }
+    ensures refused { OnErr result (memory.new ≢ memory.old) }
 {
-    grow(old, off + bytes.len())?;
+    grow(memory, old, off + bytes.len())?;
     put(old, off, bytes);
     Ok(())
 }
 
 /// Writes bytes into a file's, where it may grow, if there are any.
-fn fill(old: &mut Vec<u8>, off: u64, bytes: &[u8]) -> Result<(), AllocError>
+fn fill(memory: &mut Memory, old: &mut Vec<u8>, off: u64, bytes: &[u8]) -> Result<(), AllocError>
     requires { IsTrue (has_any bytes.now) → off + length bytes.now < 2 ^ 64 }
     ensures ok { OnOk result (old.new.items ≡ written_if_any old.old.items off bytes.now) }
     ensures err { OnErr result (old.new.items ≡ old.old.items) }
     ensures memory { OnErr result (IsTrue (has_any bytes.now && nat_lt (length old.old.items) (off + length bytes.now))) }
+    ensures granted { OnOk result (memory.new ≡ memory.old) }
+    ensures refused { OnErr result (memory.new ≢ memory.old) }
 {
     if !bytes.is_empty() {
-        overwrite(old, off as usize, bytes)?;
+        overwrite(memory, old, off as usize, bytes)?;
     }
     Ok(())
 }
 
 /// Writes bytes into a node's, unless the row has an error.
-fn write_node(node: &mut Node, off: u64, bytes: &Bytes, most: usize) -> Result<Reply, AllocError>
+fn write_node(
+    memory: &mut Memory,
+    node: &mut Node,
+    off: u64,
+    bytes: &Bytes,
+    most: usize,
+) -> Result<Reply, AllocError>
     ensures given { IfOk result (Rewrites (place node.old) (place node.new) (calls.Write most off bytes.now)) }
     ensures err { OnErr result (place node.new ≡ place node.old) }
     ensures memory { OnErr result ((node_fault (calls.Write most off bytes.now) None (shape_of (Some (place node.old))) ≡ None) × IsTrue (has_any bytes.now && nat_lt (length (bytes_of (shape_of (Some (place node.old))))) (off + length bytes.now))) }
+    ensures granted { OnOk result (memory.new ≡ memory.old) }
+    ensures refused { OnErr result (memory.new ≢ memory.old) }
 {
     if let Some(errno) = NodeCall::Write(off, bytes).error(most, node.sight()) {
         return Ok(Reply::Failed(errno));
     }
     if let Node::File(old) = node {
-        fill(old, off, bytes.as_slice())?;
+        fill(memory, old, off, bytes.as_slice())?;
     }
     Ok(Reply::Wrote(bytes.as_slice().len() as u64))
 }
 
 /// Cuts a file's bytes to a size, or adds zeros up to it.
-fn resize(bytes: &mut Vec<u8>, size: u64) -> Result<(), AllocError>
+fn resize(memory: &mut Memory, bytes: &mut Vec<u8>, size: u64) -> Result<(), AllocError>
     ensures ok { OnOk result (bytes.new.items ≡ resized bytes.old.items size) }
     ensures err { OnErr result (bytes.new.items ≡ bytes.old.items) }
     ensures memory { OnErr result (IsTrue (nat_lt (length bytes.old.items) size)) }
+    ensures granted { OnOk result (memory.new ≡ memory.old) }
+    ensures refused { OnErr result (memory.new ≢ memory.old) }
 {
-    bytes.resize(size as usize, 0)?;
+    let size = size as usize;
+    grow(memory, bytes, size)?;
+    bytes.truncate(size);
     Ok(())
 }
 
 /// Cuts a node's bytes to a size, or adds zeros up to it, unless the row has an error.
-fn truncate_node(node: &mut Node, size: u64, most: usize) -> Result<Reply, AllocError>
+fn truncate_node(
+    memory: &mut Memory,
+    node: &mut Node,
+    size: u64,
+    most: usize,
+) -> Result<Reply, AllocError>
     ensures given { IfOk result (Rewrites (place node.old) (place node.new) (calls.Truncate most size)) }
     ensures err { OnErr result (place node.new ≡ place node.old) }
     ensures memory { OnErr result ((node_fault (calls.Truncate most size) None (shape_of (Some (place node.old))) ≡ None) × IsTrue (nat_lt (length (bytes_of (shape_of (Some (place node.old))))) size)) }
+    ensures granted { OnOk result (memory.new ≡ memory.old) }
+    ensures refused { OnErr result (memory.new ≢ memory.old) }
 {
     if let Some(errno) = NodeCall::Truncate(size).error(most, node.sight()) {
         return Ok(Reply::Failed(errno));
     }
     if let Node::File(bytes) = node {
-        resize(bytes, size)?;
+        resize(memory, bytes, size)?;
     }
     Ok(Reply::Done)
 }
 
 /// Writes bytes into the file at the path, where a file has at most so many.
 pub fn write(
+    memory: &mut Memory,
     nodes: &mut Slab<Node>,
     path: &Path,
     off: u64,
@@ -106,15 +139,18 @@ pub fn write(
     ensures given { IfOk result (AnswersWithin most (graph nodes.old) (graph nodes.new) (Call.Write path.now off bytes.now)) }
     ensures err { OnErr result (graph nodes.new ≡ graph nodes.old) }
     ensures memory { OnErr result (IsTrue (needs_memory most (tree_of (graph nodes.old)) (Call.Write path.now off bytes.now))) }
+    ensures granted { OnOk result (memory.new ≡ memory.old) }
+    ensures refused { OnErr result (memory.new ≢ memory.old) }
 {
     match resolve(nodes, path, path.len()) {
         Err(errno) => Ok(Reply::Failed(errno)),
-        Ok(at) => write_node(&mut nodes[at], off, bytes, most),
+        Ok(at) => write_node(memory, &mut nodes[at], off, bytes, most),
     }
 }
 
 /// Cuts the file at the path to a size, or adds zeros up to it, where a file has at most so many bytes.
 pub fn truncate(
+    memory: &mut Memory,
     nodes: &mut Slab<Node>,
     path: &Path,
     size: u64,
@@ -124,9 +160,11 @@ pub fn truncate(
     ensures given { IfOk result (AnswersWithin most (graph nodes.old) (graph nodes.new) (Call.Truncate path.now size)) }
     ensures err { OnErr result (graph nodes.new ≡ graph nodes.old) }
     ensures memory { OnErr result (IsTrue (needs_memory most (tree_of (graph nodes.old)) (Call.Truncate path.now size))) }
+    ensures granted { OnOk result (memory.new ≡ memory.old) }
+    ensures refused { OnErr result (memory.new ≢ memory.old) }
 {
     match resolve(nodes, path, path.len()) {
         Err(errno) => Ok(Reply::Failed(errno)),
-        Ok(at) => truncate_node(&mut nodes[at], size, most),
+        Ok(at) => truncate_node(memory, &mut nodes[at], size, most),
     }
 }

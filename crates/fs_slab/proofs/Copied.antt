@@ -1,6 +1,6 @@
 -- Clones of nodes, each under its number, are the same graph.
 use Rattle.std.proofs.Common.{◌≡◌, List, [], ◌∷◌, map, Some, None, Option, refl, ap, ap₂}
-use Rattle.std.specs.Prelude.{Result, Ok, Err, MatchResult, IfOk}
+use Rattle.std.specs.Prelude.{Result, Ok, Err, IfOk}
 use Rattle.std.specs.List.{AllZip}
 use Rattle.slab.specs.Slab.{Slab, IsSlotClone, IsSlabClone}
 use Rattle.fs_slab.specs.declared.nodes.Node.{Node}
@@ -25,6 +25,6 @@ same_slots (s ∷ slots) [] all = absurd all
 same_slots (s ∷ slots) (c ∷ copies) all = ap₂ (λ (o : Option Place) (os : List (Option Place)). o ∷ os) (same_slot s c all.0) (same_slots slots copies all.1)
 
 -- a slab that was cloned
-pub same_copy : {E : Type 0} (s : Slab Node) (r : Result (Slab Node) E) (Fails : E → Type 0) → MatchResult r (IsSlabClone SamePlace s) Fails → IfOk r (λ copy. graph copy ≡ graph s)
-same_copy s (Ok copy) Fails h = same_slots s.slots copy.slots h.slots
-same_copy s (Err e) Fails h = tt
+pub same_copy : {E : Type 0} (s : Slab Node) (r : Result (Slab Node) E) → IfOk r (IsSlabClone SamePlace s) → IfOk r (λ copy. graph copy ≡ graph s)
+same_copy s (Ok copy) h = same_slots s.slots copy.slots h.slots
+same_copy s (Err e) h = tt

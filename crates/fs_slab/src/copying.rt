@@ -1,9 +1,10 @@
 //! The same nodes again, in memory of their own.
 
-ghost use Rattle.std.specs.Prelude.{◌≡◌, IfOk};
+ghost use Rattle.std.specs.Prelude.{◌≡◌, ◌≢◌, IfOk, OnOk, OnErr};
 ghost use Rattle.fs_slab.specs.code.Nodes.{graph};
 
 use crate::nodes::{Link, Node};
+use fs_memory::Memory;
 use slab::Slab;
 use std::alloc::AllocError;
 
@@ -41,8 +42,10 @@ pub fn copied_bytes(bytes: &Vec<u8>) -> Result<Vec<u8>, AllocError>
 }
 
 /// The same nodes under the same numbers.
-pub fn copied(nodes: &Slab<Node>) -> Result<Slab<Node>, AllocError>
-    ensures { IfOk result (λ copy. graph copy ≡ graph nodes.now) }
+pub fn copied(memory: &mut Memory, nodes: &Slab<Node>) -> Result<Slab<Node>, AllocError>
+    ensures copy { IfOk result (λ copy. graph copy ≡ graph nodes.now) }
+    ensures granted { OnOk result (memory.new ≡ memory.old) }
+    ensures refused { OnErr result (memory.new ≢ memory.old) }
 {
-    nodes.clone()
+    memory.clone_of(nodes)
 }

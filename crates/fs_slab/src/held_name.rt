@@ -1,8 +1,9 @@
 //! Names of entries, apart from the entries.
 
-ghost use Rattle.std.specs.Prelude.{◌≡◌, IfOk};
+ghost use Rattle.std.specs.Prelude.{◌≡◌, ◌≢◌, IfOk, OnOk, OnErr};
 ghost use Rattle.fs_names.specs.Names.{name_cmp};
 
+use fs_memory::Memory;
 use fs_names::Name;
 use std::alloc::{AllocError, Global};
 use std::cmp::Ordering;
@@ -25,13 +26,13 @@ impl Model for HeldName {
 
 impl HeldName {
     /// The same name, held.
-    pub fn new(alloc: Global, name: &Name) -> Result<HeldName, AllocError>
-        ensures { IfOk result (λ held. held ≡ name.now) }
+    pub fn new(alloc: Global, memory: &mut Memory, name: &Name) -> Result<HeldName, AllocError>
+        ensures held { IfOk result (λ held. held ≡ name.now) }
+        ensures granted { OnOk result (memory.new ≡ memory.old) }
+        ensures refused { OnErr result (memory.new ≢ memory.old) }
     {
-        match Box::new(alloc, name.copy()) {
-            Ok(name) => Ok(HeldName { name }),
-            Err(_) => Err(AllocError),
-        }
+        let name = memory.boxed(alloc, name.copy())?;
+        Ok(HeldName { name })
     }
 
     /// The name.
@@ -60,6 +61,6 @@ impl Clone for HeldName {
     ghost is_clone = { λ name copy. copy ≡ name };
 
     fn clone(&self) -> Result<HeldName, AllocError> {
-        HeldName::new(*Box::allocator(&self.name), self.name())
+        HeldName::new(*Box::allocator(&self.name), &mut Memory::new(), self.name())
     }
 }

@@ -1,6 +1,6 @@
 //! Nodes in a slab, walks along names, and the entries of directories.
 
-ghost use Rattle.std.specs.Prelude.{◌≡◌, ◌<◌, ◌≤◌, Some, IfSome, IsTrue, OnOk, OnErr, length, take, insert, remove, vec_len};
+ghost use Rattle.std.specs.Prelude.{◌≡◌, ◌≢◌, ◌<◌, ◌≤◌, Some, IfSome, IsTrue, OnOk, OnErr, length, take, insert, remove, vec_len};
 ghost use Rattle.std.specs.FinMap.{is_sorted};
 ghost use Rattle.slab.specs.Slab.{ContainsKey, HasRoomFor};
 ghost use Rattle.fs_names.specs.Names.{name_cmp};
@@ -13,6 +13,7 @@ use crate::held_name::HeldName;
 use fs_calls::ranges::is_full;
 use fs_calls::rows::step_error;
 use fs_calls::{Errno, Sight};
+use fs_memory::Memory;
 use fs_names::{Name, Path};
 use slab::Slab;
 use std::alloc::AllocError;
@@ -199,28 +200,44 @@ pub fn look_up(nodes: &Slab<Node>, path: &Path) -> Result<Spot, Errno>
 }
 
 /// Adds a link at a place among others.
-fn insert_link(links: &mut Vec<Link>, i: usize, link: Link) -> Result<(), AllocError>
+fn insert_link(
+    memory: &mut Memory,
+    links: &mut Vec<Link>,
+    i: usize,
+    link: Link,
+) -> Result<(), AllocError>
     requires { i ≤ vec_len links.old }
     ensures ok { OnOk result (links.new.items ≡ insert links.old.items i link) }
     ensures err { OnErr result (links.new.items ≡ links.old.items) }
+    ensures granted { OnOk result (memory.new ≡ memory.old) }
+    ensures refused { OnErr result (memory.new ≢ memory.old) }
 {
+    memory.reserve(links, 1)?;
     match links.insert(i, link) {
         Ok(()) => Ok(()),
-        Err(_) => Err(AllocError),
+        Err(_) => unreachable!(),
     }
 }
 
 /// Adds an entry to a directory at a place.
-pub fn add_link(nodes: &mut Slab<Node>, dir: usize, i: usize, link: Link) -> Result<(), AllocError>
+pub fn add_link(
+    memory: &mut Memory,
+    nodes: &mut Slab<Node>,
+    dir: usize,
+    i: usize,
+    link: Link,
+) -> Result<(), AllocError>
     requires directory { place_at (graph nodes.old) dir ≡ Some (IsDir (links_at (graph nodes.old) dir)) }
     requires within { i ≤ length (links_at (graph nodes.old) dir) }
     ensures ok { OnOk result (Sets (graph nodes.old) (graph nodes.new) dir (Some (IsDir (insert (links_at (graph nodes.old) dir) i (pair link))))) }
     ensures err { OnErr result (graph nodes.new ≡ graph nodes.old) }
     ensures key { nodes.new.vacant_key ≡ nodes.old.vacant_key }
     ensures room { HasRoomFor nodes.old 1 → HasRoomFor nodes.new 1 }
+    ensures granted { OnOk result (memory.new ≡ memory.old) }
+    ensures refused { OnErr result (memory.new ≢ memory.old) }
 {
     match &mut nodes[dir] {
-        Node::Dir(links) => insert_link(links, i, link),
+        Node::Dir(links) => insert_link(memory, links, i, link),
         Node::File(_) => Ok(()),
     }
 }

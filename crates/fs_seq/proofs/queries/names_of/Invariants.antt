@@ -1,7 +1,10 @@
-use Rattle.std.proofs.Common.{◌≡◌, take, map}
+use Rattle.std.proofs.Common.{◌≡◌, ◌≤◌, take, map, length, vec_capacity}
 use Rattle.fs_slab.specs.code.Nodes.{pairs}
 use Rattle.fs_seq.proofs.queries.names_of.Given as goal
 
--- the names of the links so far
+-- the names of the links so far, and there is room for all
 abbrev pub invariant-loop-link : goal.invariant-loop-link
-invariant-loop-link l = l.names.items ≡ map (λ k. k.0) (pairs (take l.link-index l.links))
+invariant-loop-link l = record {
+  names : l.names.items ≡ map (λ k. k.0) (pairs (take l.link-index l.links));
+  room : length l.links ≤ vec_capacity l.names;
+}

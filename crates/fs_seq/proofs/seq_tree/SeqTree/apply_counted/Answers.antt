@@ -6,7 +6,7 @@ use Rattle.fs_calls.specs.Outcomes.{after, change}
 use Rattle.fs_calls.specs.declared.call.Call.{Call}
 use Rattle.fs_calls.specs.declared.call.Call.TheVariants.{Stat, Readdir, Read}
 use Rattle.fs_seq.proofs.Replies.{leaves, on_ok}
-use Rattle.fs_seq.proofs.seq_tree.SeqTree.apply.Goals as goal
+use Rattle.fs_seq.proofs.seq_tree.SeqTree.apply_counted.Goals as goal
 
 asked : (most : ℕ) (t : Tree) (call look : Call) → call ≡ look → change most t look ≡ t → after most t call ≡ t
 asked most t call look is same = ap (after most t) is ∙ leaves most t look same
@@ -20,4 +20,4 @@ looked most t call h =
 pub returns-in-Stat-clause-tree : goal.returns-in-Stat-clause-tree
 returns-in-Stat-clause-tree c =
     let now = c.args.self.now in
-    on_ok c.look.result (sym (ap (λ (t : Tree). record { limits = now.limits; tree = t }) (looked (file_limit now.limits) now.tree c.args.call.now c.in-Stat.is)))
+    on_ok c.look_counted.result (sym (ap (λ (t : Tree). record { limits = now.limits; tree = t }) (looked (file_limit now.limits) now.tree c.args.call.now c.in-Stat.is)))
