@@ -4,9 +4,10 @@ ghost use Rattle.std.specs.Prelude.{◌<◌, length};
 
 use anyhow::{Result, bail, ensure};
 use fs_calls::Call;
-use fs_core::{Core, Refusal, Stepped};
+use fs_core::{Core, NoCheckpoint, Refusal, Stepped};
 use fs_memory::Memory;
 use fs_names::SeatNo;
+use slab::Slab;
 use std::alloc::{AllocError, Global};
 use std::sync::Arc;
 
@@ -31,6 +32,25 @@ fn one_byte(alloc: Global, memory: &mut Memory, refused: &mut u64) -> Vec<u8> {
     bytes
 }
 
+/// Asks for a value of its own, for keys of a slab and for a clone.
+fn ask_for_values(alloc: Global, memory: &mut Memory, refused: &mut u64) -> Result<()> {
+    let seven = note(refused, memory.boxed(alloc, 7_u64));
+    ensure!(memory.refusals() == *refused, "a value of its own");
+    let mut slab: Slab<u64> = Slab::new(alloc);
+    let keys = note(refused, memory.reserve_keys(&mut slab, 1));
+    ensure!(memory.refusals() == *refused, "keys of a slab");
+    if slab.insert(7).is_ok() {
+        let copy = note(refused, memory.clone_of(&slab));
+        ensure!(memory.refusals() == *refused, "a clone");
+        ensure!(copy.is_some() || *refused > 0, "a clone, or a refusal");
+    }
+    ensure!(
+        (seven.is_some() && keys.is_some()) || *refused > 0,
+        "a value and keys, or a refusal"
+    );
+    Ok(())
+}
+
 /// Asks for memory in each way: the count is that of the refusals.
 pub fn ask(alloc: Global) -> Result<u64> {
     let mut memory = Memory::new();
@@ -49,6 +69,7 @@ pub fn ask(alloc: Global) -> Result<u64> {
         ensure!(owner.is_some(), "one more owner");
     }
     ensure!(memory.refusals() == refused, "what is shared");
+    ask_for_values(alloc, &mut memory, &mut refused)?;
     Ok(refused)
 }
 
@@ -95,7 +116,28 @@ fn end(core: &mut Core, seat: SeatNo) -> Result<()> {
     bail!("a call that does not return")
 }
 
-/// Plays calls on a core that has no seat. It answers how often memory was refused, as the core counts.
+/// The timeline begins again, once more where memory is refused. It answers how often it was.
+fn begin_again(alloc: Global, core: &mut Core) -> Result<u64> {
+    let mut memory = Memory::new();
+    let again = core.checkpoint_counted(alloc, &mut memory);
+    if again.is_ok() {
+        ensure!(memory.refusals() == 0, "no refusal counted");
+        return Ok(0);
+    }
+    ensure!(
+        again.err() == Some(NoCheckpoint::OutOfMemory),
+        "no call under way"
+    );
+    ensure!(memory.refusals() == 1, "one refusal counted");
+    let again = core.checkpoint(alloc);
+    ensure!(
+        again.is_ok(),
+        "a checkpoint that memory was refused to before"
+    );
+    Ok(1)
+}
+
+/// Plays calls on a core that has no seat. It answers how often memory was refused, as the core and a checkpoint count.
 fn play_on(alloc: Global, core: &mut Core, calls: &[Call]) -> Result<u64> {
     let seat = seat(core)?;
     for call in calls {
@@ -103,7 +145,8 @@ fn play_on(alloc: Global, core: &mut Core, calls: &[Call]) -> Result<u64> {
         begin(alloc, core, seat, call)?;
         end(core, seat)?;
     }
-    Ok(core.refusals())
+    let again = begin_again(alloc, core)?;
+    Ok(core.refusals().wrapping_add(again))
 }
 
 /// The same on a new core.

@@ -1,6 +1,6 @@
 //! The checkpoint: the timeline begins again at the tree that its commits play, and its entries are handed out.
 
-ghost use Rattle.std.specs.Prelude.{◌≡◌, IfOk, IfErr, OnOk, OnErr};
+ghost use Rattle.std.specs.Prelude.{◌≡◌, ◌≢◌, [], IfOk, IfErr, OnOk, OnErr, Err};
 ghost use Rattle.fs_calls.specs.Outcomes.{next_start};
 ghost use Rattle.fs_timeline.specs.Timeline.{commits};
 ghost use Rattle.fs_machine.specs.States.{begun_again};
@@ -9,6 +9,7 @@ ghost use Rattle.fs_core.specs.Checkpoints.{IsWhyNot};
 ghost use Rattle.fs_core.specs.code.Leasts.{IsLeast, lesser};
 
 use crate::machine::Core;
+use fs_memory::Memory;
 use fs_names::{CallNo, SeatNo};
 use fs_seq::SeqTree;
 use fs_timeline::Entry;
@@ -51,6 +52,7 @@ impl Core {
     fn at_rest(&self) -> Result<(), NoCheckpoint>
         ensures rest { OnOk result (IsAtRest self.now) }
         ensures why { IfErr result (IsWhyNot self.now) }
+        ensures asks { result ≢ Err NoCheckpoint.OutOfMemory }
     {
         match self.least_under_way() {
             Some(call) => Err(NoCheckpoint::UnderWay(call)),
@@ -59,12 +61,14 @@ impl Core {
     }
 
     /// The tree that the timeline's commits play. The only error is out of memory.
-    fn played(&self, alloc: Global) -> Result<SeqTree, AllocError>
-        ensures { IfOk result (λ tree. tree ≡ next_start self.now.start (commits self.now.timeline)) }
+    fn played(&self, alloc: Global, memory: &mut Memory) -> Result<SeqTree, AllocError>
+        ensures tree { IfOk result (λ tree. tree ≡ next_start self.now.start (commits self.now.timeline)) }
+        ensures granted { OnOk result (memory.new ≡ memory.old) }
+        ensures refused { OnErr result (memory.new ≢ memory.old) }
     {
-        let mut tree = self.start().copy()?;
+        let mut tree = self.start().copy_counted(memory)?;
         for i in 0..self.commits() {
-            tree.apply(alloc, self.committed(i))?;
+            tree.apply_counted(alloc, memory, self.committed(i))?;
         }
         Ok(tree)
     }
@@ -76,27 +80,65 @@ impl Core {
         ensures tree { IfOk result (λ tree. tree ≡ next_start self.now.start (commits self.now.timeline)) }
         ensures why { IfErr result (IsWhyNot self.now) }
     {
+        self.prepare_counted(alloc, &mut Memory::new())
+    }
+
+    /// The same. `OutOfMemory` comes exactly where memory was refused, which is counted.
+    pub fn prepare_counted(
+        &self,
+        alloc: Global,
+        memory: &mut Memory,
+    ) -> Result<SeqTree, NoCheckpoint>
+        ensures rest { OnOk result (IsAtRest self.now) }
+        ensures tree { IfOk result (λ tree. tree ≡ next_start self.now.start (commits self.now.timeline)) }
+        ensures why { IfErr result (IsWhyNot self.now) }
+        ensures granted { result ≢ Err NoCheckpoint.OutOfMemory → memory.new ≡ memory.old }
+        ensures refused { result ≡ Err NoCheckpoint.OutOfMemory → memory.new ≢ memory.old }
+    {
         self.at_rest()?;
-        self.played(alloc).map_err(|_| NoCheckpoint::OutOfMemory)
+        self.played(alloc, memory)
+            .map_err(|_| NoCheckpoint::OutOfMemory)
     }
 
     /// The timeline begins again at the tree that its commits played, and its entries so far are handed out. Call numbers
     /// begin at 1 again; nodes and seats stay. `UnderWay` comes exactly where a call is under way, and is looked for
-    /// first. Where there are no entries it takes no memory.
+    /// first. Where there are no entries it takes no memory, and `OutOfMemory` never comes.
     pub fn checkpoint(&mut self, alloc: Global) -> Result<Vec<Entry>, NoCheckpoint>
         ensures rest { OnOk result (IsAtRest self.old) }
         ensures state { OnOk result (state_of self.new ≡ begun_again (state_of self.old)) }
         ensures entries { IfOk result (λ entries. entries.items ≡ self.old.timeline) }
         ensures seats { OnOk result (self.new.seats ≡ self.old.seats) }
         ensures why { IfErr result (IsWhyNot self.old) }
+        ensures empty { self.old.timeline ≡ [] → result ≢ Err NoCheckpoint.OutOfMemory }
         ensures err { OnErr result (self.new ≡ self.old) }
+    {
+        self.checkpoint_counted(alloc, &mut Memory::new())
+    }
+
+    /// The same. `OutOfMemory` comes exactly where memory was refused, which is counted.
+    pub fn checkpoint_counted(
+        &mut self,
+        alloc: Global,
+        memory: &mut Memory,
+    ) -> Result<Vec<Entry>, NoCheckpoint>
+        ensures rest { OnOk result (IsAtRest self.old) }
+        ensures state { OnOk result (state_of self.new ≡ begun_again (state_of self.old)) }
+        ensures entries { IfOk result (λ entries. entries.items ≡ self.old.timeline) }
+        ensures seats { OnOk result (self.new.seats ≡ self.old.seats) }
+        ensures why { IfErr result (IsWhyNot self.old) }
+        ensures empty { self.old.timeline ≡ [] → result ≢ Err NoCheckpoint.OutOfMemory }
+        ensures err { OnErr result (self.new ≡ self.old) }
+        ensures granted { result ≢ Err NoCheckpoint.OutOfMemory → memory.new ≡ memory.old }
+        ensures refused { result ≡ Err NoCheckpoint.OutOfMemory → memory.new ≢ memory.old }
     {
         self.at_rest()?;
         if self.timeline().is_empty() {
             self.told();
             return Ok(Vec::new(alloc));
         }
-        let start = self.played(alloc).map_err(|_| NoCheckpoint::OutOfMemory)?;
+        let start = self
+            .played(alloc, memory)
+            .map_err(|_| NoCheckpoint::OutOfMemory)?;
         Ok(self.begin_again(alloc, start).into_entries())
     }
 }
