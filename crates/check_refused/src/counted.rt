@@ -116,8 +116,8 @@ fn end(core: &mut Core, seat: SeatNo) -> Result<()> {
     bail!("a call that does not return")
 }
 
-/// The timeline begins again, once more where memory is refused. It answers how often it was.
-fn begin_again(alloc: Global, core: &mut Core) -> Result<u64> {
+/// The timeline of a core begins again, once more where memory is refused. It answers how often it was.
+pub fn begin_again(alloc: Global, core: &mut Core) -> Result<u64> {
     let mut memory = Memory::new();
     let again = core.checkpoint_counted(alloc, &mut memory);
     if again.is_ok() {
@@ -137,7 +137,7 @@ fn begin_again(alloc: Global, core: &mut Core) -> Result<u64> {
     Ok(1)
 }
 
-/// Plays calls on a core that has no seat. It answers how often memory was refused, as the core and a checkpoint count.
+/// Plays calls on a core that has no seat. It answers how often memory was refused, as the core counts.
 fn play_on(alloc: Global, core: &mut Core, calls: &[Call]) -> Result<u64> {
     let seat = seat(core)?;
     for call in calls {
@@ -145,14 +145,20 @@ fn play_on(alloc: Global, core: &mut Core, calls: &[Call]) -> Result<u64> {
         begin(alloc, core, seat, call)?;
         end(core, seat)?;
     }
-    let again = begin_again(alloc, core)?;
-    Ok(core.refusals().wrapping_add(again))
+    Ok(core.refusals())
 }
 
-/// The same on a new core.
-pub fn play(alloc: Global, calls: &[Call]) -> Result<u64> {
+/// A new core, asked for once more where memory was refused, and how often that was.
+fn new_core(alloc: Global) -> Result<(Core, u64)> {
     match Core::new(alloc) {
-        Ok(mut core) => play_on(alloc, &mut core, calls),
-        Err(_) => Ok(1),
+        Ok(core) => Ok((core, 0)),
+        Err(_) => Ok((Core::new(alloc)?, 1)),
     }
+}
+
+/// The same on a new core, which is handed out.
+pub fn play(alloc: Global, calls: &[Call]) -> Result<(Core, u64)> {
+    let (mut core, refused) = new_core(alloc)?;
+    let counted = play_on(alloc, &mut core, calls)?;
+    Ok((core, refused.wrapping_add(counted)))
 }

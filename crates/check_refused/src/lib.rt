@@ -1,13 +1,15 @@
 //! Does each thing that takes memory, and once more where memory was refused: on shared trees sessions, told calls,
-//! observers, jobs, checkpoints and lists of calls, and by one thread alone the sequential tree, a core and `Memory`. Neither
-//! the program nor the library for C has sessions, observers and pools, and both have a sequential tree only inside a check,
-//! which ends where memory is refused. But for the last line, what is written is the same whichever growth is refused.
+//! observers, jobs, checkpoints and lists of calls, and by one thread alone the sequential tree, a core, its texts and
+//! `Memory`. Neither the program nor the library for C has sessions, observers and pools, and both have a sequential tree
+//! only inside a check, which ends where memory is refused. But for the last line, what is written is the same whichever
+//! growth is refused.
 #![tactic(auto)]
 
 mod alone;
 mod counted;
 mod lists;
 mod shared;
+mod texts;
 
 use fs_calls::Call;
 use fs_nodes::NodeNo;
@@ -132,6 +134,25 @@ fn play<R: Print + Threads + Wait + Clock + Sync>(
     Some(seen.refused)
 }
 
+/// Plays calls on a core whose timeline begins again then, and answers how often memory was refused, as all of these count.
+fn count(rt: &impl Print, alloc: Global, calls: &[Call]) -> anyhow::Result<u64> {
+    let (mut core, refused) = counted::play(alloc, calls)?;
+    let again = counted::begin_again(alloc, &mut core)?;
+    println!(rt; "a core and `Memory` count what is refused")?;
+    Ok(refused.wrapping_add(again))
+}
+
+/// Says how long the texts of calls on a core are, and answers how often memory was refused.
+fn say_texts(rt: &impl Print, alloc: Global, calls: &[Call]) -> anyhow::Result<u64> {
+    let (core, refused) = counted::play(alloc, calls)?;
+    let written = texts::write(alloc, &core)?;
+    println!(rt;
+        "entries of {} bytes, a tree of {}",
+        written.entries, written.tree
+    )?;
+    Ok(refused.wrapping_add(written.refused))
+}
+
 /// Does everything, and writes what came of it.
 pub fn run<R: Print + Threads + Wait + Clock + Sync>(rt: &R, alloc: Global) -> anyhow::Result<()> {
     let script = script(alloc)?;
@@ -141,8 +162,9 @@ pub fn run<R: Print + Threads + Wait + Clock + Sync>(rt: &R, alloc: Global) -> a
     }
     let refused = alone::run(rt, alloc, calls(&script, 2), calls(&script, 3))?;
     let asked = counted::ask(alloc)?;
-    let begun = counted::play(alloc, calls(&script, 2))?;
-    println!(rt; "a core and `Memory` count what is refused")?;
+    let begun = count(rt, alloc, calls(&script, 2))?;
+    let written = say_texts(rt, alloc, calls(&script, 0))?;
     let refused = asked.wrapping_add(begun).wrapping_add(refused as u64);
+    let refused = refused.wrapping_add(written);
     Ok(println!(rt; "refused: {refused}, jobs {}", jobs.unwrap_or(0))?)
 }

@@ -121,7 +121,7 @@ fn readdirs(alloc: Global) -> Option<(Call, Call)> {
 
 /// The number of a job. A copy of its call takes no memory.
 fn submit_copy<N: Named>(alloc: Global, pool: &mut Pool<N>, call: &Call) -> Option<u64> {
-    let number = submit(pool, call.copy(alloc).ok()?)?;
+    let number = submit(pool, call.copy(alloc).ok()?, call)?;
     Some(number.get())
 }
 

@@ -77,11 +77,20 @@ pub fn stat<N: Named>(alloc: Global, observer: &mut Observer<'_, N>, path: &Path
         .ok()
 }
 
-/// A job that is submitted: a refusal hands the call back.
-pub fn submit<N: Named>(pool: &mut Pool<N>, call: Call) -> Option<JobNo> {
-    match pool.submit(call) {
+/// A call that was handed back is submitted again, if it is the one that was submitted.
+fn submit_again<N: Named>(pool: &mut Pool<N>, back: Call, call: &Call) -> Option<JobNo> {
+    if back.same(call) {
+        pool.submit(back).ok()
+    } else {
+        None
+    }
+}
+
+/// A job of a copy of a call: a refusal hands that call back.
+pub fn submit<N: Named>(pool: &mut Pool<N>, copy: Call, call: &Call) -> Option<JobNo> {
+    match pool.submit(copy) {
         Ok(number) => Some(number),
-        Err(NotTaken::OutOfMemory(call)) => pool.submit(call).ok(),
+        Err(NotTaken::OutOfMemory(back)) => submit_again(pool, back, call),
         Err(NotTaken::QueueFull(_)) => None,
     }
 }
