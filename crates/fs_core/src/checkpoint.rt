@@ -105,6 +105,7 @@ impl Core {
     /// first. Where there are no entries it takes no memory, and `OutOfMemory` never comes.
     pub fn checkpoint(&mut self, alloc: Global) -> Result<Vec<Entry>, NoCheckpoint>
         ensures rest { OnOk result (IsAtRest self.old) }
+        ensures refusals { self.new.refusals ≡ self.old.refusals }
         ensures state { OnOk result (state_of self.new ≡ begun_again (state_of self.old)) }
         ensures entries { IfOk result (λ entries. entries.items ≡ self.old.timeline) }
         ensures seats { OnOk result (self.new.seats ≡ self.old.seats) }

@@ -6,7 +6,7 @@
 //! what else every core keeps. A begin allocates all that its call can need, and a refused
 //! one changes nothing; a step does one move of the call on a seat, and cannot fail. `Core::checkpoint` hands the entries
 //! out and begins the timeline again at the tree that they lead to; it changes nothing where a call is under way or there
-//! is no memory.
+//! is no memory. `Core::forget` does the same and drops them. `Core::verdict` has the entries judged as they stand.
 //!
 //! Enter at `Core::new`, or at `Core::with_limits` where files keep the limit of the first version; then `seat`, `begin`,
 //! `step` and `timeline`. What a begin and a step do is
@@ -20,12 +20,14 @@ pub mod checkpoint;
 mod commits;
 mod done;
 mod events;
+mod forget;
 mod helping;
 pub mod machine;
 pub mod outcome;
 mod seat;
 mod seat_order;
 mod telling;
+mod verdict;
 
 pub use checkpoint::NoCheckpoint;
 pub use fs_machine::{Refusal, Stepped};

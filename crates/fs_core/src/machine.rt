@@ -479,6 +479,7 @@ impl Core {
         ensures state { state_of self.new ≡ begun_again (state_of self.old) }
         ensures entries { result.entries ≡ self.old.timeline }
         ensures seats { self.new.seats ≡ self.old.seats }
+        ensures refusals { self.new.refusals ≡ self.old.refusals }
     {
         self.begun = 0;
         self.commits = 0;
