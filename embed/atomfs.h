@@ -32,14 +32,16 @@ extern "C" {
 /* A handle. Its fields are the library's own. */
 typedef struct atomfs {
     uint8_t is_open;
+    uint32_t most;
     void *at;
 } atomfs;
 
 /* A closed handle: atomfs fs = ATOMFS_INIT; */
-#define ATOMFS_INIT { 0, 0 }
+#define ATOMFS_INIT { 0, 0, 0 }
 
-/* The greatest limit of nodes, and the first line of the journal of a tree that began empty by the limits ATOMFS_V1. */
+/* The greatest limit of nodes, the number by which all calls are kept, and the first line of the journal of a tree that began empty by the limits ATOMFS_V1. */
 #define ATOMFS_NODE_LIMIT 1048576
+#define ATOMFS_KEEP_ALL 4294967295
 #define ATOMFS_JOURNAL_HEADER "atomfs-journal 1\n"
 
 /* What a function answers: one of these, or from ATOMFS_FAILED on the error of a call. */
@@ -51,7 +53,7 @@ enum {
     ATOMFS_UNTOLD = 2,        /* the call returned, and its reply is not told: for want of memory, when atomfs_reply_ can be
                                  asked again, or since it is of another kind than the function tells */
     ATOMFS_WAITS = 3,         /* the call *number is under way, and a call of another seat holds the node that it wants next */
-    /* From here to ATOMFS_FAILED nothing has changed. */
+    /* From here to ATOMFS_FAILED nothing has changed, but for calls that a tree by atomfs_keep has forgotten before. */
     ATOMFS_CLOSED = 4,        /* the handle is closed */
     ATOMFS_ALREADY_OPEN = 5,  /* the handle is open */
     ATOMFS_BAD_LIMIT = 6,     /* the limit is 0, or above ATOMFS_NODE_LIMIT */
@@ -106,6 +108,18 @@ enum {
     ATOMFS_DID_COMMIT = 5,      /* it took its place, made its change and fixed its reply; 0 */
     ATOMFS_DID_CARRY_OUT = 6,   /* it had its place already, made its change and fixed its reply; 0 */
     ATOMFS_DID_RETURN = 7       /* it returned, and atomfs_reply_ tells its reply; 0 */
+};
+
+/* What is wrong with an entry: *kind of atomfs_verdict. */
+enum {
+    ATOMFS_FAULT_NONE = 0,               /* nothing: the journal is lawful */
+    ATOMFS_FAULT_BEGIN_TWICE = 1,        /* a call of this number began before */
+    ATOMFS_FAULT_SEAT_BUSY = 2,          /* the last call of the seat has not returned */
+    ATOMFS_FAULT_COMMIT_UNBEGUN = 3,     /* no call of this number has begun */
+    ATOMFS_FAULT_COMMIT_TWICE = 4,       /* the call has committed before */
+    ATOMFS_FAULT_RETURN_UNCOMMITTED = 5, /* the call has not committed */
+    ATOMFS_FAULT_RETURN_TWICE = 6,       /* the call has returned before */
+    ATOMFS_FAULT_WRONG_REPLY = 7         /* the reply is another than the sequential tree gives */
 };
 
 /* Which call a request asks for. */
@@ -229,7 +243,7 @@ uint8_t atomfs_step_any(atomfs *fs, uint64_t *seat, uint8_t *did, uint64_t *abou
  * Each tells the reply of the call of a number, as often as it is asked. It looks through the journal from its last entry
  * back, so an old reply takes as long as there are entries since.
  * OK; ATOMFS_FAILED + an error, where the call failed; UNTOLD, where its reply is of another kind; CLOSED; NO_REPLY, where
- * no call of this number has returned since the last checkpoint. Nothing changes. */
+ * no call of this number has returned since the journal began. Nothing changes. */
 
 /* Tells that a call is done which answers no more: mkdir, mknod, unlink, rmdir, rename, exchange, truncate. */
 uint8_t atomfs_reply_done(atomfs *fs, uint64_t number);
@@ -273,9 +287,24 @@ uint8_t atomfs_journal(atomfs *fs, size_t first, char *out, size_t room, size_t 
 uint8_t atomfs_opening(atomfs *fs, char *out, size_t room, size_t *count);
 
 /* Hands the whole journal out as a text, and gives its memory back: the journal begins again at the tree as it stands, with
- * no entries and call numbers at 1. Handle, seats and tree stay. OK, CLOSED, NO_MEMORY; TOO_SMALL; UNDER_WAY, where
- * *number is the least number of a call under way. By any but OK nothing has changed. */
+ * no entries and call numbers at 1. Handle, seats and tree stay. OK, where *number is how many calls it had; CLOSED,
+ * NO_MEMORY; TOO_SMALL; UNDER_WAY, where *number is the least number of a call under way. By any but OK nothing has changed. */
 uint8_t atomfs_checkpoint(atomfs *fs, char *out, size_t room, size_t *count, uint64_t *number);
+
+/* The same without a text: the journal begins again, and its calls are forgotten. OK, where *number is how many they were;
+ * CLOSED, NO_MEMORY; UNDER_WAY, where *number is the least number of a call under way. By any but OK nothing has changed. */
+uint8_t atomfs_forget(atomfs *fs, uint64_t *number);
+
+/* From now on the tree forgets by itself: a call that begins, where more than most calls stand in the journal and none is
+ * under way, has atomfs_forget done first. So the reply of the last call can be asked for always, and by 0 that of no other.
+ * For want of memory the calls stay, and the next call tries again. By ATOMFS_KEEP_ALL, as a handle is opened, none is
+ * forgotten. To forget takes as long as the calls take and the tree is large: so keep some thousands. OK, CLOSED. */
+uint8_t atomfs_keep(atomfs *fs, uint32_t most);
+
+/* Checks the journal as it stands, without a text: *place is 0 and *kind ATOMFS_FAULT_NONE where it is lawful, as it is proved
+ * to be always; else the place of the first entry that does not fit, counted from 1, and one of ATOMFS_FAULT_. Calls may be
+ * under way. It takes memory for a tree, and for some words of each call. OK, CLOSED, NO_MEMORY. Nothing changes. */
+uint8_t atomfs_verdict(atomfs *fs, uint64_t *place, uint8_t *kind);
 
 /* Tells the tree that the nodes represent now. OK, TOO_SMALL, CLOSED, NO_MEMORY. Nothing changes. */
 uint8_t atomfs_tree(atomfs *fs, char *out, size_t room, size_t *count);

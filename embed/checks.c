@@ -34,6 +34,9 @@ uint8_t PROVED(reply_wrote)(atomfs *, uint64_t, uint64_t *);
 uint8_t PROVED(journal)(atomfs *, size_t, char *, size_t, size_t *, size_t *);
 uint8_t PROVED(opening)(atomfs *, char *, size_t, size_t *);
 uint8_t PROVED(checkpoint)(atomfs *, char *, size_t, size_t *, uint64_t *);
+uint8_t PROVED(forget)(atomfs *, uint64_t *);
+uint8_t PROVED(keep)(atomfs *, uint32_t);
+uint8_t PROVED(verdict)(atomfs *, uint64_t *, uint8_t *);
 uint8_t PROVED(tree)(atomfs *, char *, size_t, size_t *);
 uint8_t PROVED(begin)(atomfs *, uint64_t, const char *, size_t, uint64_t *);
 uint8_t PROVED(call)(atomfs *, uint64_t, const char *, size_t, char *, size_t, size_t *, uint64_t *);
@@ -244,6 +247,23 @@ uint8_t atomfs_checkpoint(atomfs *fs, char *out, size_t room, size_t *count, uin
     uint8_t status;
     if (refused(status = may_tell(fs, out, room, count)) || refused(status = there(number))) return status;
     return PROVED(checkpoint)(fs, into(out), room, count, number);
+}
+
+uint8_t atomfs_forget(atomfs *fs, uint64_t *number) {
+    uint8_t status;
+    if (refused(status = there(fs)) || refused(status = there(number))) return status;
+    return PROVED(forget)(fs, number);
+}
+
+uint8_t atomfs_keep(atomfs *fs, uint32_t most) {
+    uint8_t status = there(fs);
+    return refused(status) ? status : PROVED(keep)(fs, most);
+}
+
+uint8_t atomfs_verdict(atomfs *fs, uint64_t *place, uint8_t *kind) {
+    uint8_t status;
+    if (refused(status = there(fs)) || refused(status = there(place)) || refused(status = there(kind))) return status;
+    return PROVED(verdict)(fs, place, kind);
 }
 
 uint8_t atomfs_reply(atomfs *fs, uint64_t number, char *out, size_t room, size_t *count) {

@@ -75,7 +75,7 @@ class Error(Exception):
 
 
 class Handle(ctypes.Structure):
-    _fields_ = [("is_open", ctypes.c_uint8), ("at", ctypes.c_void_p)]
+    _fields_ = [("is_open", ctypes.c_uint8), ("most", ctypes.c_uint32), ("at", ctypes.c_void_p)]
 
 
 class Stat(ctypes.Structure):
@@ -105,6 +105,9 @@ class Library:
             "journal": [handle, size, *told, sizes],
             "opening": [handle, *told],
             "checkpoint": [handle, *told, numbers],
+            "forget": [handle, numbers],
+            "keep": [handle, ctypes.c_uint32],
+            "verdict": [handle, numbers, ctypes.POINTER(ctypes.c_uint8)],
             "tree": [handle, *told],
             **{name: [handle, number, *text, numbers] for name in ("mkdir", "mknod", "unlink", "rmdir")},
             **{name: [handle, number, *text, *text, numbers] for name in ("rename", "exchange")},

@@ -381,6 +381,81 @@ static void checkpoints(void) {
     IS(atomfs_close(&fs), ATOMFS_OK);
 }
 
+/* How many entries the journal has. */
+static size_t entries_now(void) {
+    IS(atomfs_journal(&fs, SIZE_MAX / 2, NULL, 0, &count, &entries), ATOMFS_OK);
+    return entries;
+}
+
+/* The verdict is told without a text, also amid calls; calls are forgotten when they are asked to be, but not amid one. */
+static void forgets(void) {
+    uint64_t place = 9;
+    uint8_t kind = 9;
+    open_fs(10);
+    IS(atomfs_verdict(&fs, &place, &kind), ATOMFS_OK);
+    IS(place, 0);
+    IS(kind, ATOMFS_FAULT_NONE);
+    IS(atomfs_forget(&fs, &number), ATOMFS_OK);
+    IS(number, 0);
+    IS(atomfs_mkdir(&fs, seat, PATH("/a"), &number), ATOMFS_OK);
+    FAILS(atomfs_rmdir(&fs, seat, PATH("/b"), &number), ENOENT_);
+    IS(atomfs_begin(&fs, other_seat, PATH("stat /a"), &number), ATOMFS_OK);
+    place = kind = 9;
+    IS(atomfs_verdict(&fs, &place, &kind), ATOMFS_OK);
+    IS(place, 0);
+    IS(kind, ATOMFS_FAULT_NONE);
+    IS(atomfs_forget(&fs, &number), ATOMFS_UNDER_WAY);
+    IS(number, 3);
+    IS(entries_now(), 7);
+    step_to_return(other_seat);
+    IS(atomfs_forget(&fs, &number), ATOMFS_OK);
+    IS(number, 3);
+    IS(entries_now(), 0);
+    IS(atomfs_verdict(&fs, &place, &kind), ATOMFS_OK);
+    IS(atomfs_stat(&fs, seat, PATH("/a"), &stat_, &number), ATOMFS_OK);
+    IS(number, 1);
+    IS(atomfs_close(&fs), ATOMFS_OK);
+    IS(atomfs_verdict(&fs, &place, &kind), ATOMFS_CLOSED);
+    IS(atomfs_forget(&fs, &number), ATOMFS_CLOSED);
+}
+
+/* A tree forgets by itself: before a call, where more stand than it keeps and none is under way. */
+static void keeps(void) {
+    open_fs(10);
+    for (int call = 1; call <= 5; call++) {
+        IS(atomfs_stat(&fs, seat, PATH("/"), &stat_, &number), ATOMFS_OK);
+        IS(number, call);
+    }
+    IS(atomfs_keep(&fs, 5), ATOMFS_OK);
+    IS(atomfs_mkdir(&fs, seat, PATH("/a"), &number), ATOMFS_OK);
+    IS(number, 6);
+    IS(atomfs_mkdir(&fs, seat, PATH("/b"), &number), ATOMFS_OK);
+    IS(number, 1);
+    IS(entries_now(), 3);
+    IS(atomfs_keep(&fs, 0), ATOMFS_OK);
+    IS(atomfs_begin(&fs, other_seat, PATH("rmdir /a"), &number), ATOMFS_OK);
+    IS(number, 1);
+    IS(atomfs_rmdir(&fs, seat, PATH("/b"), &number), ATOMFS_OK);
+    IS(number, 2);
+    step_to_return(other_seat);
+    IS(atomfs_reply_done(&fs, 1), ATOMFS_OK);
+    IS(entries_now(), 6);
+    IS(atomfs_call(&fs, seat, PATH("stat /"), out, sizeof out, &count, &number), ATOMFS_OK);
+    IS(number, 1);
+    SAYS(out, count, "stat dir 0");
+    IS(atomfs_keep(&fs, ATOMFS_KEEP_ALL), ATOMFS_OK);
+    IS(atomfs_stat(&fs, seat, PATH("/"), &stat_, &number), ATOMFS_OK);
+    IS(number, 2);
+    IS(atomfs_keep(&fs, 0), ATOMFS_OK);
+    IS(atomfs_close(&fs), ATOMFS_OK);
+    IS(atomfs_keep(&fs, 0), ATOMFS_CLOSED);
+    open_fs(10);
+    IS(atomfs_stat(&fs, seat, PATH("/"), &stat_, &number), ATOMFS_OK);
+    IS(atomfs_stat(&fs, seat, PATH("/"), &stat_, &number), ATOMFS_OK);
+    IS(number, 2);
+    IS(atomfs_close(&fs), ATOMFS_OK);
+}
+
 /* Pieces of a journal are journals, and scripts have checkpoints. */
 static void texts(void) {
     static const char piece[] = "atomfs-journal 2\nstart\ndir /\ndir /a\nentries\nbegin 1 1 rmdir /a\ncommit 1\nreturn 1 ok\n";
@@ -456,6 +531,12 @@ static void nulls(void) {
     IS(atomfs_opening(&fs, NULL, 1, &count), ATOMFS_NULL);
     IS(atomfs_checkpoint(&fs, NULL, 1, &count, &number), ATOMFS_NULL);
     IS(atomfs_checkpoint(&fs, out, 1, &count, NULL), ATOMFS_NULL);
+    IS(atomfs_forget(NULL, &number), ATOMFS_NULL);
+    IS(atomfs_forget(&fs, NULL), ATOMFS_NULL);
+    IS(atomfs_keep(NULL, 1), ATOMFS_NULL);
+    IS(atomfs_verdict(NULL, &about, &did), ATOMFS_NULL);
+    IS(atomfs_verdict(&fs, NULL, &did), ATOMFS_NULL);
+    IS(atomfs_verdict(&fs, &about, NULL), ATOMFS_NULL);
     IS(atomfs_begin(&fs, seat, NULL, 1, &number), ATOMFS_NULL);
     IS(atomfs_begin(&fs, seat, NULL, 0, &number), ATOMFS_BAD_LINE);
     IS(atomfs_call(&fs, seat, NULL, 1, out, sizeof out, &count, &number), ATOMFS_NULL);
@@ -576,6 +657,8 @@ int main(void) {
     checked_paths();
     small_buffers();
     checkpoints();
+    forgets();
+    keeps();
     texts();
     nulls();
     closed();

@@ -6,6 +6,7 @@ use std::os::raw::{c_char, c_void};
 #[repr(C)]
 pub struct Handle {
     pub is_open: u8,
+    pub most: u32,
     pub at: *mut c_void,
 }
 

@@ -96,6 +96,7 @@ impl Tree {
     pub fn with_limits(limit: usize, limits: Limits) -> Result<Tree, Error> {
         let handle = Box::new(Handle {
             is_open: 0,
+            most: 0,
             at: ptr::null_mut(),
         });
         let mut tree = Tree {

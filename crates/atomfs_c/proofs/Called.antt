@@ -3,6 +3,7 @@ use Rattle.std.proofs.Common.{◌≡◌, ◌<◌, ◌≤◌, ℕ, Ok, Err, Optio
 use Rattle.fs_calls.specs.declared.reply.Reply.{Reply}
 use Rattle.fs_core.specs.CoreValues.{CoreValue}
 use Rattle.fs_embed.specs.Calls.{RunsCall, WaitsCall, IsNotBegun, IsNotReturned}
+use Rattle.fs_embed.specs.Keeping.{After}
 use Rattle.fs_embed.specs.Requests.{Asked}
 use Rattle.fs_embed.specs.declared.calls.NotBegun.{NotBegun}
 use Rattle.fs_embed.specs.declared.calls.NotReturned.{NotReturned}
@@ -31,18 +32,18 @@ not_waits status returned at = let e : status ≡ 3 = at in let b : 128 ≤ stat
 pub not_refused : (status : ℕ) → IsReturned status → IsRefusal status → ⊥
 not_refused status returned is = let a : 4 < status = is.above in let b : status < 128 = is.below in let c : 128 ≤ status = returned (omega (arith, a)) in omega (arith, b, c)
 
-module _ (given : Asked) (seat number : ℕ) (old new : Option CoreValue) where
+module _ (most : Option ℕ) (given : Asked) (seat number : ℕ) (old new : Option CoreValue) where
   -- a call that returned, and whose reply is told
-  pub called : (Told : Reply → Type 0) (status : ℕ) (reply : Reply) → Comes given seat (Ok reply) number old new → Told reply → IsReturned status → IsCalled given seat Told status number old new
+  pub called : (Told : Reply → Type 0) (status : ℕ) (reply : Reply) → Comes most given seat (Ok reply) number old new → Told reply → IsReturned status → IsCalled most given seat Told status number old new
   called Told status reply came told is = record {
     returned = λ _. (reply, came, told);
     waits = λ at. absurd (not_waits status is at);
     refused = λ r. absurd (not_refused status is r);
-    closed = stays_open (λ a b. RunsCall a seat given number reply b) status old new came (not_closed status is);
+    closed = stays_open (After most (λ a b. RunsCall a seat given number reply b)) status old new came (not_closed status is);
   }
 
   -- one that did not return has no reply to tell
-  pub uncalled : (Told : Reply → Type 0) (status : ℕ) → Comes given seat (Err status) number old new → IsCalled given seat Told status number old new
+  pub uncalled : (Told : Reply → Type 0) (status : ℕ) → Comes most given seat (Err status) number old new → IsCalled most given seat Told status number old new
   uncalled Told status came = record {
     returned = λ is. absurd (let a : 2 < status = came.1 in let b : 128 ≤ status = is a in let c : status < 128 = came.2 in omega (arith, b, c));
     waits = came.0.waits;
@@ -51,7 +52,7 @@ module _ (given : Asked) (seat number : ℕ) (old new : Option CoreValue) where
   }
 
   -- a closed handle
-  pub comes_closed : old ≡ None → new ≡ None → Comes given seat (Err 4) number old new
+  pub comes_closed : old ≡ None → new ≡ None → Comes most given seat (Err 4) number old new
   comes_closed is_old is_new = (
     record {
       returned = λ is. absurd (let b : 128 ≤ 4 = is (omega arith) in omega (arith, b));
@@ -64,33 +65,33 @@ module _ (given : Asked) (seat number : ℕ) (old new : Option CoreValue) where
   )
 
   -- a call that did not return
-  pub comes_not : (a b : CoreValue) → old ≡ Some a → new ≡ Some b → (why : NotReturned) (status : ℕ) → IsNotReturned a seat given why b → IsToldWhy why status number → Comes given seat (Err status) number old new
+  pub comes_not : (a b : CoreValue) → old ≡ Some a → new ≡ Some b → (why : NotReturned) (status : ℕ) → After most (λ x y. IsNotReturned x seat given why y) a b → IsToldWhy why status number → Comes most given seat (Err status) number old new
   comes_not a b is_old is_new (not_returned.Waits call holder) status is told = (
     record {
       returned = λ r. absurd (let e : status ≡ 3 = told.0 in let c : 128 ≤ status = r (omega (arith, e)) in omega (arith, c, e));
       waits = λ at. there;
       refused = λ r. absurd (let e : status ≡ 3 = told.0 in let c : 4 < status = r.above in omega (arith, c, e));
-      closed = stays_open (λ x y. (h : ℕ) × WaitsCall x seat given number h y) status old new there (λ at. let e : status ≡ 3 = told.0 in let c : status ≡ 4 = at in omega (arith, c, e));
+      closed = stays_open (After most (λ x y. (h : ℕ) × WaitsCall x seat given number h y)) status old new there (λ at. let e : status ≡ 3 = told.0 in let c : status ≡ 4 = at in omega (arith, c, e));
     },
     (let e : status ≡ 3 = told.0 in omega (arith, e)),
     (let e : status ≡ 3 = told.0 in omega (arith, e)),
   )
     where
-      there : Goes (λ x y. (h : ℕ) × WaitsCall x seat given number h y) old new
-      there = goes (λ x y. (h : ℕ) × WaitsCall x seat given number h y) old new a b is_old is_new (holder, subst (λ (k : ℕ). WaitsCall a seat given k holder b) (sym told.1) is)
+      there : Goes (After most (λ x y. (h : ℕ) × WaitsCall x seat given number h y)) old new
+      there = goes (After most (λ x y. (h : ℕ) × WaitsCall x seat given number h y)) old new a b is_old is_new (is.0, is.1, (holder, subst (λ (k : ℕ). WaitsCall is.0 seat given k holder b) (sym told.1) is.2))
   comes_not a b is_old is_new (not_returned.NotBegun why) status is told = (
     record {
       returned = λ r. absurd (let c : 4 < status = told.1.above in let d : status < 128 = told.1.below in let e : 128 ≤ status = r (omega (arith, c)) in omega (arith, d, e));
       waits = λ at. absurd (let c : 4 < status = told.1.above in let e : status ≡ 3 = at in omega (arith, c, e));
       refused = λ r. there;
-      closed = stays_open (λ x y. (w : NotBegun) × (status ≡ begin_status w) × IsNotBegun x seat given w y) status old new there (λ at. let c : 4 < status = told.1.above in let e : status ≡ 4 = at in omega (arith, c, e));
+      closed = stays_open (After most (λ x y. (w : NotBegun) × (status ≡ begin_status w) × IsNotBegun x seat given w y)) status old new there (λ at. let c : 4 < status = told.1.above in let e : status ≡ 4 = at in omega (arith, c, e));
     },
     (let c : 4 < status = told.1.above in omega (arith, c)),
     told.1.below,
   )
     where
-      there : Goes (λ x y. (w : NotBegun) × (status ≡ begin_status w) × IsNotBegun x seat given w y) old new
-      there = goes (λ x y. (w : NotBegun) × (status ≡ begin_status w) × IsNotBegun x seat given w y) old new a b is_old is_new (why, told.0, is)
+      there : Goes (After most (λ x y. (w : NotBegun) × (status ≡ begin_status w) × IsNotBegun x seat given w y)) old new
+      there = goes (After most (λ x y. (w : NotBegun) × (status ≡ begin_status w) × IsNotBegun x seat given w y)) old new a b is_old is_new (is.0, is.1, (why, told.0, is.2))
 
 -- what is so of the reply in a core is so of the handle that has it
 pub behind : {Told : Reply → Type 0} {number status : ℕ} (held : Option CoreValue) (core : CoreValue) → held ≡ Some core → IsReplied (Some core) Told number status → IsReplied held Told number status

@@ -21,16 +21,26 @@ use Rattle.fs_calls.specs.declared.reply.Reply.TheVariants as answer
 use Rattle.fs_calls.specs.declared.reply.Reply.TheVariants.{Done, Names, Bytes, Wrote, Failed}
 use Rattle.fs_machine.specs.declared.answers.Stepped.TheVariants.{Idle}
 use Rattle.fs_embed.specs.Calls.{BeginsCall, RunsCall, WaitsCall, IsNotBegun, GoesOnAs, code_of}
+use Rattle.fs_embed.specs.Keeping.{After}
 use Rattle.fs_embed.specs.Requests.{Asked}
 use Rattle.fs_embed.specs.Texts.{IsCopied, IsReply, HasNoReply, IsShown, reply_text, names_text}
 use Rattle.fs_embed.specs.declared.calls.NotBegun.{NotBegun}
 use Rattle.fs_embed.specs.Statuses.{IsReturned, IsRefusal, failed_status, begin_status, path_status}
 use Rattle.fs_embed.specs.declared.status.TheConstants.{OK, TOO_SMALL, UNTOLD, WAITS, CLOSED, NO_MEMORY, NO_REPLY, BAD_VERSION, FAILED}
+use Rattle.fs_timeline.specs.declared.verdict.Verdict.{Verdict}
+use Rattle.fs_timeline.specs.declared.verdict.Verdict.TheVariants.{Lawful, Fault}
+use Rattle.fs_timeline.specs.declared.verdict.FaultKind.{FaultKind}
+use Rattle.fs_timeline.specs.declared.verdict.FaultKind.TheVariants.{BeginTwice, SeatBusy, CommitUnbegun, CommitTwice, ReturnUncommitted, ReturnTwice, WrongReply}
+use Rattle.atomfs_c.specs.declared.handles.TheConstants.{KEEP_ALL}
 use Rattle.atomfs_c.specs.declared.told.Stat.{Stat as StatValue}
 
 -- the limits of names and files that have a version
 abbrev pub limits_of : ℕ → Option Limits
 limits_of version = if eqb version 1 then Some V1 else if eqb version 2 then Some V2 else None
+
+-- how many calls a core is to keep by a number: so many, or all
+abbrev pub to_keep : ℕ → Option ℕ
+to_keep most = if eqb most KEEP_ALL then None else Some most
 
 -- of what reading bytes as a path gives
 abbrev pub reading_status : Result Key PathFault → ℕ
@@ -129,22 +139,37 @@ IsToldBehind (Names names) after status count old new = (shown : List (List ℕ)
 IsToldBehind (Failed errno) after status count old new = status ≡ failed_status errno
 IsToldBehind _ after status count old new = status ≡ UNTOLD
 
--- ---- what came of a call
+-- the number of what is wrong with an entry
+abbrev pub kind_number : FaultKind → ℕ
+kind_number BeginTwice = 1
+kind_number SeatBusy = 2
+kind_number CommitUnbegun = 3
+kind_number CommitTwice = 4
+kind_number ReturnUncommitted = 5
+kind_number ReturnTwice = 6
+kind_number WrongReply = 7
+
+-- a verdict by two numbers: the place of the first entry that does not fit and what is wrong with it, or 0 and 0
+abbrev pub IsToldVerdict : Verdict → ℕ → ℕ → Type 0
+IsToldVerdict Lawful place kind = (place ≡ 0) × (kind ≡ 0)
+IsToldVerdict (Fault at why) place kind = (place ≡ at) × (kind ≡ kind_number why)
+
+-- ---- what came of a call: behind what a core forgets that is to keep no more calls than so many
 
 -- what a status says of a call that was asked for on a seat, and Told of its reply
-pub record IsCalled (given : Asked) (seat : ℕ) (Told : Reply → Type 0) (status number : ℕ) (old new : Option CoreValue) : Type 0 where
+pub record IsCalled (most : Option ℕ) (given : Asked) (seat : ℕ) (Told : Reply → Type 0) (status number : ℕ) (old new : Option CoreValue) : Type 0 where
   -- it began under this number and its steps led to its return with a reply, which is told
-  pub returned : IsReturned status → (reply : Reply) × Goes (λ a b. RunsCall a seat given number reply b) old new × Told reply
+  pub returned : IsReturned status → (reply : Reply) × Goes (After most (λ a b. RunsCall a seat given number reply b)) old new × Told reply
   -- it began under this number and is under way, at a node that a call of another seat holds
-  pub waits : status ≡ WAITS → Goes (λ a b. (holder : ℕ) × WaitsCall a seat given number holder b) old new
+  pub waits : status ≡ WAITS → Goes (After most (λ a b. (holder : ℕ) × WaitsCall a seat given number holder b)) old new
   -- it did not begin, for the reason that the status is the number of, and nothing changed
-  pub refused : IsRefusal status → Goes (λ a b. (why : NotBegun) × (status ≡ begin_status why) × IsNotBegun a seat given why b) old new
+  pub refused : IsRefusal status → Goes (After most (λ a b. (why : NotBegun) × (status ≡ begin_status why) × IsNotBegun a seat given why b)) old new
   pub closed : ToldIfClosed status old new
 
 -- what a status says of the begin of a call that was asked for on a seat
-pub record IsBegun (given : Asked) (seat status number : ℕ) (old new : Option CoreValue) : Type 0 where
-  pub begun : status ≡ OK → Goes (λ a b. BeginsCall a seat given number b) old new
-  pub refused : IsRefusal status → Goes (λ a b. (why : NotBegun) × (status ≡ begin_status why) × IsNotBegun a seat given why b) old new
+pub record IsBegun (most : Option ℕ) (given : Asked) (seat status number : ℕ) (old new : Option CoreValue) : Type 0 where
+  pub begun : status ≡ OK → Goes (After most (λ a b. BeginsCall a seat given number b)) old new
+  pub refused : IsRefusal status → Goes (After most (λ a b. (why : NotBegun) × (status ≡ begin_status why) × IsNotBegun a seat given why b)) old new
   pub closed : ToldIfClosed status old new
 
 -- a step of some seat by which its call went on, told by two numbers; or no call is under way, and nothing changed
@@ -157,6 +182,6 @@ pub record IsReplied (core : Option CoreValue) (Told : Reply → Type 0) (number
   pub none : status ≡ NO_REPLY → IsSomeAnd core (λ c. HasNoReply c.timeline number)
 
 -- what came of a call behind a handle: its reply, or the status that says why there is none
-abbrev pub Comes : Asked → ℕ → Result Reply ℕ → ℕ → Option CoreValue → Option CoreValue → Type 0
-Comes given seat (Ok reply) number old new = Goes (λ a b. RunsCall a seat given number reply b) old new
-Comes given seat (Err status) number old new = IsCalled given seat (λ reply. ⊥) status number old new × (UNTOLD < status) × (status < FAILED)
+abbrev pub Comes : Option ℕ → Asked → ℕ → Result Reply ℕ → ℕ → Option CoreValue → Option CoreValue → Type 0
+Comes most given seat (Ok reply) number old new = Goes (After most (λ a b. RunsCall a seat given number reply b)) old new
+Comes most given seat (Err status) number old new = IsCalled most given seat (λ reply. ⊥) status number old new × (UNTOLD < status) × (status < FAILED)

@@ -5,26 +5,28 @@ ghost use Rattle.fs_embed.specs.Requests.{asked, call_in};
 ghost use Rattle.fs_embed.specs.Calls.{StepsAs};
 ghost use Rattle.fs_embed.specs.Statuses.{IsRefusal, IsOfBegin, IsToldWhy};
 ghost use Rattle.atomfs_c.specs.Requests.{asked_by};
-ghost use Rattle.atomfs_c.specs.Exports.{Goes, ToldIfClosed, IsLawful, IsSpelled, IsBegun, StepsAny, Comes};
+ghost use Rattle.atomfs_c.specs.Exports.{Goes, ToldIfClosed, IsLawful, IsSpelled, IsBegun, StepsAny, Comes, to_keep};
 
-use crate::handles::{Handle, put, take};
+use crate::handles::{Handle, put, take, to_keep};
 use fs_calls::Reply;
 use fs_embed::status::{CLOSED, NO_SEAT, OK, WAITS, begin_status};
-use fs_embed::{NotReturned, Request, begin_call, run_call, step_any, step_seat};
+use fs_embed::{NotReturned, Request, begin_kept, run_kept, step_any, step_seat};
 use fs_names::SeatNo;
 use std::alloc::Global;
 
 /// Begins the call that is asked for behind a handle, and tells its number.
 fn begin(alloc: Global, handle: &mut Handle, seat: u64, request: Request, number: &mut u64) -> u8
-    ensures begun { IsBegun (asked request.entry) seat result number.new handle.old.held.core handle.new.held.core }
+    ensures begun { IsBegun (to_keep handle.old.most) (asked request.entry) seat result number.new handle.old.held.core handle.new.held.core }
     ensures only { IsOfBegin result }
     ensures lawful { IsLawful handle.new.held.core }
     ensures spelled { IsSpelled handle.new.held.core }
+    ensures keeps { handle.new.most ≡ handle.old.most }
 {
     let Some(mut core) = take(alloc, handle) else {
         return CLOSED;
     };
-    let begun = begin_call(alloc, &mut core, SeatNo::new(seat), request);
+    let most = to_keep(handle.most);
+    let begun = begin_kept(alloc, &mut core, most, SeatNo::new(seat), request);
     put(handle, core);
     match begun {
         Ok(call) => {
@@ -44,10 +46,11 @@ pub extern "C" fn atomfs_begin(
     line: &[u8],
     number: &mut u64,
 ) -> u8
-    ensures begun { IsBegun (call_in line.now) seat result number.new handle.old.held.core handle.new.held.core }
+    ensures begun { IsBegun (to_keep handle.old.most) (call_in line.now) seat result number.new handle.old.held.core handle.new.held.core }
     ensures only { IsOfBegin result }
     ensures lawful { IsLawful handle.new.held.core }
     ensures spelled { IsSpelled handle.new.held.core }
+    ensures keeps { handle.new.most ≡ handle.old.most }
 {
     begin(alloc, handle, seat, Request::Line(line), number)
 }
@@ -93,10 +96,11 @@ pub extern "C" fn atomfs_begin_call(
     bytes: &[u8],
     number: &mut u64,
 ) -> u8
-    ensures begun { IsBegun (asked_by call path.now other.now off size bytes.now) seat result number.new handle.old.held.core handle.new.held.core }
+    ensures begun { IsBegun (to_keep handle.old.most) (asked_by call path.now other.now off size bytes.now) seat result number.new handle.old.held.core handle.new.held.core }
     ensures only { IsOfBegin result }
     ensures lawful { IsLawful handle.new.held.core }
     ensures spelled { IsSpelled handle.new.held.core }
+    ensures keeps { handle.new.most ≡ handle.old.most }
 {
     let request = request_of(call, path, other, off, size, bytes);
     begin(alloc, handle, seat, request, number)
@@ -117,6 +121,7 @@ pub extern "C" fn atomfs_step(
     ensures closed { ToldIfClosed result handle.old.held.core handle.new.held.core }
     ensures lawful { IsLawful handle.new.held.core }
     ensures spelled { IsSpelled handle.new.held.core }
+    ensures keeps { handle.new.most ≡ handle.old.most }
 {
     let Some(mut core) = take(alloc, handle) else {
         return CLOSED;
@@ -148,6 +153,7 @@ pub extern "C" fn atomfs_step_any(
     ensures closed { ToldIfClosed result handle.old.held.core handle.new.held.core }
     ensures lawful { IsLawful handle.new.held.core }
     ensures spelled { IsSpelled handle.new.held.core }
+    ensures keeps { handle.new.most ≡ handle.old.most }
 {
     let Some(mut core) = take(alloc, handle) else {
         return CLOSED;
@@ -190,14 +196,16 @@ pub fn run(
     request: Request,
     number: &mut u64,
 ) -> Result<Reply, u8>
-    ensures came { Comes (asked request.entry) seat result number.new handle.old.held.core handle.new.held.core }
+    ensures came { Comes (to_keep handle.old.most) (asked request.entry) seat result number.new handle.old.held.core handle.new.held.core }
     ensures lawful { IsLawful handle.new.held.core }
     ensures spelled { IsSpelled handle.new.held.core }
+    ensures keeps { handle.new.most ≡ handle.old.most }
 {
     let Some(mut core) = take(alloc, handle) else {
         return Err(CLOSED);
     };
-    let ran = run_call(alloc, &mut core, SeatNo::new(seat), request);
+    let most = to_keep(handle.most);
+    let ran = run_kept(alloc, &mut core, most, SeatNo::new(seat), request);
     put(handle, core);
     match ran {
         Ok(done) => {

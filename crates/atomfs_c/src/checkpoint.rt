@@ -1,10 +1,9 @@
 //! The exports by which a journal goes out in pieces: what stands before its entries, and the checkpoint.
 
 ghost use Rattle.std.specs.Prelude.{◌≡◌, ◌≢◌, ◌<◌, ◌⊎◌, IsSomeAnd};
-ghost use Rattle.fs_machine.specs.States.{begun_again};
-ghost use Rattle.fs_core.specs.CoreValues.{state_of, IsAtRest};
 ghost use Rattle.fs_core.specs.Checkpoints.{IsWhyNot};
 ghost use Rattle.fs_script.specs.Journals.{opening, journal_text};
+ghost use Rattle.fs_embed.specs.Keeping.{IsForgotten, calls};
 ghost use Rattle.atomfs_c.specs.Exports.{Goes, ToldIfClosed, IsLawful, IsSpelled, IsTooLong, Tells, IsHanded};
 ghost use Rattle.fs_embed.specs.Statuses.{IsOfText, IsToldWhyNot};
 
@@ -12,7 +11,7 @@ use crate::handles::{Handle, put, take};
 use crate::told::tell;
 use fs_core::{Core, NoCheckpoint};
 use fs_embed::status::{CLOSED, NO_MEMORY, OK, TOO_SMALL, UNDER_WAY, UNTOLD};
-use fs_embed::{begin_again, opening_text, whole_journal};
+use fs_embed::{opening_text, whole_journal};
 use std::alloc::Global;
 
 /// Tells what stands before the first entry of the journal: its header, and the tree at which it starts where that is more
@@ -28,6 +27,7 @@ pub extern "C" fn atomfs_opening(
     ensures opening { result < UNTOLD → IsSomeAnd handle.old.held.core (λ core. Tells result (opening core.start) count.new out.old out.new) }
     ensures same { handle.new.held.core ≡ handle.old.held.core }
     ensures closed { ToldIfClosed result handle.old.held.core handle.new.held.core }
+    ensures keeps { handle.new.most ≡ handle.old.most }
 {
     let Some(core) = take(alloc, handle) else {
         return CLOSED;
@@ -53,16 +53,20 @@ fn tell_why_not(why: &NoCheckpoint, number: &mut u64) -> u8
     }
 }
 
-/// Begins the journal again at the tree as it stands, and gives the memory of its entries back. The number of the reason why
-/// it did not, where it did not.
-fn again(alloc: Global, core: &mut Core, number: &mut u64) -> u8
-    ensures again { result ≡ OK → IsAtRest core.old × (state_of core.new ≡ begun_again (state_of core.old)) × (core.new.seats ≡ core.old.seats) }
+/// Begins the journal again at the tree as it stands, gives the memory of its entries back, and tells how many calls they were
+/// of. The number of the reason why it did not, where it did not.
+pub fn again(alloc: Global, core: &mut Core, number: &mut u64) -> u8
+    ensures again { result ≡ OK → IsForgotten core.old core.new }
+    ensures calls { result ≡ OK → number.new ≡ calls core.old }
     ensures same { result ≢ OK → core.new ≡ core.old }
     ensures under_way { result ≡ UNDER_WAY → IsWhyNot core.old (NoCheckpoint.UnderWay number.new) }
     ensures only { (result ≡ OK) ⊎ (result ≡ UNDER_WAY) ⊎ (result ≡ NO_MEMORY) }
 {
-    match begin_again(alloc, core) {
-        Ok(()) => OK,
+    match core.forget(alloc) {
+        Ok(calls) => {
+            *number = calls;
+            OK
+        }
         Err(why) => tell_why_not(&why, number),
     }
 }
@@ -76,6 +80,7 @@ fn hand_out(
     number: &mut u64,
 ) -> u8
     ensures handed { result ≡ OK → IsHanded core.old core.new count.new out.old out.new }
+    ensures calls { result ≡ OK → number.new ≡ calls core.old }
     ensures same { result ≢ OK → core.new ≡ core.old }
     ensures too_small { result ≡ TOO_SMALL → IsTooLong (journal_text core.old.start core.old.timeline) count.new out.old out.new }
     ensures under_way { result ≡ UNDER_WAY → IsWhyNot core.old (NoCheckpoint.UnderWay number.new) }
@@ -96,7 +101,7 @@ fn hand_out(
     status
 }
 
-/// Hands the whole journal out as a text, and begins it again at the tree as it stands.
+/// Hands the whole journal out as a text, begins it again at the tree as it stands, and tells how many calls it had.
 #[unsafe(no_mangle)]
 pub extern "C" fn atomfs_checkpoint(
     alloc: Global,
@@ -107,12 +112,14 @@ pub extern "C" fn atomfs_checkpoint(
 ) -> u8
     ensures only { IsOfText result ⊎ (result ≡ UNDER_WAY) }
     ensures handed { result ≡ OK → Goes (λ old new. IsHanded old new count.new out.old out.new) handle.old.held.core handle.new.held.core }
+    ensures calls { result ≡ OK → IsSomeAnd handle.old.held.core (λ core. number.new ≡ calls core) }
     ensures same { result ≢ OK → handle.new.held.core ≡ handle.old.held.core }
     ensures too_small { result ≡ TOO_SMALL → IsSomeAnd handle.old.held.core (λ core. IsTooLong (journal_text core.start core.timeline) count.new out.old out.new) }
     ensures under_way { result ≡ UNDER_WAY → IsSomeAnd handle.old.held.core (λ core. IsWhyNot core (NoCheckpoint.UnderWay number.new)) }
     ensures closed { ToldIfClosed result handle.old.held.core handle.new.held.core }
     ensures lawful { IsLawful handle.new.held.core }
     ensures spelled { IsSpelled handle.new.held.core }
+    ensures keeps { handle.new.most ≡ handle.old.most }
 {
     let Some(mut core) = take(alloc, handle) else {
         return CLOSED;

@@ -5,7 +5,7 @@ ghost use Rattle.fs_names.specs.declared.limits.TheConstants.{NODE_LIMIT};
 ghost use Rattle.fs_names.specs.declared.limits.Limits.TheVariants as Limits;
 ghost use Rattle.fs_core.specs.CoreValues.{state_of};
 ghost use Rattle.fs_embed.specs.Statuses.{IsOfOpen};
-ghost use Rattle.atomfs_c.specs.Exports.{IsOpened, limits_of, Goes, ToldIfClosed, IsLawful, IsSpelled};
+ghost use Rattle.atomfs_c.specs.Exports.{IsOpened, limits_of, to_keep, Goes, ToldIfClosed, IsLawful, IsSpelled};
 
 use crate::held::Held;
 use crate::parts::Parts;
@@ -15,21 +15,27 @@ use fs_names::{Limits, NODE_LIMIT};
 use std::alloc::Global;
 use std::mem;
 
-/// A handle: whether it is open, and its core where it is.
+/// By this number all calls are kept.
+pub const KEEP_ALL: u32 = 4_294_967_295;
+
+/// A handle: whether it is open, how many calls its core keeps, and the core, where it is open.
 #[repr(C)]
 #[derive(Drop)]
 pub struct Handle {
     is_open: bool,
+    pub most: u32,
     pub held: Held,
     ghost told: { is_open ≡ is_some held.core },
 }
 
 /// A closed handle.
-fn closed(alloc: Global) -> Handle
-    ensures { result.held.core ≡ None }
+fn closed(alloc: Global, most: u32) -> Handle
+    ensures core { result.held.core ≡ None }
+    ensures keeps { result.most ≡ most }
 {
     Handle {
         is_open: false,
+        most,
         held: Held::closed(alloc),
     }
 }
@@ -38,11 +44,13 @@ fn closed(alloc: Global) -> Handle
 pub fn take(alloc: Global, handle: &mut Handle) -> Option<Box<Core>>
     ensures core { MatchOption result (handle.old.held.core ≡ None) (λ core. handle.old.held.core ≡ Some core.value) }
     ensures closed { handle.new.held.core ≡ None }
+    ensures keeps { handle.new.most ≡ handle.old.most }
 {
     if !handle.is_open {
         return None;
     }
-    let Handle { held, .. } = mem::replace(handle, closed(alloc));
+    let most = handle.most;
+    let Handle { held, .. } = mem::replace(handle, closed(alloc, most));
     Some(held.into_parts().into_box())
 }
 
@@ -51,10 +59,12 @@ pub fn put(handle: &mut Handle, core: Box<Core>)
     ensures core { handle.new.held.core ≡ Some core.value }
     ensures lawful { IsLawful handle.new.held.core }
     ensures spelled { IsSpelled handle.new.held.core }
+    ensures keeps { handle.new.most ≡ handle.old.most }
 {
     core.told();
     *handle = Handle {
         is_open: true,
+        most: handle.most,
         held: Held::of_parts(Parts::of(core)),
     };
 }
@@ -70,14 +80,25 @@ pub fn limits_of(version: u8) -> Option<Limits>
     }
 }
 
-/// Opens a closed handle: a core of no seats and no entries, for at most `limit` nodes, by these limits.
+/// How many calls a core is to keep by a number.
+pub fn to_keep(most: u32) -> Option<u64>
+    ensures { result ≡ to_keep most }
+{
+    if most == KEEP_ALL {
+        return None;
+    }
+    Some(most as u64)
+}
+
+/// Opens a closed handle: a core of no seats and no entries, for at most `limit` nodes, by these limits. All its calls are kept.
 fn open(alloc: Global, handle: &mut Handle, limit: usize, limits: Limits) -> u8
     ensures opened { result ≡ OK → (handle.old.held.core ≡ None) × IsSomeAnd handle.new.held.core (IsOpened limits limit) }
     ensures open { IsSome handle.old.held.core → result ≡ ALREADY_OPEN }
     ensures limit { result ≡ BAD_LIMIT → (limit ≡ 0) ⊎ (NODE_LIMIT < limit) }
     ensures version { result ≢ BAD_VERSION }
     ensures only { IsOfOpen result }
-    ensures refused { result ≢ OK → (CLOSED < result) × (handle.new.held.core ≡ handle.old.held.core) }
+    ensures keeps_all { result ≡ OK → handle.new.most ≡ KEEP_ALL }
+    ensures refused { result ≢ OK → (CLOSED < result) × (handle.new.held.core ≡ handle.old.held.core) × (handle.new.most ≡ handle.old.most) }
 {
     if handle.is_open {
         return ALREADY_OPEN;
@@ -90,6 +111,7 @@ fn open(alloc: Global, handle: &mut Handle, limit: usize, limits: Limits) -> u8
     };
     match Box::new(alloc, core) {
         Ok(core) => {
+            handle.most = KEEP_ALL;
             put(handle, core);
             OK
         }
@@ -105,7 +127,8 @@ pub extern "C" fn atomfs_open(alloc: Global, handle: &mut Handle, limit: usize) 
     ensures opened { result ≡ OK → (handle.old.held.core ≡ None) × IsSomeAnd handle.new.held.core (IsOpened Limits.V1 limit) }
     ensures open { IsSome handle.old.held.core → result ≡ ALREADY_OPEN }
     ensures limit { result ≡ BAD_LIMIT → (limit ≡ 0) ⊎ (NODE_LIMIT < limit) }
-    ensures refused { result ≢ OK → (CLOSED < result) × (handle.new.held.core ≡ handle.old.held.core) }
+    ensures keeps_all { result ≡ OK → handle.new.most ≡ KEEP_ALL }
+    ensures refused { result ≢ OK → (CLOSED < result) × (handle.new.held.core ≡ handle.old.held.core) × (handle.new.most ≡ handle.old.most) }
 {
     open(alloc, handle, limit, Limits::V1)
 }
@@ -123,7 +146,8 @@ pub extern "C" fn atomfs_open_with(
     ensures limit { result ≡ BAD_LIMIT → (limit ≡ 0) ⊎ (NODE_LIMIT < limit) }
     ensures version { (result ≡ BAD_VERSION) ↔ (limits_of version ≡ None) }
     ensures only { IsOfOpen result ⊎ (result ≡ BAD_VERSION) }
-    ensures refused { result ≢ OK → (CLOSED < result) × (handle.new.held.core ≡ handle.old.held.core) }
+    ensures keeps_all { result ≡ OK → handle.new.most ≡ KEEP_ALL }
+    ensures refused { result ≢ OK → (CLOSED < result) × (handle.new.held.core ≡ handle.old.held.core) × (handle.new.most ≡ handle.old.most) }
 {
     match limits_of(version) {
         Some(limits) => open(alloc, handle, limit, limits),
@@ -136,6 +160,7 @@ pub extern "C" fn atomfs_open_with(
 pub extern "C" fn atomfs_close(alloc: Global, handle: &mut Handle) -> u8
     ensures status { MatchOption handle.old.held.core (result ≡ CLOSED) (λ core. result ≡ OK) }
     ensures closed { handle.new.held.core ≡ None }
+    ensures keeps { handle.new.most ≡ handle.old.most }
 {
     match take(alloc, handle) {
         Some(core) => {
@@ -155,6 +180,7 @@ pub extern "C" fn atomfs_seat(alloc: Global, handle: &mut Handle, seat: &mut u64
     ensures closed { ToldIfClosed result handle.old.held.core handle.new.held.core }
     ensures lawful { IsLawful handle.new.held.core }
     ensures spelled { IsSpelled handle.new.held.core }
+    ensures keeps { handle.new.most ≡ handle.old.most }
 {
     let Some(mut core) = take(alloc, handle) else {
         return CLOSED;

@@ -14,6 +14,7 @@
 
 mod calls;
 mod checkpoint;
+mod forgetting;
 mod handles;
 mod held;
 mod parts;

@@ -48,6 +48,7 @@ pub extern "C" fn atomfs_reply(
     ensures only { IsOfReply result ⊎ (result ≡ NO_MEMORY) }
     ensures same { handle.new.held.core ≡ handle.old.held.core }
     ensures closed { ToldIfClosed result handle.old.held.core handle.new.held.core }
+    ensures keeps { handle.new.most ≡ handle.old.most }
 {
     let Some(core) = take(alloc, handle) else {
         return CLOSED;
@@ -75,6 +76,7 @@ pub extern "C" fn atomfs_reply_done(alloc: Global, handle: &mut Handle, number: 
     ensures only { IsOfReply result }
     ensures same { handle.new.held.core ≡ handle.old.held.core }
     ensures closed { ToldIfClosed result handle.old.held.core handle.new.held.core }
+    ensures keeps { handle.new.most ≡ handle.old.most }
 {
     let Some(core) = take(alloc, handle) else {
         return CLOSED;
@@ -107,6 +109,7 @@ pub extern "C" fn atomfs_reply_stat(
     ensures only { IsOfReply result }
     ensures same { handle.new.held.core ≡ handle.old.held.core }
     ensures closed { ToldIfClosed result handle.old.held.core handle.new.held.core }
+    ensures keeps { handle.new.most ≡ handle.old.most }
 {
     let Some(core) = take(alloc, handle) else {
         return CLOSED;
@@ -148,6 +151,7 @@ pub extern "C" fn atomfs_reply_names(
     ensures only { IsOfReply result }
     ensures same { handle.new.held.core ≡ handle.old.held.core }
     ensures closed { ToldIfClosed result handle.old.held.core handle.new.held.core }
+    ensures keeps { handle.new.most ≡ handle.old.most }
 {
     let Some(core) = take(alloc, handle) else {
         return CLOSED;
@@ -181,6 +185,7 @@ pub extern "C" fn atomfs_reply_bytes(
     ensures only { IsOfReply result }
     ensures same { handle.new.held.core ≡ handle.old.held.core }
     ensures closed { ToldIfClosed result handle.old.held.core handle.new.held.core }
+    ensures keeps { handle.new.most ≡ handle.old.most }
 {
     let Some(core) = take(alloc, handle) else {
         return CLOSED;
@@ -213,6 +218,7 @@ pub extern "C" fn atomfs_reply_wrote(
     ensures only { IsOfReply result }
     ensures same { handle.new.held.core ≡ handle.old.held.core }
     ensures closed { ToldIfClosed result handle.old.held.core handle.new.held.core }
+    ensures keeps { handle.new.most ≡ handle.old.most }
 {
     let Some(core) = take(alloc, handle) else {
         return CLOSED;

@@ -28,6 +28,7 @@ pub extern "C" fn atomfs_journal(
     ensures lines { result < UNTOLD → IsSomeAnd handle.old.held.core (λ core. Tells result (lines_from first core.timeline) count.new out.old out.new × (entries.new ≡ length core.timeline)) }
     ensures same { handle.new.held.core ≡ handle.old.held.core }
     ensures closed { ToldIfClosed result handle.old.held.core handle.new.held.core }
+    ensures keeps { handle.new.most ≡ handle.old.most }
 {
     let Some(core) = take(alloc, handle) else {
         return CLOSED;
@@ -60,6 +61,7 @@ pub extern "C" fn atomfs_tree(
     ensures tree { result < UNTOLD → IsSomeAnd handle.old.held.core (λ core. (text : List ℕ) × IsTreeText (graph_of core.store) text × Tells result text count.new out.old out.new) }
     ensures same { handle.new.held.core ≡ handle.old.held.core }
     ensures closed { ToldIfClosed result handle.old.held.core handle.new.held.core }
+    ensures keeps { handle.new.most ≡ handle.old.most }
 {
     let Some(core) = take(alloc, handle) else {
         return CLOSED;

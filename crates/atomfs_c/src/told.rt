@@ -2,12 +2,13 @@
 
 ghost use Rattle.std.specs.Prelude.{◌≡◌, ◌<◌, length};
 ghost use Rattle.fs_embed.specs.Statuses.{IsReturned};
-ghost use Rattle.atomfs_c.specs.Exports.{Tells, IsToldText, IsToldStat, IsToldNames, IsToldBytes, IsToldWrote, IsToldBehind, done_status, is_dir};
+ghost use Rattle.atomfs_c.specs.Exports.{Tells, IsToldText, IsToldStat, IsToldNames, IsToldBytes, IsToldWrote, IsToldBehind, IsToldVerdict, done_status, is_dir, kind_number};
 
 use fs_calls::Reply;
 use fs_embed::status::{OK, TOO_SMALL, UNTOLD, failed_status};
 use fs_embed::{copy_out, names_behind, names_text, reply_text};
 use fs_names::Kind;
+use fs_timeline::{FaultKind, Verdict};
 use std::alloc::Global;
 
 /// What stands at a path: whether a directory, as 1 or 0, and how many entries or bytes it has.
@@ -141,4 +142,29 @@ pub fn tell_behind(
         Reply::Failed(errno) => failed_status(*errno),
         _ => UNTOLD,
     }
+}
+
+/// The number of what is wrong with an entry.
+fn kind_number(kind: FaultKind) -> u8
+    ensures { result ≡ kind_number kind }
+{
+    match kind {
+        FaultKind::BeginTwice => 1,
+        FaultKind::SeatBusy => 2,
+        FaultKind::CommitUnbegun => 3,
+        FaultKind::CommitTwice => 4,
+        FaultKind::ReturnUncommitted => 5,
+        FaultKind::ReturnTwice => 6,
+        FaultKind::WrongReply => 7,
+    }
+}
+
+/// Tells a verdict by a place and a kind.
+pub fn tell_verdict(verdict: &Verdict, place: &mut u64, kind: &mut u8)
+    ensures { IsToldVerdict verdict.now place.new kind.new }
+{
+    (*place, *kind) = match verdict {
+        Verdict::Lawful => (0, 0),
+        Verdict::Fault(at, why) => (*at as u64, kind_number(*why)),
+    };
 }

@@ -5,7 +5,7 @@
 ghost use Rattle.std.specs.Prelude.{◌≡◌, length};
 ghost use Rattle.fs_calls.specs.declared.call.Call.TheVariants as calls;
 ghost use Rattle.fs_embed.specs.Requests.{asked, call_in, on_path, on_both};
-ghost use Rattle.atomfs_c.specs.Exports.{IsLawful, IsSpelled, IsCalled, IsToldText, IsToldStat, IsToldNames, IsToldBytes, IsToldWrote, done_status};
+ghost use Rattle.atomfs_c.specs.Exports.{IsLawful, IsSpelled, IsCalled, IsToldText, IsToldStat, IsToldNames, IsToldBytes, IsToldWrote, done_status, to_keep};
 
 use crate::calls::run;
 use crate::handles::Handle;
@@ -15,9 +15,10 @@ use std::alloc::Global;
 
 /// Runs a call that answers no more than that it is done.
 fn run_done(alloc: Global, handle: &mut Handle, seat: u64, request: Request, number: &mut u64) -> u8
-    ensures called { IsCalled (asked request.entry) seat (λ reply. result ≡ done_status reply) result number.new handle.old.held.core handle.new.held.core }
+    ensures called { IsCalled (to_keep handle.old.most) (asked request.entry) seat (λ reply. result ≡ done_status reply) result number.new handle.old.held.core handle.new.held.core }
     ensures lawful { IsLawful handle.new.held.core }
     ensures spelled { IsSpelled handle.new.held.core }
+    ensures keeps { handle.new.most ≡ handle.old.most }
 {
     match run(alloc, handle, seat, request, number) {
         Ok(reply) => tell_done(&reply),
@@ -34,9 +35,10 @@ pub extern "C" fn atomfs_mkdir(
     path: &[u8],
     number: &mut u64,
 ) -> u8
-    ensures called { IsCalled (on_path calls.Mkdir path.now) seat (λ reply. result ≡ done_status reply) result number.new handle.old.held.core handle.new.held.core }
+    ensures called { IsCalled (to_keep handle.old.most) (on_path calls.Mkdir path.now) seat (λ reply. result ≡ done_status reply) result number.new handle.old.held.core handle.new.held.core }
     ensures lawful { IsLawful handle.new.held.core }
     ensures spelled { IsSpelled handle.new.held.core }
+    ensures keeps { handle.new.most ≡ handle.old.most }
 {
     run_done(alloc, handle, seat, Request::Mkdir(path), number)
 }
@@ -50,9 +52,10 @@ pub extern "C" fn atomfs_mknod(
     path: &[u8],
     number: &mut u64,
 ) -> u8
-    ensures called { IsCalled (on_path calls.Mknod path.now) seat (λ reply. result ≡ done_status reply) result number.new handle.old.held.core handle.new.held.core }
+    ensures called { IsCalled (to_keep handle.old.most) (on_path calls.Mknod path.now) seat (λ reply. result ≡ done_status reply) result number.new handle.old.held.core handle.new.held.core }
     ensures lawful { IsLawful handle.new.held.core }
     ensures spelled { IsSpelled handle.new.held.core }
+    ensures keeps { handle.new.most ≡ handle.old.most }
 {
     run_done(alloc, handle, seat, Request::Mknod(path), number)
 }
@@ -66,9 +69,10 @@ pub extern "C" fn atomfs_unlink(
     path: &[u8],
     number: &mut u64,
 ) -> u8
-    ensures called { IsCalled (on_path calls.Unlink path.now) seat (λ reply. result ≡ done_status reply) result number.new handle.old.held.core handle.new.held.core }
+    ensures called { IsCalled (to_keep handle.old.most) (on_path calls.Unlink path.now) seat (λ reply. result ≡ done_status reply) result number.new handle.old.held.core handle.new.held.core }
     ensures lawful { IsLawful handle.new.held.core }
     ensures spelled { IsSpelled handle.new.held.core }
+    ensures keeps { handle.new.most ≡ handle.old.most }
 {
     run_done(alloc, handle, seat, Request::Unlink(path), number)
 }
@@ -82,9 +86,10 @@ pub extern "C" fn atomfs_rmdir(
     path: &[u8],
     number: &mut u64,
 ) -> u8
-    ensures called { IsCalled (on_path calls.Rmdir path.now) seat (λ reply. result ≡ done_status reply) result number.new handle.old.held.core handle.new.held.core }
+    ensures called { IsCalled (to_keep handle.old.most) (on_path calls.Rmdir path.now) seat (λ reply. result ≡ done_status reply) result number.new handle.old.held.core handle.new.held.core }
     ensures lawful { IsLawful handle.new.held.core }
     ensures spelled { IsSpelled handle.new.held.core }
+    ensures keeps { handle.new.most ≡ handle.old.most }
 {
     run_done(alloc, handle, seat, Request::Rmdir(path), number)
 }
@@ -99,9 +104,10 @@ pub extern "C" fn atomfs_rename(
     other: &[u8],
     number: &mut u64,
 ) -> u8
-    ensures called { IsCalled (on_both calls.Rename path.now other.now) seat (λ reply. result ≡ done_status reply) result number.new handle.old.held.core handle.new.held.core }
+    ensures called { IsCalled (to_keep handle.old.most) (on_both calls.Rename path.now other.now) seat (λ reply. result ≡ done_status reply) result number.new handle.old.held.core handle.new.held.core }
     ensures lawful { IsLawful handle.new.held.core }
     ensures spelled { IsSpelled handle.new.held.core }
+    ensures keeps { handle.new.most ≡ handle.old.most }
 {
     run_done(alloc, handle, seat, Request::Rename(path, other), number)
 }
@@ -116,9 +122,10 @@ pub extern "C" fn atomfs_exchange(
     other: &[u8],
     number: &mut u64,
 ) -> u8
-    ensures called { IsCalled (on_both calls.Exchange path.now other.now) seat (λ reply. result ≡ done_status reply) result number.new handle.old.held.core handle.new.held.core }
+    ensures called { IsCalled (to_keep handle.old.most) (on_both calls.Exchange path.now other.now) seat (λ reply. result ≡ done_status reply) result number.new handle.old.held.core handle.new.held.core }
     ensures lawful { IsLawful handle.new.held.core }
     ensures spelled { IsSpelled handle.new.held.core }
+    ensures keeps { handle.new.most ≡ handle.old.most }
 {
     run_done(alloc, handle, seat, Request::Exchange(path, other), number)
 }
@@ -133,9 +140,10 @@ pub extern "C" fn atomfs_truncate(
     size: u64,
     number: &mut u64,
 ) -> u8
-    ensures called { IsCalled (on_path (λ p. calls.Truncate p size) path.now) seat (λ reply. result ≡ done_status reply) result number.new handle.old.held.core handle.new.held.core }
+    ensures called { IsCalled (to_keep handle.old.most) (on_path (λ p. calls.Truncate p size) path.now) seat (λ reply. result ≡ done_status reply) result number.new handle.old.held.core handle.new.held.core }
     ensures lawful { IsLawful handle.new.held.core }
     ensures spelled { IsSpelled handle.new.held.core }
+    ensures keeps { handle.new.most ≡ handle.old.most }
 {
     run_done(alloc, handle, seat, Request::Truncate(path, size), number)
 }
@@ -150,9 +158,10 @@ pub extern "C" fn atomfs_stat(
     stat: &mut Stat,
     number: &mut u64,
 ) -> u8
-    ensures called { IsCalled (on_path calls.Stat path.now) seat (λ reply. IsToldStat reply result stat.new) result number.new handle.old.held.core handle.new.held.core }
+    ensures called { IsCalled (to_keep handle.old.most) (on_path calls.Stat path.now) seat (λ reply. IsToldStat reply result stat.new) result number.new handle.old.held.core handle.new.held.core }
     ensures lawful { IsLawful handle.new.held.core }
     ensures spelled { IsSpelled handle.new.held.core }
+    ensures keeps { handle.new.most ≡ handle.old.most }
 {
     match run(alloc, handle, seat, Request::Stat(path), number) {
         Ok(reply) => tell_stat(&reply, stat),
@@ -171,9 +180,10 @@ pub extern "C" fn atomfs_readdir(
     count: &mut usize,
     number: &mut u64,
 ) -> u8
-    ensures called { IsCalled (on_path calls.Readdir path.now) seat (λ reply. IsToldNames reply result count.new out.old out.new) result number.new handle.old.held.core handle.new.held.core }
+    ensures called { IsCalled (to_keep handle.old.most) (on_path calls.Readdir path.now) seat (λ reply. IsToldNames reply result count.new out.old out.new) result number.new handle.old.held.core handle.new.held.core }
     ensures lawful { IsLawful handle.new.held.core }
     ensures spelled { IsSpelled handle.new.held.core }
+    ensures keeps { handle.new.most ≡ handle.old.most }
 {
     match run(alloc, handle, seat, Request::Readdir(path), number) {
         Ok(reply) => tell_names(alloc, &reply, out, count),
@@ -193,9 +203,10 @@ pub extern "C" fn atomfs_read(
     count: &mut usize,
     number: &mut u64,
 ) -> u8
-    ensures called { IsCalled (on_path (λ p. calls.Read p off (length out.old)) path.now) seat (λ reply. IsToldBytes reply result count.new out.old out.new) result number.new handle.old.held.core handle.new.held.core }
+    ensures called { IsCalled (to_keep handle.old.most) (on_path (λ p. calls.Read p off (length out.old)) path.now) seat (λ reply. IsToldBytes reply result count.new out.old out.new) result number.new handle.old.held.core handle.new.held.core }
     ensures lawful { IsLawful handle.new.held.core }
     ensures spelled { IsSpelled handle.new.held.core }
+    ensures keeps { handle.new.most ≡ handle.old.most }
 {
     match run(
         alloc,
@@ -221,9 +232,10 @@ pub extern "C" fn atomfs_write(
     wrote: &mut u64,
     number: &mut u64,
 ) -> u8
-    ensures called { IsCalled (on_path (λ p. calls.Write p off bytes.now) path.now) seat (λ reply. IsToldWrote reply result wrote.new) result number.new handle.old.held.core handle.new.held.core }
+    ensures called { IsCalled (to_keep handle.old.most) (on_path (λ p. calls.Write p off bytes.now) path.now) seat (λ reply. IsToldWrote reply result wrote.new) result number.new handle.old.held.core handle.new.held.core }
     ensures lawful { IsLawful handle.new.held.core }
     ensures spelled { IsSpelled handle.new.held.core }
+    ensures keeps { handle.new.most ≡ handle.old.most }
 {
     match run(
         alloc,
@@ -248,9 +260,10 @@ pub extern "C" fn atomfs_call(
     count: &mut usize,
     number: &mut u64,
 ) -> u8
-    ensures called { IsCalled (call_in line.now) seat (λ reply. IsToldText reply result count.new out.old out.new) result number.new handle.old.held.core handle.new.held.core }
+    ensures called { IsCalled (to_keep handle.old.most) (call_in line.now) seat (λ reply. IsToldText reply result count.new out.old out.new) result number.new handle.old.held.core handle.new.held.core }
     ensures lawful { IsLawful handle.new.held.core }
     ensures spelled { IsSpelled handle.new.held.core }
+    ensures keeps { handle.new.most ≡ handle.old.most }
 {
     match run(alloc, handle, seat, Request::Line(line), number) {
         Ok(reply) => tell_text(alloc, &reply, out, count),

@@ -1,4 +1,5 @@
 pub mod Calls
+pub mod Keeping
 pub mod Looks
 pub mod Requests
 pub mod Runs

@@ -2,7 +2,8 @@
 //!
 //! A `Request` is a call that is asked for. `begin_call` begins it, `step_seat` does one step of a seat, `step_any` one of a
 //! call that does not wait, which there is as long as one is under way, and `run_call` runs a call from its begin to its
-//! return, or as far as it goes before it waits for a call of another seat. A request that is refused leaves the core as it
+//! return, or as far as it goes before it waits for a call of another seat. `begin_kept` and `run_kept` do so in a core that
+//! forgets by itself (`keep_last`). A request that is refused leaves the core as it
 //! was, and the answer says why: `status` has its number. `reply_text`, `names_text`, `journal_text`, `opening_text`,
 //! `whole_journal` and `tree_text` are texts of a core, and `names_behind` the part of a reply's names that fits; `run_text` and `check_text` have the work
 //! of the runners over bytes. No function has a `requires`.
@@ -12,6 +13,7 @@
 #![tactic(auto)]
 
 mod calls;
+mod keeping;
 mod looks;
 mod names;
 mod pieces;
@@ -23,9 +25,10 @@ mod texts;
 pub use calls::{
     NotBegun, NotReturned, Returned, StepTold, begin_call, run_call, step_any, step_seat,
 };
+pub use keeping::{begin_kept, keep_last, run_kept};
 pub use looks::kind_of;
 pub use names::{names_behind, names_text};
-pub use pieces::{begin_again, opening_text, whole_journal};
+pub use pieces::{opening_text, whole_journal};
 pub use request::{Request, path_fault};
 pub use runs::{NoText, check_text, run_text};
 pub use texts::{copy_out, find_reply, journal_text, reply_text, tree_text};

@@ -1,13 +1,10 @@
-//! A journal in pieces: what stands before the entries of one, the whole of it, and the begin of the next.
+//! A journal in pieces: what stands before the entries of one, and the whole of it.
 
-ghost use Rattle.std.specs.Prelude.{◌≡◌, IfOk, OnOk, IfErr, OnErr};
-ghost use Rattle.fs_machine.specs.States.{begun_again};
-ghost use Rattle.fs_core.specs.CoreValues.{state_of, IsAtRest};
-ghost use Rattle.fs_core.specs.Checkpoints.{IsWhyNot};
+ghost use Rattle.std.specs.Prelude.{◌≡◌, IfOk};
 ghost use Rattle.fs_script.specs.Journals.{opening, journal_text};
 
 use crate::texts::push_lines;
-use fs_core::{Core, NoCheckpoint};
+use fs_core::Core;
 use fs_script::write_opening;
 use fs_seq::SeqTree;
 use std::alloc::{AllocError, Global};
@@ -28,21 +25,4 @@ pub fn whole_journal(alloc: Global, core: &Core) -> Result<Vec<u8>, AllocError>
     let mut text = opening_text(alloc, core.start())?;
     push_lines(alloc, core.timeline(), &mut text)?;
     Ok(text)
-}
-
-/// Begins the timeline of a core again at the tree as it stands, and gives the memory of its entries back.
-pub fn begin_again(alloc: Global, core: &mut Core) -> Result<(), NoCheckpoint>
-    ensures rest { OnOk result (IsAtRest core.old) }
-    ensures state { OnOk result (state_of core.new ≡ begun_again (state_of core.old)) }
-    ensures seats { OnOk result (core.new.seats ≡ core.old.seats) }
-    ensures why { IfErr result (IsWhyNot core.old) }
-    ensures err { OnErr result (core.new ≡ core.old) }
-{
-    match core.checkpoint(alloc) {
-        Ok(entries) => {
-            drop(entries);
-            Ok(())
-        }
-        Err(why) => Err(why),
-    }
 }

@@ -108,7 +108,7 @@ class Call(enum.IntEnum):
 
 
 class Handle(ctypes.Structure):
-    _fields_ = [("is_open", ctypes.c_uint8), ("at", ctypes.c_void_p)]
+    _fields_ = [("is_open", ctypes.c_uint8), ("most", ctypes.c_uint32), ("at", ctypes.c_void_p)]
 
 
 class CStat(ctypes.Structure):
