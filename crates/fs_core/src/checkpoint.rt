@@ -123,6 +123,7 @@ impl Core {
         memory: &mut Memory,
     ) -> Result<Vec<Entry>, NoCheckpoint>
         ensures rest { OnOk result (IsAtRest self.old) }
+        ensures refusals { self.new.refusals ≡ self.old.refusals }
         ensures state { OnOk result (state_of self.new ≡ begun_again (state_of self.old)) }
         ensures entries { IfOk result (λ entries. entries.items ≡ self.old.timeline) }
         ensures seats { OnOk result (self.new.seats ≡ self.old.seats) }
