@@ -1,5 +1,5 @@
 -- What is read from a source and written to a sink.
-use Rattle.std.specs.Prelude.{◌≡◌, ◌<◌, ◌+◌, ◌⊎◌, ℕ, List, length, take, Option, Result, Ok, Err}
+use Rattle.std.specs.Prelude.{◌≡◌, ◌≢◌, ◌<◌, ◌+◌, ◌⊎◌, ℕ, List, length, take, Option, Result, Ok, Err, IsErrOf, OnErr}
 use Rattle.std.specs.Io.KnownBytes.{Appends}
 use Rattle.fs_words.specs.declared.limits.TheConstants.{TEXT_LIMIT}
 use Rattle.fs_io.specs.declared.failure.Failure.{Failure}
@@ -24,3 +24,9 @@ WritesBeginning text old new = (n : ℕ) × (n < length text) × Appends old new
 abbrev pub WritesBeginningOf : {X F : Type 0} → (X → List ℕ) → Result X F → Option (List ℕ) → Option (List ℕ) → Type 0
 WritesBeginningOf text_of (Ok x) old new = WritesBeginning (text_of x) old new
 WritesBeginningOf text_of (Err f) old new = ⊥
+
+-- a device is blamed, by these faults, only where it failed in this call; and after every error but that of the writer nothing was written
+pub record KeepsDevices {R W T E : Type 0} (reads : R → ℕ) (writes : W → ℕ) (reader reader' : R) (writer writer' : W) (unread unwritten : E) (result : Result T E) : Type 0 where
+  pub read : IsErrOf result unread → reads reader' ≡ reads reader + 1
+  pub write : IsErrOf result unwritten → writes writer' ≡ writes writer + 1
+  pub nothing : result ≢ Err unwritten → OnErr result (writer' ≡ writer)

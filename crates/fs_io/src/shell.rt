@@ -2,7 +2,7 @@
 
 ghost use Rattle.std.specs.Prelude.{◌≡◌, ◌≢◌, ◌+◌, ◌-◌, ◌<◌, ◌≤◌, ◌^◌, ℕ, List, Ok, Err, IfOk, OnErr, IfSome, IsErrOf, length};
 ghost use Rattle.std.specs.Io.KnownBytes.{Appends, IsAtEnd};
-ghost use Rattle.fs_io.specs.Devices.{IsSameText, WritesBeginning};
+ghost use Rattle.fs_io.specs.Devices.{IsSameText, KeepsDevices, WritesBeginning};
 
 use crate::device::{Failed, Sink, Source};
 use crate::failure::Failure;
@@ -34,12 +34,9 @@ pub fn transform<R: Source, W: Sink, T: Drop, E: Drop, F: FnOnce(Vec<u8>) -> Res
     ensures made { IfOk result (λ end. (v : _) × (made : _) × IfSome (R.remaining reader.old) (IsSameText v.items) × (length v.items ≤ TEXT_LIMIT → IsAtEnd (R.remaining reader.new)) × F.post make v (Ok made) × (end ≡ made.end) × Appends (W.contents writer.old) (W.contents writer.new) made.text.items) }
     ensures unmade { (e : _) → result ≡ Err (Failure.Unmade e) → (v : _) × IfSome (R.remaining reader.old) (IsSameText v.items) × F.post make v (Err e) }
 
-    // A device is blamed only where it failed in this call.
-    ensures read { IsErrOf result Failure.Read → R.failures reader.new ≡ R.failures reader.old + 1 }
-    ensures write { IsErrOf result Failure.Write → W.failures writer.new ≡ W.failures writer.old + 1 }
-
-    // After a failed write a beginning of the text stands, and after every other error nothing was written.
-    ensures nothing { result ≢ Err Failure.Write → OnErr result (writer.new ≡ writer.old) }
+    // A device is blamed only where it failed in this call; after a failed write a beginning of the text stands, and after every
+    // other error nothing was written.
+    ensures devices { KeepsDevices R.failures W.failures reader.old reader.new writer.old writer.new Failure.Read Failure.Write result }
     ensures beginning { IsErrOf result Failure.Write → (v : _) × (made : _) × IfSome (R.remaining reader.old) (IsSameText v.items) × F.post make v (Ok made) × WritesBeginning made.text.items (W.contents writer.old) (W.contents writer.new) }
 {
     let text = read_text(alloc, reader)?;
