@@ -1,5 +1,5 @@
 -- The faults of what is read; what is read from a source and written to a sink, handed on.
-pub use Rattle.fs_io.specs.Devices.{IsSameText, WritesBeginning, WritesBeginningOf}
+pub use Rattle.fs_io.specs.Devices.{IsSameText, KeepsDevices, WritesBeginning, WritesBeginningOf}
 use Rattle.std.specs.Prelude.{◌≡◌, Result, Err}
 use Rattle.fs_words.specs.declared.fault.ScriptFault.{ScriptFault}
 use Rattle.fs_verdict.specs.declared.fault.RunFault.{RunFault}

@@ -1,5 +1,5 @@
--- The fault of a run whose input has a fault, and the status after a fault.
-use Rattle.std.specs.Prelude.{ℕ}
+-- The fault of a run whose input has a fault, that between a reader and a writer, and the status after a fault.
+use Rattle.std.specs.Prelude.{ℕ, ◌≡◌}
 use Rattle.fs_words.specs.declared.fault.ScriptFault.{ScriptFault}
 use Rattle.fs_words.specs.declared.fault.FaultKind.{FaultKind}
 use Rattle.fs_words.specs.declared.fault.FaultKind.TheVariants as kind
@@ -17,12 +17,12 @@ by_kind f k = Input f
 abbrev pub run_fault_of : ScriptFault → RunFault
 run_fault_of f = by_kind f f.kind
 
--- the fault of a run between a reader and a writer
-abbrev pub fault_between : Failure RunFault → RunFault
-fault_between failure.Read = Read
-fault_between failure.Write = Write
-fault_between failure.OutOfMemory = OutOfMemory
-fault_between (failure.Unmade f) = f
+-- the fault between a reader and a writer, of a kind that each fault of a run gives one of
+abbrev pub IsBetween : {E : Type 0} → (RunFault → E → Type 0) → Failure E → E → Type 0
+IsBetween gives failure.Read fault = gives Read fault
+IsBetween gives failure.Write fault = gives Write fault
+IsBetween gives failure.OutOfMemory fault = gives OutOfMemory fault
+IsBetween gives (failure.Unmade f) fault = fault ≡ f
 
 -- a checkpoint while calls are under way is 1, bad input 3, no memory or no node number 4, a device that failed 5
 abbrev pub status_of_fault : RunFault → ℕ

@@ -6,10 +6,10 @@ ghost use Rattle.fs_timeline.specs.Verdicts.{verdict};
 ghost use Rattle.fs_script.specs.Journals.{journal_of};
 ghost use Rattle.fs_words.specs.declared.fault.ScriptFault.{ScriptFault};
 ghost use Rattle.fs_verdict.specs.Checks.{is_lawful, verdict_line, verdict_of};
-ghost use Rattle.fs_verdict.specs.Devices.{IsFaultOf, WritesBeginningOf};
+ghost use Rattle.fs_verdict.specs.Devices.{IsFaultOf, KeepsDevices, WritesBeginningOf};
 ghost use Rattle.fs_verdict.specs.code.Judged.{IsAnswer, MakesVerdict};
 
-use crate::fault::{RunFault, run_fault};
+use crate::fault::{RunFault, between, run_fault};
 use crate::reason::reason_of;
 use crate::verdict_line::verdict_line;
 use fs_io::{Made, Sink, Source, transform};
@@ -123,23 +123,24 @@ pub fn check_journal<R: Source, W: Sink>(
     ensures end { OnOk result (IsAtEnd (R.remaining reader.new)) }
     ensures input { (f : ScriptFault) → result ≡ Err (RunFault.Input f) → IfSome (R.remaining reader.old) (λ input. verdict_of input ≡ Err f) }
 
-    // A device is blamed only where it failed in this call.
-    ensures read { IsErrOf result RunFault.Read → R.failures reader.new ≡ R.failures reader.old + 1 }
-    ensures write { IsErrOf result RunFault.Write → W.failures writer.new ≡ W.failures writer.old + 1 }
     ensures full { result ≢ Err RunFault.Full }
     ensures under_way { (call : ℕ) → result ≢ Err (RunFault.UnderWay call) }
 
-    // After a failed write a beginning of the line stands, and after every other error nothing was written.
-    ensures nothing { result ≢ Err RunFault.Write → OnErr result (writer.new ≡ writer.old) }
+    // A device is blamed only where it failed in this call; after a failed write a beginning of the line stands, and after every
+    // other error nothing was written.
+    ensures devices { KeepsDevices R.failures W.failures reader.old reader.new writer.old writer.new RunFault.Read RunFault.Write result }
     ensures beginning { IsErrOf result RunFault.Write → IfSome (R.remaining reader.old) (λ input. WritesBeginningOf verdict_line (verdict_of input) (W.contents writer.old) (W.contents writer.new)) }
 {
-    let checked = transform(
+    let ended = transform(
         alloc,
         reader,
         writer,
         |text| -> Result<Made<Checked>, RunFault>
             ensures { MakesVerdict text.items result }
         { check_text(alloc, text.as_slice()) },
-    )?;
-    Ok(checked)
+    );
+    match ended {
+        Ok(checked) => Ok(checked),
+        Err(failure) => Err(between(failure)),
+    }
 }

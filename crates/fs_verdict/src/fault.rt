@@ -1,7 +1,7 @@
 //! Why a run ended without its whole text written.
 
 ghost use Rattle.std.specs.Prelude.{◌≡◌};
-ghost use Rattle.fs_verdict.specs.Faults.{run_fault_of, fault_between, status_of_fault};
+ghost use Rattle.fs_verdict.specs.Faults.{run_fault_of, IsBetween, status_of_fault};
 
 use fs_io::Failure;
 use fs_names::CallNo;
@@ -47,17 +47,15 @@ impl RunFault {
     }
 }
 
-/// The fault of a run between a reader and a writer.
-impl From<Failure<RunFault>> for RunFault {
-    ghost from_gives = { λ failure fault. fault ≡ fault_between failure };
-
-    fn from(failure: Failure<RunFault>) -> RunFault {
-        match failure {
-            Failure::Read => RunFault::Read,
-            Failure::Write => RunFault::Write,
-            Failure::OutOfMemory => RunFault::OutOfMemory,
-            Failure::Unmade(fault) => fault,
-        }
+/// The fault of a runner whose way from a reader to a writer failed.
+pub fn between<E: From<RunFault> + Drop>(failure: Failure<E>) -> E
+    ensures { IsBetween E.from_gives failure result }
+{
+    match failure {
+        Failure::Read => E::from(RunFault::Read),
+        Failure::Write => E::from(RunFault::Write),
+        Failure::OutOfMemory => E::from(RunFault::OutOfMemory),
+        Failure::Unmade(fault) => fault,
     }
 }
 

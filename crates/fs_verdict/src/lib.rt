@@ -16,7 +16,7 @@ mod sink;
 mod verdict_line;
 
 pub use checking::{Checked, check_bytes, check_journal, journal_in};
-pub use fault::{RunFault, run_fault};
+pub use fault::{RunFault, between, run_fault};
 pub use reason::{call_of, due_reply};
 pub use sink::write_text;
 pub use verdict_line::{is_lawful, kind_text, push_verdict};
