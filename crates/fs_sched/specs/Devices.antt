@@ -1,2 +1,2 @@
 -- The faults of what is read, what is read from a source and what is written to a sink, handed on.
-pub use Rattle.fs_verdict.specs.Devices.{IsSameText, WritesBeginning, WritesBeginningOf, IsFaultOf, IsFaultOrRefusal}
+pub use Rattle.fs_verdict.specs.Devices.{IsSameText, KeepsDevices, WritesBeginning, WritesBeginningOf, IsFaultOf, IsFaultOrRefusal}

@@ -27,8 +27,8 @@ mod watching;
 
 pub use fs_io::{Device, Failed, Sink, Source, device};
 pub use fs_verdict::{
-    Checked, RunFault, call_of, check_bytes, check_journal, due_reply, is_lawful, journal_in,
-    kind_text, push_verdict, run_fault, write_text,
+    Checked, RunFault, between, call_of, check_bytes, check_journal, due_reply, is_lawful,
+    journal_in, kind_text, push_verdict, run_fault, write_text,
 };
 pub use fs_witness::{Answer, Moment, Silent, Told, Witness};
 pub use input::script_in;

@@ -6,7 +6,7 @@ ghost use Rattle.fs_timeline.specs.declared.entry.Entry.{Entry};
 ghost use Rattle.fs_words.specs.declared.fault.ScriptFault.{ScriptFault};
 ghost use Rattle.fs_script.specs.Script.{script_of};
 ghost use Rattle.fs_script.specs.declared.limits.TheConstants.{CALL_LIMIT};
-ghost use Rattle.fs_sched.specs.Devices.{WritesBeginning};
+ghost use Rattle.fs_sched.specs.Devices.{KeepsDevices, WritesBeginning};
 ghost use Rattle.fs_sched.specs.Runs.{start, calls_in, end_of, IsOutput, IsRunOf, IsFaultOfRun, IsWhole, HasFinish, ReachesStop};
 ghost use Rattle.fs_sched.specs.EachRun.{AreOfTheRun, RunsAreReadAgain, EachIsReadAgain};
 ghost use Rattle.fs_sched.specs.code.Counts.{AreCounts};
@@ -22,7 +22,7 @@ use crate::schedule::Schedule;
 use fs_calls::Call;
 use fs_io::{Made, Sink, Source, transform};
 use fs_script::Script;
-use fs_verdict::RunFault;
+use fs_verdict::{RunFault, between};
 use fs_witness::{Silent, Witness};
 use std::alloc::Global;
 
@@ -66,14 +66,14 @@ pub fn run_end(script: &Script, counts: Counts) -> RunEnd
 }
 
 /// A run of a script that was read, from its first event to its last.
-pub(crate) fn play<W2: Witness>(
+pub(crate) fn play<Listener: Witness>(
     alloc: Global,
     script: &Script,
     schedule: Schedule,
-    witness: &mut W2,
+    witness: &mut Listener,
 ) -> Result<Pieces, RunFault>
     requires few { calls_in script.now.lists ≤ CALL_LIMIT }
-    ensures told { IfOk result (λ run. NotesRun W2.Told schedule script.now (start script.now.limits (length script.now.lists)) witness.old (stage_of run.play) witness.new) }
+    ensures told { IfOk result (λ run. NotesRun Listener.Told schedule script.now (start script.now.limits (length script.now.lists)) witness.old (stage_of run.play) witness.new) }
     ensures runs { IfOk result (IsRun schedule script.now) }
     ensures fault { IfErr result (IsStop schedule script.now) }
 {
@@ -90,11 +90,11 @@ pub(crate) fn play<W2: Witness>(
 }
 
 /// The text of a run of a script, and how it ended. The script is let go before the text is made.
-fn make_text<W2: Witness>(
+fn make_text<Listener: Witness>(
     alloc: Global,
     script: Script,
     schedule: Schedule,
-    witness: &mut W2,
+    witness: &mut Listener,
 ) -> Result<Made<RunEnd>, RunFault>
     requires few { calls_in script.lists ≤ CALL_LIMIT }
     ensures output { IfOk result (λ made. IsOutput schedule script made.end made.text.items) }
@@ -118,11 +118,11 @@ fn make_text<W2: Witness>(
 }
 
 /// The same of the script that a text has, which is let go once it is read.
-fn text_of_script<W2: Witness>(
+fn text_of_script<Listener: Witness>(
     alloc: Global,
     text: Vec<u8>,
     schedule: Schedule,
-    witness: &mut W2,
+    witness: &mut Listener,
 ) -> Result<Made<RunEnd>, RunFault>
     ensures { MakesRun schedule text.items result }
 {
@@ -151,12 +151,12 @@ pub fn run_bytes(alloc: Global, script: &[u8], schedule: Schedule) -> Result<Vec
 /// Reads a script to its end, runs it by a schedule, and writes the text of the run, which is made before its first
 /// byte is written. The answer says how many calls began, took their place and returned, in all pieces of the run; the text
 /// is that of the last piece. Whoever is told of progress hears of each round, drawn event and word.
-pub fn run_script<R: Source, W: Sink, W2: Witness>(
+pub fn run_script<R: Source, W: Sink, Listener: Witness>(
     alloc: Global,
     reader: &mut R,
     writer: &mut W,
     schedule: Schedule,
-    witness: &mut W2,
+    witness: &mut Listener,
 ) -> Result<RunEnd, RunFault>
     requires reads { R.failures reader.old < 2 ^ 64 - 1 }
     requires writes { W.failures writer.old < 2 ^ 64 - 1 }
@@ -177,21 +177,21 @@ pub fn run_script<R: Source, W: Sink, W2: Witness>(
     ensures whole { IfOk result (λ end. schedule ≢ Schedule.Given → IsWhole end) }
     ensures finish { IfOk result (λ end. IfSome (R.remaining reader.old) (λ input. HasFinish input → IsWhole end)) }
 
-    // A device is blamed only where it failed in this call.
-    ensures read { IsErrOf result RunFault.Read → R.failures reader.new ≡ R.failures reader.old + 1 }
-    ensures write { IsErrOf result RunFault.Write → W.failures writer.new ≡ W.failures writer.old + 1 }
-
-    // After a failed write a beginning of the text stands, and after every other error nothing was written.
-    ensures nothing { result ≢ Err RunFault.Write → OnErr result (writer.new ≡ writer.old) }
+    // A device is blamed only where it failed in this call; after a failed write a beginning of the text stands, and after every
+    // other error nothing was written.
+    ensures devices { KeepsDevices R.failures W.failures reader.old reader.new writer.old writer.new RunFault.Read RunFault.Write result }
     ensures beginning { IsErrOf result RunFault.Write → (end : RunEnd) × (text : List ℕ) × IfSome (R.remaining reader.old) (λ input. AreOfTheRun schedule input end text) × WritesBeginning text (W.contents writer.old) (W.contents writer.new) }
 {
-    let end = transform(
+    let ended = transform(
         alloc,
         reader,
         writer,
         |text| -> Result<Made<RunEnd>, RunFault>
             ensures { MakesRun schedule text.items result }
         { text_of_script(alloc, text, schedule, witness) },
-    )?;
-    Ok(end)
+    );
+    match ended {
+        Ok(end) => Ok(end),
+        Err(failure) => Err(between(failure)),
+    }
 }

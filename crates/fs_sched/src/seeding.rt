@@ -6,7 +6,7 @@ ghost use Rattle.fs_calls.specs.Starts.{root_start};
 ghost use Rattle.fs_words.specs.declared.fault.ScriptFault.{ScriptFault};
 ghost use Rattle.fs_script.specs.Script.{script_of};
 ghost use Rattle.fs_script.specs.declared.limits.TheConstants.{CALL_LIMIT};
-ghost use Rattle.fs_sched.specs.Devices.{WritesBeginning};
+ghost use Rattle.fs_sched.specs.Devices.{KeepsDevices, WritesBeginning};
 ghost use Rattle.fs_sched.specs.Runs.{Runs, calls_in};
 ghost use Rattle.fs_sched.specs.Seeds.{seed_line, lawful_line, IsLawfulFrom, AreLawful, AreRunsOf};
 ghost use Rattle.fs_sched.specs.code.Mades.{MakesRuns};
@@ -21,7 +21,7 @@ use fs_journal::check_from;
 use fs_script::Script;
 use fs_text::Addition;
 use fs_timeline::Verdict;
-use fs_verdict::{RunFault, is_lawful, push_verdict};
+use fs_verdict::{RunFault, between, is_lawful, push_verdict};
 use fs_witness::{Silent, Witness};
 use std::alloc::{AllocError, Global};
 
@@ -83,12 +83,12 @@ fn push_run(
 }
 
 /// The lines of so many runs, drawn from a number, the next one, and so on, and whether each says that its run is lawful.
-fn make_lines<W2: Witness>(
+fn make_lines<Listener: Witness>(
     alloc: Global,
     script: &Script,
     seed: u64,
     runs: u64,
-    witness: &mut W2,
+    witness: &mut Listener,
 ) -> Result<Made<bool>, RunFault>
     requires few { calls_in script.now.lists ≤ CALL_LIMIT }
     requires seed { seed ≤ SEED_LIMIT }
@@ -113,12 +113,12 @@ fn make_lines<W2: Witness>(
 }
 
 /// The same of the script that a text has, which is let go once it is read.
-fn lines_of_script<W2: Witness>(
+fn lines_of_script<Listener: Witness>(
     alloc: Global,
     text: Vec<u8>,
     seed: u64,
     runs: u64,
-    witness: &mut W2,
+    witness: &mut Listener,
 ) -> Result<Made<bool>, RunFault>
     requires seed { seed ≤ SEED_LIMIT }
     requires runs { runs ≤ RUN_LIMIT }
@@ -132,13 +132,13 @@ fn lines_of_script<W2: Witness>(
 /// Reads a script to its end, runs it so many times, by the threads that are drawn from a number, the next one, and so
 /// on, has each run's journal checked, and writes a line for each: `seed`, the number, and the verdict. The answer is
 /// whether each is lawful, and by the clauses it is. All lines are made before the first byte is written. Whoever is told of progress hears of each run.
-pub fn run_seeds<R: Source, W: Sink, W2: Witness>(
+pub fn run_seeds<R: Source, W: Sink, Listener: Witness>(
     alloc: Global,
     reader: &mut R,
     writer: &mut W,
     seed: u64,
     runs: u64,
-    witness: &mut W2,
+    witness: &mut Listener,
 ) -> Result<bool, RunFault>
     requires reads { R.failures reader.old < 2 ^ 64 - 1 }
     requires writes { W.failures writer.old < 2 ^ 64 - 1 }
@@ -154,15 +154,12 @@ pub fn run_seeds<R: Source, W: Sink, W2: Witness>(
     ensures full { result ≢ Err RunFault.Full }
     ensures under_way { (call : ℕ) → result ≢ Err (RunFault.UnderWay call) }
 
-    // A device is blamed only where it failed in this call.
-    ensures read { IsErrOf result RunFault.Read → R.failures reader.new ≡ R.failures reader.old + 1 }
-    ensures write { IsErrOf result RunFault.Write → W.failures writer.new ≡ W.failures writer.old + 1 }
-
-    // After a failed write a beginning of the lines stands, and after every other error nothing was written.
-    ensures nothing { result ≢ Err RunFault.Write → OnErr result (writer.new ≡ writer.old) }
+    // A device is blamed only where it failed in this call; after a failed write a beginning of the lines stands, and after every
+    // other error nothing was written.
+    ensures devices { KeepsDevices R.failures W.failures reader.old reader.new writer.old writer.new RunFault.Read RunFault.Write result }
     ensures beginning { IsErrOf result RunFault.Write → (text : List ℕ) × IfSome (R.remaining reader.old) (λ input. AreRunsOf seed runs input text) × WritesBeginning text (W.contents writer.old) (W.contents writer.new) }
 {
-    let lawful = transform(
+    let ended = transform(
         alloc,
         reader,
         writer,
@@ -171,6 +168,9 @@ pub fn run_seeds<R: Source, W: Sink, W2: Witness>(
             requires runs { runs ≤ RUN_LIMIT }
             ensures { MakesRuns seed runs text.items result }
         { lines_of_script(alloc, text, seed, runs, witness) },
-    )?;
-    Ok(lawful)
+    );
+    match ended {
+        Ok(lawful) => Ok(lawful),
+        Err(failure) => Err(between(failure)),
+    }
 }
