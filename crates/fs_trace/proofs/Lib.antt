@@ -1,4 +1,3 @@
-mod Between
 mod Lining
 mod Making
 mod Wording

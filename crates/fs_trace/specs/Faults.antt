@@ -1,9 +1,6 @@
 -- The faults of schedules that are written.
 use Rattle.std.specs.Prelude.{ℕ, List}
-use Rattle.fs_io.specs.declared.failure.Failure.{Failure}
-use Rattle.fs_io.specs.declared.failure.Failure.TheVariants as failure
 use Rattle.fs_sched.specs.Faults.{status_of_fault}
-use Rattle.fs_verdict.specs.declared.fault.RunFault.TheVariants as run
 use Rattle.fs_sched.specs.declared.schedule.Schedule.{Schedule}
 use Rattle.fs_sched.specs.Runs.{IsFaultOfRun}
 use Rattle.fs_trace.specs.declared.fault.ScheduleFault.{ScheduleFault}
@@ -14,13 +11,6 @@ abbrev pub status_of_schedule : ScheduleFault → ℕ
 status_of_schedule (Run fault) = status_of_fault fault
 status_of_schedule TooManyEvents = 4
 status_of_schedule TooLong = 4
-
--- the fault between a reader and a writer
-abbrev pub fault_between : Failure ScheduleFault → ScheduleFault
-fault_between failure.Read = Run run.Read
-fault_between failure.Write = Run run.Write
-fault_between failure.OutOfMemory = Run run.OutOfMemory
-fault_between (failure.Unmade f) = f
 
 -- the fault of a schedule that is written: why the run is not recorded, or no room for its events
 abbrev pub IsFaultOfSchedule : Schedule → List ℕ → ScheduleFault → Type 0

@@ -1,9 +1,8 @@
 //! Why no schedule of a run was written.
 
 ghost use Rattle.std.specs.Prelude.{◌≡◌};
-ghost use Rattle.fs_trace.specs.Faults.{fault_between, status_of_schedule};
+ghost use Rattle.fs_trace.specs.Faults.{status_of_schedule};
 
-use fs_io::Failure;
 use fs_sched::RunFault;
 use thiserror::Error;
 
@@ -33,16 +32,12 @@ impl ScheduleFault {
     }
 }
 
-/// The fault between a reader and a writer.
-impl From<Failure<ScheduleFault>> for ScheduleFault {
-    ghost from_gives = { λ failure fault. fault ≡ fault_between failure };
+impl From<RunFault> for ScheduleFault {
+    ghost use Rattle.fs_trace.specs.declared.fault.ScheduleFault.TheVariants.{Run};
 
-    fn from(failure: Failure<ScheduleFault>) -> ScheduleFault {
-        match failure {
-            Failure::Read => ScheduleFault::Run(RunFault::Read),
-            Failure::Write => ScheduleFault::Run(RunFault::Write),
-            Failure::OutOfMemory => ScheduleFault::Run(RunFault::OutOfMemory),
-            Failure::Unmade(fault) => fault,
-        }
+    ghost from_gives = { λ run fault. fault ≡ Run run };
+
+    fn from(fault: RunFault) -> ScheduleFault {
+        ScheduleFault::Run(fault)
     }
 }

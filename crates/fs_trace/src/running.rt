@@ -4,7 +4,7 @@ ghost use Rattle.std.specs.Prelude.{◌≡◌, ◌≢◌, ◌+◌, ◌-◌, ◌<
 ghost use Rattle.std.specs.Io.KnownBytes.{Appends, IsAtEnd};
 ghost use Rattle.fs_words.specs.declared.fault.ScriptFault.{ScriptFault};
 ghost use Rattle.fs_script.specs.Script.{script_of};
-ghost use Rattle.fs_sched.specs.Devices.{WritesBeginning};
+ghost use Rattle.fs_sched.specs.Devices.{KeepsDevices, WritesBeginning};
 ghost use Rattle.fs_sched.specs.Runs.{ReachesStop};
 ghost use Rattle.fs_trace.specs.Traces.{IsScheduleOf, IsTraceOf};
 ghost use Rattle.fs_trace.specs.code.Mades.{MakesSchedule, MakesTrace};
@@ -13,7 +13,7 @@ use crate::fault::ScheduleFault;
 use crate::script_text::{RunWords, script_text};
 use crate::trace_text::trace_text;
 use fs_io::{Made, Sink, Source, transform};
-use fs_sched::{RunEnd, RunFault, Schedule, script_in, watch};
+use fs_sched::{RunEnd, RunFault, Schedule, between, script_in, watch};
 use fs_story::Teller;
 use std::alloc::Global;
 
@@ -82,23 +82,23 @@ pub fn trace_script<R: Source, W: Sink>(
     // `UnderWay` comes where the script comes to a checkpoint while calls are under way; then it has no run.
     ensures under_way { (call : ℕ) → result ≡ Err (RunFault.UnderWay call) → IfSome (R.remaining reader.old) (λ input. ReachesStop schedule input (RunFault.UnderWay call)) }
 
-    // A device is blamed only where it failed in this call.
-    ensures read { IsErrOf result RunFault.Read → R.failures reader.new ≡ R.failures reader.old + 1 }
-    ensures write { IsErrOf result RunFault.Write → W.failures writer.new ≡ W.failures writer.old + 1 }
-
-    // After a failed write a beginning of the text stands, and after every other error nothing was written.
-    ensures nothing { result ≢ Err RunFault.Write → OnErr result (writer.new ≡ writer.old) }
+    // A device is blamed only where it failed in this call; after a failed write a beginning of the text stands, and after every
+    // other error nothing was written.
+    ensures devices { KeepsDevices R.failures W.failures reader.old reader.new writer.old writer.new RunFault.Read RunFault.Write result }
     ensures beginning { IsErrOf result RunFault.Write → (end : RunEnd) × (text : List ℕ) × IfSome (R.remaining reader.old) (λ input. IsTraceOf schedule every input end text) × WritesBeginning text (W.contents writer.old) (W.contents writer.new) }
 {
-    let end = transform(
+    let ended = transform(
         alloc,
         reader,
         writer,
         |text| -> Result<Made<RunEnd>, RunFault>
             ensures { MakesTrace schedule every text.items result }
         { trace_of(alloc, text, schedule, every) },
-    )?;
-    Ok(end)
+    );
+    match ended {
+        Ok(end) => Ok(end),
+        Err(failure) => Err(between(failure)),
+    }
 }
 
 /// Reads a script to its end, runs it by a schedule, and writes the script again, up to its line `schedule` byte for byte, with
@@ -122,21 +122,21 @@ pub fn schedule_script<R: Source, W: Sink>(
     // `UnderWay` comes where the script comes to a checkpoint while calls are under way; then it has no run.
     ensures under_way { (call : ℕ) → result ≡ Err (ScheduleFault.Run (RunFault.UnderWay call)) → IfSome (R.remaining reader.old) (λ input. ReachesStop schedule input (RunFault.UnderWay call)) }
 
-    // A device is blamed only where it failed in this call.
-    ensures read { IsErrOf result (ScheduleFault.Run RunFault.Read) → R.failures reader.new ≡ R.failures reader.old + 1 }
-    ensures write { IsErrOf result (ScheduleFault.Run RunFault.Write) → W.failures writer.new ≡ W.failures writer.old + 1 }
-
-    // After a failed write a beginning of the text stands, and after every other error nothing was written.
-    ensures nothing { result ≢ Err (ScheduleFault.Run RunFault.Write) → OnErr result (writer.new ≡ writer.old) }
+    // A device is blamed only where it failed in this call; after a failed write a beginning of the text stands, and after every
+    // other error nothing was written.
+    ensures devices { KeepsDevices R.failures W.failures reader.old reader.new writer.old writer.new (ScheduleFault.Run RunFault.Read) (ScheduleFault.Run RunFault.Write) result }
     ensures beginning { IsErrOf result (ScheduleFault.Run RunFault.Write) → (text : List ℕ) × IfSome (R.remaining reader.old) (λ input. IsScheduleOf schedule input text) × WritesBeginning text (W.contents writer.old) (W.contents writer.new) }
 {
-    let done = transform(
+    let ended = transform(
         alloc,
         reader,
         writer,
         |text| -> Result<Made<()>, ScheduleFault>
             ensures { MakesSchedule schedule text.items result }
         { schedule_of(alloc, text, schedule) },
-    )?;
-    Ok(done)
+    );
+    match ended {
+        Ok(done) => Ok(done),
+        Err(failure) => Err(between(failure)),
+    }
 }
