@@ -1,5 +1,5 @@
 -- The line of what was read is the line of the input, and its number is that of the script's calls.
-use Rattle.std.proofs.Common.{◌≡◌, ◌≢◌, ℕ, ◌+◌, cond, List, [], ◌∷◌, length, map, sum_by, Option, Some, None, Result, refl, sym, ap, ◌∙◌, arith}
+use Rattle.std.proofs.Common.{◌≡◌, ℕ, ◌+◌, cond, List, [], ◌∷◌, length, map, sum_by, Option, Some, None, Result, refl, sym, ap, ◌∙◌, arith}
 use Rattle.std.specs.Prelude.{IfSome}
 use Rattle.std.proofs.lemmas.List.Sums.{sum_by-cons}
 use Rattle.fs_calls.specs.declared.call.Call.{Call}
@@ -15,9 +15,7 @@ use Rattle.fs_verdict.specs.declared.fault.RunFault.TheVariants as run
 use Rattle.fs_sched.specs.declared.run_texts.EntryKind.TheVariants as kind
 use Rattle.fs_sched.proofs.RunLemmas.{script_same}
 use Rattle.fs_share.specs.Returns.{returns}
-use Rattle.fs_io.specs.declared.failure.Failure.{Failure}
-use Rattle.fs_io.specs.declared.failure.Failure.TheVariants as failure
-use Rattle.fs_threads.specs.Faults.{IsOfInput, fault_between}
+use Rattle.fs_threads.specs.Faults.{IsOfInput}
 use Rattle.fs_threads.specs.code.ThreadFaults.{IsOfThreads}
 use Rattle.fs_threads.specs.Lines.{IsLineOf}
 use Rattle.fs_threads.specs.declared.fault.ThreadsFault.{ThreadsFault}
@@ -41,20 +39,6 @@ calls_are f len h (x ∷ xs) = omega (arith, sum_by-cons len x xs, h x, calls_ar
 pub known_line : (r : Option (List ℕ)) (text items line : List ℕ) → text ≡ items → IfSome r (IsSameText items) → IsLineOf text line → IfSome r (λ input. IsLineOf input line)
 known_line None text items line e s h = tt
 known_line (Some input) text items line e s h = (h.0, sym (script_same items input s) ∙ sym (ap script_of e) ∙ h.1, h.2)
-
--- a fault of the input is why no line was made
-pub of_input : (g : Failure ThreadsFault) (f : ScriptFault) → Run (run.Input f) ≡ fault_between g → g ≡ failure.Unmade (Run (run.Input f))
-of_input failure.Read f e = absurd (cc)
-of_input failure.Write f e = absurd (cc)
-of_input failure.OutOfMemory f e = absurd (cc)
-of_input (failure.Unmade h) f e = ap failure.Unmade (sym e)
-
--- the writer failed, where what makes a line does not blame it
-pub of_write : (g : Failure ThreadsFault) → ((f : ThreadsFault) → g ≡ failure.Unmade f → f ≢ Run run.Write) → Run run.Write ≡ fault_between g → g ≡ failure.Write
-of_write failure.Read never e = absurd (cc)
-of_write failure.Write never e = refl
-of_write failure.OutOfMemory never e = absurd (cc)
-of_write (failure.Unmade h) never e = absurd (never h refl (sym e))
 
 -- a fault of the threads is one with any input
 pub input_of_threads : (given : Result Script ScriptFault) (fault : ThreadsFault) → IsOfThreads fault → IsOfInput given fault

@@ -1,10 +1,9 @@
 //! Why a script's threads ended without their line written.
 
 ghost use Rattle.std.specs.Prelude.{◌≡◌};
-ghost use Rattle.fs_threads.specs.Faults.{threads_fault_of, fault_between};
+ghost use Rattle.fs_threads.specs.Faults.{threads_fault_of};
 
 use fs_core::Refusal;
-use fs_io::Failure;
 use fs_sched::RunFault;
 use fs_share::ListsFault;
 use thiserror::Error;
@@ -21,17 +20,13 @@ pub enum ThreadsFault {
     Lists(ListsFault),
 }
 
-/// The fault of threads between a reader and a writer.
-impl From<Failure<ThreadsFault>> for ThreadsFault {
-    ghost from_gives = { λ failure fault. fault ≡ fault_between failure };
+impl From<RunFault> for ThreadsFault {
+    ghost use Rattle.fs_threads.specs.declared.fault.ThreadsFault.TheVariants.{Run};
 
-    fn from(failure: Failure<ThreadsFault>) -> ThreadsFault {
-        match failure {
-            Failure::Read => ThreadsFault::Run(RunFault::Read),
-            Failure::Write => ThreadsFault::Run(RunFault::Write),
-            Failure::OutOfMemory => ThreadsFault::Run(RunFault::OutOfMemory),
-            Failure::Unmade(fault) => fault,
-        }
+    ghost from_gives = { λ run fault. fault ≡ Run run };
+
+    fn from(fault: RunFault) -> ThreadsFault {
+        ThreadsFault::Run(fault)
     }
 }
 

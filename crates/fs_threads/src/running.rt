@@ -5,7 +5,7 @@ ghost use Rattle.std.specs.Io.KnownBytes.{Appends, IsAtEnd};
 ghost use Rattle.fs_words.specs.declared.fault.ScriptFault.{ScriptFault};
 ghost use Rattle.fs_timeline.specs.Timeline.{IsLawful};
 ghost use Rattle.fs_script.specs.Script.{script_of};
-ghost use Rattle.fs_sched.specs.Devices.{WritesBeginning};
+ghost use Rattle.fs_sched.specs.Devices.{KeepsDevices, WritesBeginning};
 ghost use Rattle.fs_sched.specs.Runs.{calls_in};
 ghost use Rattle.fs_sched.specs.RunTexts.{number_of};
 ghost use Rattle.fs_threads.specs.code.ThreadFaults.{IsOfThreads, MakesLine};
@@ -16,7 +16,7 @@ use crate::line::make_line;
 use crate::watch::Watch;
 use fs_calls::Call;
 use fs_io::{Made, Sink, Source, transform};
-use fs_sched::{EntryKind, RunFault, run_fault};
+use fs_sched::{EntryKind, RunFault, between, run_fault};
 use fs_script::read_script;
 use fs_seq::SeqTree;
 use fs_share::{Closed, Limits, run_lists_with};
@@ -113,21 +113,21 @@ pub fn run_threads<R: Threads + Wait + Clock + Sync, S: Source, W: Sink, G: Watc
     ensures end { OnOk result (IsAtEnd (S.remaining reader.new)) }
     ensures input { (f : ScriptFault) → result ≡ Err (ThreadsFault.Run (RunFault.Input f)) → IfSome (S.remaining reader.old) (λ input. script_of input ≡ Err f) }
 
-    // A device is blamed only where it failed in this call.
-    ensures read { IsErrOf result (ThreadsFault.Run RunFault.Read) → S.failures reader.new ≡ S.failures reader.old + 1 }
-    ensures write { IsErrOf result (ThreadsFault.Run RunFault.Write) → W.failures writer.new ≡ W.failures writer.old + 1 }
-
-    // After a failed write a beginning of the line stands, and after every other error nothing was written.
-    ensures nothing { result ≢ Err (ThreadsFault.Run RunFault.Write) → OnErr result (writer.new ≡ writer.old) }
+    // A device is blamed only where it failed in this call; after a failed write a beginning of the line stands, and after every
+    // other error nothing was written.
+    ensures devices { KeepsDevices S.failures W.failures reader.old reader.new writer.old writer.new (ThreadsFault.Run RunFault.Read) (ThreadsFault.Run RunFault.Write) result }
     ensures beginning { IsErrOf result (ThreadsFault.Run RunFault.Write) → (line : List ℕ) × IfSome (S.remaining reader.old) (λ input. IsLineOf input line) × WritesBeginning line (W.contents writer.old) (W.contents writer.new) }
 {
-    let lawful = transform(
+    let ended = transform(
         alloc,
         reader,
         writer,
         |text| -> Result<Made<bool>, ThreadsFault>
             ensures { MakesLine text.items result }
         { line_of_script(rt, alloc, &text, watch) },
-    )?;
-    Ok(lawful)
+    );
+    match ended {
+        Ok(lawful) => Ok(lawful),
+        Err(failure) => Err(between(failure)),
+    }
 }
