@@ -10,28 +10,28 @@ ghost use Rattle.fs_embed.specs.Statuses.{IsRefusal, IsToldFault, TellsFault, Te
 
 use crate::handles::limits_of;
 use crate::told::tell;
+use fs_embed::path_fault;
 use fs_embed::status::{
     BAD_VERSION, CLOSED, NO_MEMORY, OK, UNDER_WAY, UNTOLD, fault_status, path_status,
 };
-use fs_embed::{NoText, check_text, path_fault, run_text};
-use fs_sched::Schedule;
+use fs_sched::{RunFault, Schedule, check_bytes, run_bytes};
 use std::alloc::Global;
 
 /// Tells why a run has no text: its number, and the line of a fault of the input, or the number of a call under way.
-fn tell_fault(fault: NoText, count: &mut usize) -> u8
+fn tell_fault(fault: RunFault, count: &mut usize) -> u8
     ensures told { IsToldFault fault result count.new }
     ensures refused { IsRefusal result }
 {
     match fault {
-        NoText::Input(fault) => {
+        RunFault::Input(fault) => {
             *count = fault.line as usize;
             fault_status(fault.kind)
         }
-        NoText::OutOfMemory => NO_MEMORY,
-        NoText::UnderWay(call) => {
+        RunFault::UnderWay(call) => {
             *count = call.get() as usize;
             UNDER_WAY
         }
+        _ => NO_MEMORY,
     }
 }
 
@@ -44,7 +44,7 @@ pub extern "C" fn atomfs_run(alloc: Global, script: &[u8], out: &mut [u8], count
     ensures told { result ≢ CLOSED }
     ensures only { (result < UNTOLD) ⊎ IsRefusal result }
 {
-    match run_text(alloc, script, Schedule::Given) {
+    match run_bytes(alloc, script, Schedule::Given) {
         Ok(text) => tell(text.as_slice(), out, count),
         Err(fault) => tell_fault(fault, count),
     }
@@ -64,7 +64,7 @@ pub extern "C" fn atomfs_check(
     ensures told { result ≢ CLOSED }
     ensures only { (result < UNTOLD) ⊎ IsRefusal result }
 {
-    match check_text(alloc, journal) {
+    match check_bytes(alloc, journal) {
         Ok(line) => tell(line.as_slice(), out, count),
         Err(fault) => tell_fault(fault, count),
     }

@@ -2,6 +2,5 @@ pub mod Calls
 pub mod Keeping
 pub mod Looks
 pub mod Requests
-pub mod Runs
 pub mod Texts
 pub mod Statuses

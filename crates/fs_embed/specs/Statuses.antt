@@ -11,9 +11,10 @@ use Rattle.fs_core.specs.declared.checkpoint.NoCheckpoint.TheVariants as not_aga
 use Rattle.fs_embed.specs.declared.calls.NotBegun.{NotBegun}
 use Rattle.fs_embed.specs.declared.calls.NotBegun.TheVariants as not_begun
 use Rattle.fs_sched.specs.declared.schedule.Schedule.{Schedule}
-use Rattle.fs_embed.specs.Runs.{IsNoText, IsNoRun}
-use Rattle.fs_embed.specs.declared.runs.NoText.{NoText}
-use Rattle.fs_embed.specs.declared.runs.NoText.TheVariants.{Input, OutOfMemory, UnderWay}
+use Rattle.fs_sched.specs.Devices.{IsFaultOf}
+use Rattle.fs_sched.specs.Runs.{IsFaultOfRun}
+use Rattle.fs_verdict.specs.declared.fault.RunFault.{RunFault}
+use Rattle.fs_verdict.specs.declared.fault.RunFault.TheVariants.{Input, UnderWay}
 use Rattle.fs_embed.specs.declared.calls.NotReturned.{NotReturned}
 use Rattle.fs_embed.specs.declared.calls.NotReturned.TheVariants as not_returned
 use Rattle.fs_words.specs.declared.fault.FaultKind.{FaultKind}
@@ -101,19 +102,19 @@ begin_status not_begun.NoSeat = NO_SEAT
 begin_status (not_begun.Unread k) = fault_status k
 begin_status (not_begun.Refused refusal) = refusal_status refusal
 
--- of the reason why a run has no text, with the line of a fault of the input or the number of a call under way
-abbrev pub IsToldFault : NoText → ℕ → ℕ → Type 0
+-- of the reason why a run has no text, with the line of a fault of the input or the number of a call under way; bytes in memory are there to be read and written, so else memory ran out
+abbrev pub IsToldFault : RunFault → ℕ → ℕ → Type 0
 IsToldFault (Input fault) status line = (status ≡ fault_status fault.kind) × (line ≡ fault.line)
-IsToldFault OutOfMemory status line = status ≡ NO_MEMORY
 IsToldFault (UnderWay call) status line = (status ≡ UNDER_WAY) × (line ≡ call)
+IsToldFault why status line = status ≡ NO_MEMORY
 
 -- a status and a line tell why what an input gives has no text
 abbrev pub TellsFault : {X : Type 0} → Result X ScriptFault → ℕ → ℕ → Type 0
-TellsFault given status line = (why : NoText) × IsNoText given why × IsToldFault why status line
+TellsFault given status line = (why : RunFault) × IsFaultOf given why × IsToldFault why status line
 
 -- the same of a run of a script
 abbrev pub TellsNoRun : Schedule → List ℕ → ℕ → ℕ → Type 0
-TellsNoRun schedule script status line = (why : NoText) × IsNoRun schedule script why × IsToldFault why status line
+TellsNoRun schedule script status line = (why : RunFault) × IsFaultOfRun schedule script why × IsToldFault why status line
 
 -- of the reason why a call did not return, with the number of a call that is under way
 abbrev pub IsToldWhy : NotReturned → ℕ → ℕ → Type 0

@@ -5,8 +5,8 @@
 //! return, or as far as it goes before it waits for a call of another seat. `begin_kept` and `run_kept` do so in a core that
 //! forgets by itself (`keep_last`). A request that is refused leaves the core as it
 //! was, and the answer says why: `status` has its number. `reply_text`, `names_text`, `journal_text`, `opening_text`,
-//! `whole_journal` and `tree_text` are texts of a core, and `names_behind` the part of a reply's names that fits; `run_text` and `check_text` have the work
-//! of the runners over bytes. No function has a `requires`.
+//! `whole_journal` and `tree_text` are texts of a core, and `names_behind` the part of a reply's names that fits. No function has a
+//! `requires`. A script or a journal in memory is run and checked by `run_bytes` and `check_bytes` of `fs_sched`.
 //!
 //! Enter at `run_call`. The definitions are in `specs/`: `Requests` says which call is asked for, `Calls` what begins,
 //! steps and calls do, by the machine of `fs_machine`, `Texts` what the texts are, and `Statuses` which number an answer has.
@@ -18,7 +18,6 @@ mod looks;
 mod names;
 mod pieces;
 mod request;
-mod runs;
 pub mod status;
 mod texts;
 
@@ -30,5 +29,4 @@ pub use looks::kind_of;
 pub use names::{names_behind, names_text};
 pub use pieces::{opening_text, whole_journal};
 pub use request::{Request, path_fault};
-pub use runs::{NoText, check_text, run_text};
 pub use texts::{copy_out, find_reply, journal_text, reply_text, tree_text};

@@ -1,8 +1,7 @@
 //! Long scripts, from their bytes to the bytes of their runs, and the journals of these runs, which are checked.
 
 use anyhow::{Result, bail};
-use fs_embed::{check_text, run_text};
-use fs_sched::Schedule;
+use fs_sched::{Schedule, check_bytes, run_bytes};
 use hex::encode_to_slice;
 use std::alloc::Global;
 use workload_trees::{Digest, Drawing, add_number};
@@ -264,10 +263,10 @@ impl Draft {
 
 /// The digest of a script's run, and of the verdict on its journal.
 fn played(alloc: Global, script: &[u8], schedule: Schedule) -> Result<u64> {
-    let Ok(text) = run_text(alloc, script, schedule) else {
+    let Ok(text) = run_bytes(alloc, script, schedule) else {
         bail!("a script that was drawn did not run");
     };
-    let Ok(verdict) = check_text(alloc, &text) else {
+    let Ok(verdict) = check_bytes(alloc, &text) else {
         bail!("the journal of a run was not read");
     };
     let mut digest = Digest::new();
