@@ -4,6 +4,7 @@ import errno
 import os
 import pathlib
 import pickle
+import re
 import threading
 import time
 import unittest
@@ -405,6 +406,23 @@ class Seats(OfTree):
         other.finish()
         self.refuses(atomfs.Status.NO_REPLY, seat.reply)
 
+    def test_names(self):
+        """The name of a seat stands in the journal, in each piece of it, as a comment."""
+        writer = self.tree.seat(name="writer")
+        self.assertEqual((writer.name, self.tree.seat().name), ("writer", None))
+        writer.begin.mkdir("/a")
+        writer.finish()
+        begins = "begin 1 1 mkdir /a\ncommit 1\nreturn 1 ok\n"
+        self.assertEqual(self.tree.journal(), "atomfs-journal 3\n# seat 1 writer\nstart\ndir /\nentries\n" + begins)
+        self.assertEqual((self.tree.check(), self.tree.checkpoint()), ("lawful", self.tree.journal().replace("dir /a\n", "") + begins))
+        for name in ("", "Writer", "a b", "a\n", "finish", "a" * 17, "writer"):
+            with self.subTest(name):
+                self.assertRaises(ValueError, self.tree.seat, name)
+        self.assertEqual(self.tree.seat().number, 3)
+        with atomfs.Tree(limits=atomfs.Limits.V1) as tree:
+            tree.seat(name="w")
+            self.assertEqual((tree.journal(), tree.check()), ("atomfs-journal 1\n# seat 1 w\n", "lawful"))
+
     def test_helping(self):
         """A rename helps a mkdir that is half-way below the directory that it moves."""
         self.tree.mkdir("/a")
@@ -500,6 +518,51 @@ class Threads(OfTree):
         seats = [self.tree.seat() for _ in range(4)]
         self.together([lambda seat=seat: work(seat) for seat in seats])
         self.assertEqual(self.tree.journal().count("\nreturn "), 1200)
+
+    def seats_of(self, pattern):
+        """The seats of the calls of the journal that match."""
+        return re.findall(rf"(?m)^begin \d+ (\d+) {pattern}", self.tree.journal())
+
+    def test_seat_of_a_thread(self):
+        """Each thread has one seat, and what a thread that has ended leaves is of another."""
+        self.tree.mkdir("/main")
+        for round_ in range(3):
+            barrier = threading.Barrier(4)
+
+            def work(thread):
+                self.tree.mkdir(f"/{round_}_{thread}")
+                barrier.wait(10)
+                self.tree.stat(f"/{round_}_{thread}")
+
+            self.together([lambda thread=thread: work(thread) for thread in range(4)])
+            self.assertEqual(sorted(self.seats_of(f"mkdir /{round_}_")), ["1", "2", "3", "4"])
+            for thread in range(4):
+                self.assertEqual(self.seats_of(f"stat /{round_}_{thread}"), self.seats_of(f"mkdir /{round_}_{thread}"))
+        self.assertEqual((self.seats_of("mkdir /main"), self.tree.seat().number), (["0"], 5))
+
+    def test_seat_of_a_call_that_waits(self):
+        """A call that waits keeps the seat; its thread goes on with another, and no thread gets the first."""
+        seat = self.tree.seat()
+        seat.begin.mkdir("/a")
+        seat.step()
+        waiting = []
+
+        def wait():
+            with self.assertRaises(atomfs.WaitsError) as raised:
+                self.tree.stat("/")
+            waiting.append(raised.exception.seat)
+
+        self.together([wait])
+        seat.finish()
+        self.assertEqual(waiting[0].number, 2)
+        self.together([lambda: self.tree.stat("/a")])
+        self.assertEqual(self.seats_of("stat /a"), ["3"])
+        self.assertEqual(waiting[0].finish(), Stat(True, 1))
+
+    def test_closed_tree(self):
+        """A thread that comes to a closed tree gets no seat, and its error."""
+        self.tree.close()
+        self.together([lambda: self.assertRaises(atomfs.ClosedError, self.tree.stat, "/")])
 
     def test_pieces(self):
         """A thread hands the journal out whenever no call is under way, and no other misses a reply by that."""

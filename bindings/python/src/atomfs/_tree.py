@@ -1,7 +1,6 @@
 """Trees, and seats on which calls are made step by step."""
 from __future__ import annotations
 
-import contextlib
 import ctypes
 import io
 import operator
@@ -13,7 +12,7 @@ import time
 import weakref
 from typing import IO, Any, Callable, Dict, Iterator, List, Mapping, NamedTuple, NoReturn, Optional, Tuple, Type, TypeVar, Union, overload
 
-from . import _load, _rows, _walk
+from . import _load, _rows, _seats, _walk
 from ._errors import AnyPath, Error, WaitsError, encoded, error_at, error_of
 from ._file import open_file
 from ._library import NODE_LIMIT, TEXT_LIMIT, Call, CStat, Did, Handle, Library, Limits, Request, Status, library
@@ -25,6 +24,8 @@ StrPath = Union[str, "os.PathLike[str]"]
 Data = Union[bytes, bytearray, memoryview]
 Reply = Union[None, "Stat", List[str], bytes, int]
 
+# The name of a thread in a script.
+NAME = r"(?!finish\Z)[a-z][a-z0-9_]{0,15}"
 # Room for the names of a full directory, and for the bytes of most files: where a file has more, the room becomes longer.
 _ROOM = 65_537
 
@@ -117,7 +118,7 @@ class Tree:
     """A tree of at most `limit` nodes, its root included, with the journal of its calls. `limits` bounds its names and files.
 
     Threads may share it: each method holds `lock`, which is re-entrant, so that `with tree.lock:` keeps the other threads off
-    for several calls. Paths are absolute; those of `str` are UTF-8. `with` closes it.
+    for several calls. The calls of a thread are on a seat of its own, by which the journal tells threads apart. Paths are absolute; those of `str` are UTF-8. `with` closes it.
     """
 
     def __init__(self, limit: int = NODE_LIMIT, *, limits: Limits = Limits.V2, room: int = _ROOM) -> None:
@@ -139,8 +140,11 @@ class Tree:
             raise ValueError(f"the limit of nodes is 1 to {NODE_LIMIT:,}")
         if status := self._library.open_with(self._at, self.limit, self.limits.value):
             raise error_of(self._library, status)
-        # The seat of the tree's own calls.
-        self._own = self.seat().number
+        # The seat of each thread's calls: the first is of the thread that has made the tree.
+        self._mine = _seats.Mine(self._library, self._at, [])
+        # The names of seats that have one.
+        self._names: Dict[int, str] = {}
+        self._mine.number  # noqa: B018
 
     # ---- Open and closed
 
@@ -294,7 +298,7 @@ class Tree:
         """What stands at a path."""
         raw = encoded(path)
         with self.lock:
-            status = self._library.stat(self._at, self._own, raw, len(raw), self._at_stat, self._at_number)
+            status = self._library.stat(self._at, self._mine.number, raw, len(raw), self._at_stat, self._at_number)
             if status:
                 raise self._error(status, Call.STAT, path)
             return _stat_of(self._stat)
@@ -310,7 +314,7 @@ class Tree:
         raw, room = encoded(path), self._room
         with self.lock:
             status = self._library.readdir(
-                self._at, self._own, raw, len(raw), room.at, room.size, room.at_count, self._at_number
+                self._at, self._mine.number, raw, len(raw), room.at, room.size, room.at_count, self._at_number
             )
             if status in (Status.TOO_SMALL, Status.UNTOLD):
                 names = self._told_names(self._number.value, (path,))
@@ -338,7 +342,7 @@ class Tree:
             count = min(count, max(room.size, self.stat(path).size))
             room.make(max(room.size, count))
         status = self._library.read(
-            self._at, self._own, raw, len(raw), offset, room.at, count, room.at_count, self._at_number
+            self._at, self._mine.number, raw, len(raw), offset, room.at, count, room.at_count, self._at_number
         )
         if status == Status.UNTOLD:
             status = self._library.reply_bytes(self._at, self._number.value, room.at, room.size, room.at_count)
@@ -351,7 +355,7 @@ class Tree:
         raw, offset, data = encoded(path), _number(offset, "offset"), _bytes_of(data)
         with self.lock:
             status = self._library.write(
-                self._at, self._own, raw, len(raw), offset, data, len(data), self._at_wrote, self._at_number
+                self._at, self._mine.number, raw, len(raw), offset, data, len(data), self._at_wrote, self._at_number
             )
             if status:
                 raise self._error(status, Call.WRITE, path)
@@ -361,30 +365,27 @@ class Tree:
         """Cuts a file to a size, or adds zeros up to it."""
         raw, size = encoded(path), _number(size, "size")
         with self.lock:
-            if status := self._library.truncate(self._at, self._own, raw, len(raw), size, self._at_number):
+            if status := self._library.truncate(self._at, self._mine.number, raw, len(raw), size, self._at_number):
                 raise self._error(status, Call.TRUNCATE, path)
 
     def _on_path(self, function: Any, call: Call, path: AnyPath) -> None:
         raw = encoded(path)
         with self.lock:
-            if status := function(self._at, self._own, raw, len(raw), self._at_number):
+            if status := function(self._at, self._mine.number, raw, len(raw), self._at_number):
                 raise self._error(status, call, path)
 
     def _on_paths(self, function: Any, call: Call, path: AnyPath, other: AnyPath) -> None:
         raw, raw_other = encoded(path), encoded(other)
         with self.lock:
-            if status := function(self._at, self._own, raw, len(raw), raw_other, len(raw_other), self._at_number):
+            if status := function(self._at, self._mine.number, raw, len(raw), raw_other, len(raw_other), self._at_number):
                 raise self._error(status, call, path, other)
 
     def _error(self, status: int, call: Call, *paths: AnyPath) -> Exception:
-        """The exception of a call that did not come to its reply. One that waits keeps its seat, and the tree takes another."""
+        """The exception of a call that did not come to its reply. One that waits keeps its seat, and the thread takes another."""
         if status != Status.WAITS:
             return error_at(self, status, paths)
-        seat = Seat(self, self._own)
+        seat = Seat(self, self._mine.leave())
         seat._began(call, self._number.value, paths)
-        # Without memory for another, the seat is the tree's own again when the call has returned.
-        with contextlib.suppress(MemoryError):
-            self._own = self.seat().number
         return WaitsError(self._library.words(status), self._number.value, seat)
 
     def _told_names(self, number: int, paths: Tuple[AnyPath, ...]) -> List[bytes]:
@@ -531,7 +532,12 @@ class Tree:
         """The journal since the tree was opened, or since its last checkpoint: what `check` reads."""
         with self.lock:
             opening = _text(self._library, self._room, self._library.opening, self._at)
-            return opening + self._entries(0)
+            return self._named(opening + self._entries(0))
+
+    def _named(self, journal: str) -> str:
+        """A journal with a comment for each seat that has a name."""
+        header, lines = journal.split("\n", 1)
+        return "\n".join([header, *(f"# seat {number} {name}" for number, name in self._names.items()), lines])
 
     def check(self) -> str:
         """The verdict on the journal: `lawful`, or the first entry at fault.
@@ -555,7 +561,7 @@ class Tree:
                     raise error_of(self._library, status, about=self._number.value if status == Status.UNDER_WAY else 0)
                 room.make(room.count.value)
             self._checkpoints += 1
-            return room.told().decode("ascii")
+            return self._named(room.told().decode("ascii"))
 
     def tree(self) -> str:
         """The text of the tree: a line for each node."""
@@ -564,13 +570,17 @@ class Tree:
 
     # ---- Schedules
 
-    def seat(self) -> Seat:
-        """A new seat, on which calls are made step by step."""
-        number = ctypes.c_uint64()
+    def seat(self, name: Optional[str] = None) -> Seat:
+        """A new seat, on which calls are made step by step. Its name, as of a thread of a script, stands in the journal, in a comment."""
+        if name is not None and not re.fullmatch(NAME, name, re.A):
+            raise ValueError(f"a name is a letter, then at most 15 of a to z, 0 to 9 and _, and not finish; this is {name!r}")
         with self.lock:
-            if status := self._library.seat(self._at, ctypes.addressof(number)):
-                raise error_of(self._library, status)
-        return Seat(self, number.value)
+            if name in self._names.values():
+                raise ValueError(f"another seat has the name {name!r}")
+            number = _seats.added(self._library, self._at)
+            if name is not None:
+                self._names[number] = name
+        return Seat(self, number, name)
 
     def step_any(self) -> Optional[Tuple[int, Step]]:
         """Makes one step of a call that does not wait, whichever it is: the number of its seat, and what the step did.
@@ -613,8 +623,8 @@ def _bytes_of(data: Any, what: str = "write") -> bytes:
 class Seat:
     """A place for one call under way. `begin` begins a call, `step` makes one step of it, `finish` makes the rest."""
 
-    def __init__(self, tree: Tree, number: int) -> None:
-        self.tree, self.number = tree, number
+    def __init__(self, tree: Tree, number: int, name: Optional[str] = None) -> None:
+        self.tree, self.number, self.name = tree, number, name
         self._call: Optional[Call] = None
         self._call_number, self._checkpoints = 0, 0
         self._paths: Tuple[AnyPath, ...] = ()
