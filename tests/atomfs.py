@@ -303,6 +303,22 @@ class Tree:
         except Error as error:
             raise Error(error.status, number.value) from None
 
+    def forget(self):
+        """How many calls are forgotten: the journal begins again at the tree as it stands."""
+        number = ctypes.c_uint64()
+        self.done(self.library.atomfs_forget(self.handle, number), number.value)
+        return number.value
+
+    def keep(self, most):
+        """From now on more calls than so many are forgotten before one begins."""
+        self.done(self.library.atomfs_keep(self.handle, most))
+
+    def verdict(self):
+        """The place of the first entry that does not fit and what is wrong with it, or 0 and 0."""
+        place, kind = ctypes.c_uint64(), ctypes.c_uint8()
+        self.done(self.library.atomfs_verdict(self.handle, place, kind))
+        return place.value, kind.value
+
     def tree(self):
         """The text of the tree as it stands now."""
         return self.library.text(lambda *told: self.library.atomfs_tree(self.handle, *told))

@@ -6,6 +6,7 @@ with heap.c in the place of its heap, and plays the calls below; tests/model.py 
 CHECKS names another program than crates/checks/out/checks, ARCHIVE another archive than crates/atomfs_c/out/libatomfs_c.a.
 """
 import concurrent.futures
+import contextlib
 import ctypes
 import errno
 import itertools
@@ -496,6 +497,58 @@ class Library(Case):
     def test_checkpoint(self):
         growths = self.checkpointed(LISTS["one seat"], 0)
         self.each(((f"growth {number}", LISTS["one seat"], number) for number in range(1, growths + 1)), self.checkpointed)
+
+    @contextlib.contextmanager
+    def behind_calls(self):
+        """A tree on which calls of one seat were made."""
+        self.heap.refuse(0, 0)
+        with Played(self, self.library) as tree:
+            tree.opened([0])
+            for _, line in LISTS["one seat"]:
+                tree.by_call(0, line)
+            yield tree
+        self.nothing_is_held()
+
+    def refuses(self, number, ask, *given):
+        """What a function answers where the growth of a number is refused, and how many were asked for and refused."""
+        self.heap.refuse(number, number)
+        answer = status_of(ask, *given)
+        growths, refusals = self.heap.growths(), self.heap.refusals()
+        self.heap.refuse(0, 0)
+        return answer, growths, refusals
+
+    def looked_at(self, name, wanted, number=0):
+        """A verdict or a forgetting where the growth of a number is refused, and another one."""
+        with self.behind_calls() as tree:
+            (status, answer), growths, refusals = self.refuses(number, getattr(tree, name))
+            self.same(f"the status of {name}", status, Status.NO_MEMORY if refusals else Status.OK)
+            if refusals:
+                tree.is_unchanged(name)
+                answer = getattr(tree, name)()
+            self.same(f"what {name} answers", answer, wanted)
+            self.same("the tree", tree.tree(), tree.wanted.tree())
+            self.same("the entries that are left", tree.entries()[1], 0 if name == "forget" else 3 * tree.wanted.count)
+        return growths
+
+    def test_verdict_and_forget(self):
+        rows = ("verdict", (0, 0)), ("forget", len(LISTS["one seat"]))
+        self.each(((f"{name}, growth {number}", name, wanted, number) for name, wanted in rows for number in range(1, 1 + self.looked_at(name, wanted))), self.looked_at)
+
+    def kept(self, number=0):
+        """A call of a tree that forgets, where the growth of a number is refused, and another one. Whether what stood before stayed, and the call went on."""
+        with self.behind_calls() as tree:
+            tree.keep(0)
+            (status, answer), growths, refusals = self.refuses(number, tree.make, 0, b"stat /")
+            self.assertIn(status, (Status.OK, Status.UNTOLD, Status.NO_MEMORY) if refusals else (Status.OK,))
+            self.same("the tree", tree.tree(), tree.wanted.tree())
+            self.same("the number of the next call", tree.make(0, b"stat /")[0], 1)
+        return growths, status == Status.OK and answer[0] == 1 + len(LISTS["one seat"])
+
+    def test_keep(self):
+        """Where there is no memory to forget, the call goes on, and the next one forgets."""
+        growths, went_on = self.kept()
+        self.assertFalse(went_on)
+        self.assertTrue(any([self.kept(number)[1] for number in range(1, 1 + growths)]))
 
     def test_steps(self):
         """Calls step by step: a begin may lack memory, and no step."""
