@@ -139,11 +139,10 @@ def test_closed(pytester):
 
 
 def test_large_journal(pytester):
-    """A journal that is too large to be checked is a warning."""
+    """A journal is checked also where no text could hold it."""
     text = """
         def test_one(atom_tree):
             for at in range(9):
                 atom_tree.write_bytes("/f", bytes(1_048_576))
     """
-    result = outcomes(pytester, text, passed=1, warnings=1)
-    result.stdout.fnmatch_lines(["*PytestWarning: atom_tree is not checked: the journal has more than 16,777,216 bytes*"])
+    outcomes(pytester, text, passed=1)

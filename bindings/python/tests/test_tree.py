@@ -230,14 +230,114 @@ class Words(OfTree):
             self.assertEqual(self.says(atomfs.Error, words, call).status, kind)
 
     def test_a_large_journal(self):
-        """A journal that is too large to be checked says what to do, and its pieces are checked."""
+        """A journal that no text of the library could hold is checked as it stands."""
         self.tree.mknod("/f")
         for _ in range(9):
             self.tree.write("/f", 0, bytes(1_048_576))
-        words = "the journal has more than 16,777,216 bytes: checkpoint, and check the pieces"
-        self.assertEqual(self.says(atomfs.Error, words, self.tree.check).status, atomfs.Status.TOO_LARGE)
-        self.tree.checkpoint()
+        self.assertGreater(len(self.tree.journal()), 16_777_216)
         self.assertEqual(self.tree.check(), "lawful")
+
+
+class Kept(OfTree):
+    """How many calls a journal keeps."""
+
+    def numbers(self, tree):
+        return tree.calls_before, tree.calls
+
+    def test_all(self):
+        for _ in range(50):
+            self.tree.stat("/")
+        self.assertEqual((self.tree.keeps, *self.numbers(self.tree)), (atomfs.ALL, 0, 50))
+
+    def test_last(self):
+        with atomfs.Tree(journal=atomfs.LAST(10)) as tree:
+            tree.mkdir("/a")
+            for number in range(1, 40):
+                self.assertEqual(self.numbers(tree), ((number - 1) // 11 * 11, (number - 1) % 11 + 1))
+                tree.stat("/a")
+            self.assertEqual((tree.check(), tree.readdir("/")), ("lawful", ["a"]))
+            self.assertEqual(atomfs.check(tree.journal()), "lawful")
+            # It begins with the tree that the calls before have left.
+            self.assertIn("\ndir /a\n", tree.journal())
+
+    def test_none(self):
+        with atomfs.Tree(journal=atomfs.NONE) as tree:
+            tree.mknod("/f")
+            tree.write("/f", 0, b"hello")
+            with self.assertRaises(FileNotFoundError):
+                tree.stat("/g")
+            self.assertEqual((tree.read("/f"), *self.numbers(tree)), (b"hello", 3, 1))
+
+    def test_told_later(self):
+        """What is kept can be said at any time, also none and then all again."""
+        for _ in range(20):
+            self.tree.stat("/")
+        self.tree.keep(atomfs.LAST(5))
+        self.tree.stat("/")
+        self.assertEqual(self.numbers(self.tree), (20, 1))
+        self.tree.keep(atomfs.ALL)
+        for _ in range(20):
+            self.tree.stat("/")
+        self.assertEqual(self.numbers(self.tree), (20, 21))
+
+    def test_refused(self):
+        """A call that does not begin is none that stands."""
+        with atomfs.Tree(2, journal=atomfs.LAST(3)) as tree:
+            tree.mkdir("/a")
+            for _ in range(10):
+                self.assertRaises(OSError, tree.mkdir, "/b")
+                self.assertRaises(OSError, tree.mkdir, "no path")
+            self.assertEqual((tree.calls_before + tree.calls, tree.readdir("/")), (1, ["a"]))
+
+    def test_replies(self):
+        """The reply of a call that is forgotten is no other call's."""
+        with atomfs.Tree(journal=atomfs.NONE) as tree:
+            seat = tree.seat()
+            seat.begin.stat("/")
+            while seat.step().did != atomfs.Did.RETURN:
+                pass
+            self.assertEqual(seat.reply(), atomfs.Stat(True, 0))
+            tree.mkdir("/a")
+            self.assertRaises(atomfs.Error, seat.reply)
+
+    def test_under_way(self):
+        """Nothing is forgotten amid a call, and by hand neither."""
+        with atomfs.Tree(journal=atomfs.NONE) as tree:
+            tree.mkdir("/a")
+            seat = tree.seat()
+            seat.begin.stat("/a")
+            for _ in range(5):
+                tree.stat("/")
+            self.assertEqual(self.numbers(tree), (1, 6))
+            self.assertRaises(atomfs.UnderWayError, tree.forget)
+            self.assertEqual(seat.finish(), atomfs.Stat(True, 0))
+            self.assertEqual((tree.forget(), *self.numbers(tree), tree.check()), (6, 7, 0, "lawful"))
+
+    def test_checkpoints(self):
+        for _ in range(4):
+            self.tree.stat("/")
+        self.tree.checkpoint()
+        self.tree.stat("/")
+        self.assertEqual(self.numbers(self.tree), (4, 1))
+
+    def test_copies(self):
+        """A copy keeps as many."""
+        with atomfs.Tree(journal=atomfs.LAST(7)) as tree:
+            with copy.copy(tree) as other:
+                self.assertEqual(other.keeps, atomfs.LAST(7))
+
+    def test_bad_words(self):
+        for most in (-1, 2**32 - 1):
+            self.assertRaises(ValueError, atomfs.LAST, most)
+        self.assertRaises(TypeError, atomfs.LAST, 1.5)
+
+    def test_memory(self):
+        """A tree that forgets does not grow: of as many calls as would take 50 MB no entry is left that was."""
+        with atomfs.Tree(journal=atomfs.LAST(1_000)) as tree:
+            for _ in range(100_000):
+                tree.stat("/")
+            self.assertLessEqual(tree.calls, 1_001)
+            self.assertEqual(tree.calls_before + tree.calls, 100_000)
 
 
 class OpenAndClosed(OfTree):

@@ -11,6 +11,7 @@
 `atomfs.fs` is the same as a file system of PyFilesystem2, `atomfs.fsspec` as one of fsspec.
 """
 from ._errors import ClosedError, Error, UnderWayError, WaitsError
+from ._journal import ALL, LAST, NONE, Journal
 from ._library import NODE_LIMIT, PATH_LIMIT, Did, Limits, Status
 from ._library import library as _shared_object
 from ._load import Snapshot, diff
@@ -26,12 +27,16 @@ def library_version() -> str:
 
 
 __all__ = [
+    "ALL",
     "Begin",
     "ClosedError",
     "Did",
     "Error",
+    "Journal",
+    "LAST",
     "Limits",
     "NODE_LIMIT",
+    "NONE",
     "PATH_LIMIT",
     "Path",
     "Seat",

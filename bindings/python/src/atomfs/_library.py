@@ -13,6 +13,8 @@ PATH_LIMIT = 64
 ENTRY_LIMIT = 256
 # The most bytes of a script or a journal as a text.
 TEXT_LIMIT = 16_777_216
+# The number by which a tree keeps all calls.
+KEEP_ALL = 2**32 - 1
 # From this status on a call has failed, and the rest is the number of its error.
 FAILED = 128
 
@@ -76,6 +78,18 @@ class Status(enum.IntEnum):
     def kind(self) -> str:
         """The word that the program `atomfs` has for it: `BadLine` for `BAD_LINE`."""
         return "".join(part.title() for part in self.name.split("_"))
+
+
+class Fault(enum.IntEnum):
+    """What is wrong with an entry of a journal, by the words of the program `atomfs`."""
+
+    BeginTwice = 1
+    SeatBusy = 2
+    CommitUnbegun = 3
+    CommitTwice = 4
+    ReturnUncommitted = 5
+    ReturnTwice = 6
+    WrongReply = 7
 
 
 class Did(enum.IntEnum):
@@ -157,6 +171,9 @@ _ARGUMENTS: Dict[str, List[Any]] = {
     "journal": [_AT, _SIZE, *_TOLD, _AT],
     "opening": [_AT, *_TOLD],
     "checkpoint": [_AT, *_TOLD, _AT],
+    "forget": [_AT, _AT],
+    "keep": [_AT, ctypes.c_uint32],
+    "verdict": [_AT, _AT, _AT],
     "tree": [_AT, *_TOLD],
     "run": [*_GIVEN, *_TOLD],
     "check": [*_GIVEN, *_TOLD],
@@ -165,7 +182,7 @@ _ARGUMENTS: Dict[str, List[Any]] = {
 
 
 # What may take long, and lets other threads of Python run meanwhile. A call takes less time than it takes to let them.
-_LONG = {"close", "journal", "checkpoint", "tree", "run", "check"}
+_LONG = {"close", "journal", "checkpoint", "forget", "verdict", "tree", "run", "check"}
 
 
 class Library:

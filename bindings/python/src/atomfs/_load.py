@@ -11,6 +11,7 @@ from typing import IO, TYPE_CHECKING, Any, Callable, Dict, Iterator, List, Mappi
 
 from . import _rows
 from ._errors import error_at
+from ._journal import ALL, Journal
 from ._library import Limits, Status
 from ._walk import parent_of
 
@@ -109,9 +110,9 @@ def into(tree: _Tree) -> Iterator[_Tree]:
         raise
 
 
-def of_snapshot(kind: Type[_Tree], limit: int, snapshot: Snapshot) -> _Tree:
-    """A new tree of this kind that is as the snapshot."""
-    with into(kind(limit, limits=snapshot.limits)) as tree:
+def of_snapshot(kind: Type[_Tree], limit: int, snapshot: Snapshot, journal: Journal = ALL) -> _Tree:
+    """A new tree of this kind that is as the snapshot, and keeps as many calls as it is told."""
+    with into(kind(limit, limits=snapshot.limits, journal=journal)) as tree:
         restore(tree, snapshot)
     return tree
 

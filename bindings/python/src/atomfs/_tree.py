@@ -15,7 +15,8 @@ from typing import IO, Any, Callable, Dict, Iterator, List, Mapping, NamedTuple,
 from . import _load, _rows, _seats, _walk
 from ._errors import AnyPath, Error, WaitsError, encoded, error_at, error_of
 from ._file import open_file
-from ._library import NODE_LIMIT, TEXT_LIMIT, Call, CStat, Did, Handle, Library, Limits, Request, Status, library
+from ._journal import ALL, Journal, Noting, Standing
+from ._library import NODE_LIMIT, Call, CStat, Did, Fault, Handle, Library, Limits, Request, Status, library
 from ._load import Snapshot
 from ._path import Path, class_of
 
@@ -117,13 +118,18 @@ def _decoded(names: List[bytes]) -> List[str]:
 class Tree:
     """A tree of at most `limit` nodes, its root included, with the journal of its calls. `limits` bounds its names and files.
 
+    `journal` says how many calls it keeps: `ALL`, `LAST(10_000)` or `NONE`. A tree that keeps all grows with every call.
+
     Threads may share it: each method holds `lock`, which is re-entrant, so that `with tree.lock:` keeps the other threads off
     for several calls. The calls of a thread are on a seat of its own, by which the journal tells threads apart. Paths are absolute; those of `str` are UTF-8. `with` closes it.
     """
 
-    def __init__(self, limit: int = NODE_LIMIT, *, limits: Limits = Limits.V2, room: int = _ROOM) -> None:
+    def __init__(
+        self, limit: int = NODE_LIMIT, *, limits: Limits = Limits.V2, room: int = _ROOM, journal: Journal = ALL
+    ) -> None:
         self.lock = threading.RLock()
-        self._library, self._handle = library(), Handle()
+        self._handle = Handle()
+        self._library: Any = library()
         self._stat, self._number, self._wrote = CStat(), ctypes.c_uint64(), ctypes.c_uint64()
         self._at, self._at_stat = ctypes.addressof(self._handle), ctypes.addressof(self._stat)
         self._at_number, self._at_wrote = ctypes.addressof(self._number), ctypes.addressof(self._wrote)
@@ -134,8 +140,10 @@ class Tree:
         self.limit = _number(limit, "limit")
         # The class of this tree's paths.
         self._paths: Optional[weakref.ref[Type[Path]]] = None
-        # How many checkpoints there were: call numbers begin at 1 again behind each.
-        self._checkpoints = 0
+        #: How many calls the journal keeps, as `keep` has said it last.
+        self.keeps = ALL
+        # Call numbers begin at 1 again where the journal does.
+        self._standing = Standing()
         if not 0 < self.limit <= NODE_LIMIT:
             raise ValueError(f"the limit of nodes is 1 to {NODE_LIMIT:,}")
         if status := self._library.open_with(self._at, self.limit, self.limits.value):
@@ -145,6 +153,8 @@ class Tree:
         # The names of seats that have one.
         self._names: Dict[int, str] = {}
         self._mine.number  # noqa: B018
+        if journal != ALL:
+            self.keep(journal)
 
     # ---- Open and closed
 
@@ -170,7 +180,7 @@ class Tree:
 
     def __reduce__(self) -> Any:
         # A copy, a deep copy and an unpickled tree begin a journal of their own at the tree as it is now.
-        return _load.of_snapshot, (self.__class__, self.limit, self.snapshot())
+        return _load.of_snapshot, (self.__class__, self.limit, self.snapshot(), self.keeps)
 
     # ---- In and out: a new tree begins its journal behind what it is filled with, and is closed where that fails
 
@@ -502,7 +512,7 @@ class Tree:
 
     @property
     def calls(self) -> int:
-        """How many calls have begun since the tree was opened, or since its last checkpoint."""
+        """How many calls stand in the journal: those since the tree was opened, handed it out, or forgot."""
         with self.lock:
             self._entries(2**63 - 1)
             count, size = self._room.entries.value, 3
@@ -528,8 +538,34 @@ class Tree:
         """The lines of the journal from an entry on."""
         return _text(self._library, self._room, self._library.journal, self._at, first, more=(self._room.at_entries,))
 
+    @property
+    def calls_before(self) -> int:
+        """How many calls there were before those of the journal: handed out by checkpoints, or forgotten."""
+        return self._standing.before
+
+    def keep(self, journal: Journal) -> None:
+        """Says how many calls the journal keeps from now on."""
+        with self.lock:
+            # The numbers of calls tell when some are forgotten, so the last one so far is looked up.
+            self._standing.last = self.calls
+            if status := self._library.keep(self._at, journal.most):
+                raise error_of(self._library, status)
+            of = library()
+            self.keeps, self._library = journal, of if journal == ALL else Noting(of, self._standing)
+
+    def forget(self) -> int:
+        """Lets the journal begin again at the tree as it stands, and answers how many calls are forgotten.
+
+        It raises `UnderWayError` while a call is under way.
+        """
+        with self.lock:
+            if status := self._library.forget(self._at, self._at_number):
+                raise error_of(self._library, status, about=self._number.value if status == Status.UNDER_WAY else 0)
+            self._standing.begin_again(self._number.value)
+            return self._number.value
+
     def journal(self) -> str:
-        """The journal since the tree was opened, or since its last checkpoint: what `check` reads."""
+        """The journal: what `check` of the package reads. Its first call is the one behind `calls_before` others."""
         with self.lock:
             opening = _text(self._library, self._room, self._library.opening, self._at)
             return self._named(opening + self._entries(0))
@@ -540,14 +576,15 @@ class Tree:
         return "\n".join([header, *(f"# seat {number} {name}" for number, name in self._names.items()), lines])
 
     def check(self) -> str:
-        """The verdict on the journal: `lawful`, or the first entry at fault.
+        """The verdict on the journal as it stands, without a text: `lawful`, or the first entry at fault.
 
-        A journal of more than 16,777,216 bytes as a text is too large: checkpoint, and check the pieces.
+        By the proof it is always `lawful`. What was forgotten, or handed out by a checkpoint, is not looked at.
         """
-        journal = self.journal()
-        if len(journal) > TEXT_LIMIT:
-            raise Error(Status.TOO_LARGE, f"the journal has more than {TEXT_LIMIT:,} bytes: checkpoint, and check the pieces")
-        return check(journal)
+        place, kind = ctypes.c_uint64(), ctypes.c_uint8()
+        with self.lock:
+            if status := self._library.verdict(self._at, ctypes.addressof(place), ctypes.addressof(kind)):
+                raise error_of(self._library, status)
+        return f"fault {place.value} {Fault(kind.value).name}" if kind.value else "lawful"
 
     def checkpoint(self) -> str:
         """Hands the journal out, and lets it begin again at the tree as it stands, which frees its memory.
@@ -560,7 +597,7 @@ class Tree:
                 if status != Status.TOO_SMALL:
                     raise error_of(self._library, status, about=self._number.value if status == Status.UNDER_WAY else 0)
                 room.make(room.count.value)
-            self._checkpoints += 1
+            self._standing.begin_again(self._number.value)
             return self._named(room.told().decode("ascii"))
 
     def tree(self) -> str:
@@ -626,7 +663,7 @@ class Seat:
     def __init__(self, tree: Tree, number: int, name: Optional[str] = None) -> None:
         self.tree, self.number, self.name = tree, number, name
         self._call: Optional[Call] = None
-        self._call_number, self._checkpoints = 0, 0
+        self._call_number, self._begun_again = 0, 0
         self._paths: Tuple[AnyPath, ...] = ()
 
     @property
@@ -636,7 +673,7 @@ class Seat:
 
     def _began(self, call: Call, number: int, paths: Tuple[AnyPath, ...]) -> None:
         self._call, self._call_number, self._paths = call, number, paths
-        self._checkpoints = self.tree._checkpoints
+        self._begun_again = self.tree._standing.begun_again
 
     def _begin(self, call: Call, *paths: AnyPath, offset: int = 0, size: int = 0, data: bytes = b"") -> int:
         tree, raw = self.tree, [encoded(path) for path in paths]
@@ -680,7 +717,7 @@ class Seat:
         """The reply of the last call that was begun on the seat, once it has returned, or its error raised."""
         tree = self.tree
         with tree.lock:
-            if self._call is None or self._checkpoints != tree._checkpoints:
+            if self._call is None or self._begun_again != tree._standing.begun_again:
                 raise error_of(tree._library, Status.NO_REPLY)
             if self._call == Call.STAT:
                 self._done(tree._library.reply_stat, tree._at_stat)

@@ -26,6 +26,7 @@ from fs.path import basename
 
 from . import NODE_LIMIT, PATH_LIMIT, Limits, Stat, Tree
 from ._file import open_file
+from ._journal import OF_FILE_SYSTEMS, Journal
 from ._walk import GONE, joined
 
 if TYPE_CHECKING:
@@ -65,7 +66,7 @@ def _of(path: str, kinds: _Kinds, action: str) -> Iterator[None]:
 class AtomFS(FS):
     """A tree as a file system: one that is given, which stays open, or a new one, which is closed with it.
 
-    A new tree has at most `limit` nodes, and names and files by `limits`.
+    A new tree has at most `limit` nodes, and names and files by `limits`, and keeps the last 10,000 calls, or what `journal` says.
     """
 
     _meta = {
@@ -79,11 +80,13 @@ class AtomFS(FS):
         "virtual": False,
     }
 
-    def __init__(self, tree: Optional[Tree] = None, limit: int = NODE_LIMIT, limits: Limits = Limits.V2) -> None:
+    def __init__(
+        self, tree: Optional[Tree] = None, limit: int = NODE_LIMIT, limits: Limits = Limits.V2, journal: Journal = OF_FILE_SYSTEMS
+    ) -> None:
         super().__init__()
         self._owns = tree is None
         #: The tree itself.
-        self.atom_tree = Tree(limit, limits=limits) if tree is None else tree
+        self.atom_tree = Tree(limit, limits=limits, journal=journal) if tree is None else tree
 
     def __repr__(self) -> str:
         return f"AtomFS({self.atom_tree!r})"

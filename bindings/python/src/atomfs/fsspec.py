@@ -24,6 +24,7 @@ from fsspec.utils import stringify_path  # type: ignore[import]
 
 from . import Tree
 from ._file import AnyFile, open_file
+from ._journal import OF_FILE_SYSTEMS
 from ._walk import GONE, joined
 
 
@@ -88,7 +89,7 @@ class AtomFileSystem(AbstractFileSystem):  # type: ignore[misc]
     def _of_the_process(cls) -> Tree:
         with AtomFileSystem._making:
             if AtomFileSystem._shared is None or AtomFileSystem._shared.closed:
-                AtomFileSystem._shared = Tree()
+                AtomFileSystem._shared = Tree(journal=OF_FILE_SYSTEMS)
             return AtomFileSystem._shared
 
     @classmethod

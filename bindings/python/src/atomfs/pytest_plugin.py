@@ -15,13 +15,11 @@ from __future__ import annotations
 
 import os
 import pathlib
-import warnings
 from typing import TYPE_CHECKING, Any, Dict, Generator, Iterator, Mapping, Tuple
 
 import pytest
 
-from ._errors import Error
-from ._library import NODE_LIMIT, Limits, Status
+from ._library import NODE_LIMIT, Limits
 from ._load import Snapshot, of_snapshot
 from ._path import Path
 from ._tree import Tree
@@ -74,22 +72,11 @@ def atom_tree(request: pytest.FixtureRequest) -> Iterator[Tree]:
     if tree.closed:
         return
     try:
-        verdict = _verdict(tree)
+        verdict = tree.check()
         if verdict != "lawful":
             pytest.fail(f"the journal of atom_tree: {verdict}\n{_shown(tree)}", pytrace=False)
     finally:
         tree.close()
-
-
-def _verdict(tree: Tree) -> str:
-    """The verdict; where the journal is too large for one, a warning."""
-    try:
-        return tree.check()
-    except Error as error:
-        if error.status != Status.TOO_LARGE:
-            raise
-        warnings.warn(pytest.PytestWarning(f"atom_tree is not checked: {error}"))
-        return "lawful"
 
 
 @pytest.fixture
