@@ -1,5 +1,6 @@
 -- What a picture is of, and whether that went well.
-use Rattle.std.specs.Prelude.{ℕ, ◌≡◌, ◌⊎◌, Bool, ◌==◌, List, ◌++◌, Ok, codes}
+use Rattle.std.specs.Prelude.{ℕ, ◌≡◌, Bool, true, false, ◌==◌, List, ◌++◌, Ok, codes}
+use Rattle.std.specs.List.{starts_with}
 use Rattle.fs_timeline.specs.declared.verdict.Verdict.{Verdict}
 use Rattle.fs_script.specs.Script.{script_of}
 use Rattle.fs_script.specs.declared.script.Script.{Script}
@@ -10,6 +11,10 @@ use Rattle.fs_sched.specs.declared.schedule.Schedule.{Schedule}
 use Rattle.fs_witness.specs.Moments.{entries_told}
 use Rattle.fs_sched.specs.Moments.{TellsRun}
 use Rattle.fs_witness.specs.declared.moments.Moment.{Moment}
+
+-- whether an input is read as a journal: by its first bytes
+abbrev pub is_journal : List ℕ → Bool
+is_journal input = starts_with (λ a b. a == b) input (codes "atomfs-journal")
 
 -- whether each call of a script returned
 abbrev pub has_returned : RunEnd → Bool
@@ -28,6 +33,11 @@ IsOfJournal input well = (v : Verdict) × (verdict_of input ≡ Ok v) × (well �
 abbrev pub IsPicture : List ℕ → Type 0
 IsPicture text = (middle : List ℕ) × (text ≡ codes "<svg " ++ (middle ++ codes "</svg>\n"))
 
--- the picture of a run of the script that an input has, or of its journal, and whether that went well
+-- what an input shows: its journal, or a run of its script
+abbrev pub IsOf : Bool → Schedule → List ℕ → Bool → Type 0
+IsOf true schedule input well = IsOfJournal input well
+IsOf false schedule input well = IsOfRun schedule input well
+
+-- the picture of an input's journal, where it has the first bytes of one, and else of a run of its script; and whether that went well
 abbrev pub IsPictureOf : Schedule → List ℕ → Bool → List ℕ → Type 0
-IsPictureOf schedule input well text = (IsOfRun schedule input well ⊎ IsOfJournal input well) × IsPicture text
+IsPictureOf schedule input well text = IsOf (is_journal input) schedule input well × IsPicture text

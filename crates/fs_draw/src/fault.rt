@@ -1,9 +1,8 @@
 //! Why no picture was written.
 
 ghost use Rattle.std.specs.Prelude.{◌≡◌};
-ghost use Rattle.fs_draw.specs.Faults.{fault_between, status_of_draw};
+ghost use Rattle.fs_draw.specs.Faults.{status_of_draw};
 
-use fs_io::Failure;
 use fs_sched::RunFault;
 use thiserror::Error;
 
@@ -30,16 +29,12 @@ impl DrawFault {
     }
 }
 
-/// The fault between a reader and a writer.
-impl From<Failure<DrawFault>> for DrawFault {
-    ghost from_gives = { λ failure fault. fault ≡ fault_between failure };
+impl From<RunFault> for DrawFault {
+    ghost use Rattle.fs_draw.specs.declared.fault.DrawFault.TheVariants.{Run};
 
-    fn from(failure: Failure<DrawFault>) -> DrawFault {
-        match failure {
-            Failure::Read => DrawFault::Run(RunFault::Read),
-            Failure::Write => DrawFault::Run(RunFault::Write),
-            Failure::OutOfMemory => DrawFault::Run(RunFault::OutOfMemory),
-            Failure::Unmade(fault) => fault,
-        }
+    ghost from_gives = { λ run fault. fault ≡ Run run };
+
+    fn from(fault: RunFault) -> DrawFault {
+        DrawFault::Run(fault)
     }
 }

@@ -1,14 +1,12 @@
 //! The runner that draws a script's run, or a journal.
 
-ghost use Rattle.std.specs.Prelude.{◌≡◌, ◌≢◌, ◌⊎◌, ◌+◌, ◌-◌, ◌<◌, ◌^◌, ℕ, Bool, List, Option, Ok, Err, Some, IfOk, OnOk, OnErr, IfErr, IfSome, IsErrOf};
+ghost use Rattle.std.specs.Prelude.{◌≡◌, ◌≢◌, ◌+◌, ◌-◌, ◌<◌, ◌^◌, ℕ, Bool, true, false, List, Option, Ok, Err, Some, IfOk, OnOk, OnErr, IfErr, IfSome, IsErrOf};
 ghost use Rattle.std.specs.Io.KnownBytes.{Appends, IsAtEnd};
 ghost use Rattle.fs_words.specs.declared.fault.ScriptFault.{ScriptFault};
-ghost use Rattle.fs_script.specs.Script.{script_of};
-ghost use Rattle.fs_sched.specs.Checks.{verdict_of};
-ghost use Rattle.fs_sched.specs.Devices.{WritesBeginning};
+ghost use Rattle.fs_sched.specs.Devices.{KeepsDevices, WritesBeginning};
 ghost use Rattle.fs_sched.specs.Runs.{ReachesStop};
-ghost use Rattle.fs_draw.specs.Faults.{IsFaultOfPicture};
-ghost use Rattle.fs_draw.specs.Pictures.{IsOfJournal, IsOfRun, IsPictureOf};
+ghost use Rattle.fs_draw.specs.Faults.{HasFault, IsFaultBy, IsFaultOfPicture};
+ghost use Rattle.fs_draw.specs.Pictures.{IsOf, IsOfJournal, IsOfRun, IsPictureOf, is_journal};
 ghost use Rattle.fs_draw.specs.code.Mades.{MakesPicture, out_of_memory};
 
 use crate::fault::DrawFault;
@@ -16,7 +14,7 @@ use crate::picture::picture_of;
 use fs_io::{Made, Sink, Source, transform};
 use fs_journal::check_from;
 use fs_scene::{Scene, around, scene_of_journal, scene_of_run};
-use fs_sched::{RunFault, Schedule, is_lawful, journal_in, script_in, watch};
+use fs_sched::{RunFault, Schedule, between, is_lawful, journal_in, script_in, watch};
 use fs_story::Teller;
 use std::alloc::{AllocError, Global};
 
@@ -37,7 +35,7 @@ struct Drawing {
 /// The scene of a script's run, and whether each call returned.
 fn of_script(alloc: Global, text: &[u8], schedule: Schedule) -> Result<Drawing, DrawFault>
     ensures drawn { IfOk result (λ drawing. IsOfRun schedule text.now drawing.well) }
-    ensures fault { (call : Option ℕ) → IfErr result (IsFaultOfPicture schedule call text.now) }
+    ensures fault { (call : Option ℕ) → IfErr result (IsFaultBy false schedule call text.now) }
 {
     let script = match script_in(alloc, text) {
         Ok(script) => script,
@@ -65,7 +63,7 @@ fn of_script(alloc: Global, text: &[u8], schedule: Schedule) -> Result<Drawing, 
 /// The scene of a journal, and whether that is lawful.
 fn of_journal(alloc: Global, text: &[u8]) -> Result<Drawing, DrawFault>
     ensures drawn { IfOk result (λ drawing. IsOfJournal text.now drawing.well) }
-    ensures fault { (schedule : Schedule) (call : Option ℕ) → IfErr result (IsFaultOfPicture schedule call text.now) }
+    ensures fault { (schedule : Schedule) (call : Option ℕ) → IfErr result (IsFaultBy true schedule call text.now) }
 {
     let journal = match journal_in(alloc, text) {
         Ok(journal) => journal,
@@ -84,13 +82,15 @@ fn of_journal(alloc: Global, text: &[u8]) -> Result<Drawing, DrawFault>
 }
 
 /// Whether a text is to be read as a journal.
-fn is_journal(text: &[u8]) -> bool {
+fn is_journal(text: &[u8]) -> bool
+    ensures { result ≡ is_journal text.now }
+{
     text.starts_with(b"atomfs-journal")
 }
 
 /// The scene of a text, and whether what it shows went well.
 fn drawing_of(alloc: Global, text: &[u8], schedule: Schedule) -> Result<Drawing, DrawFault>
-    ensures drawn { IfOk result (λ drawing. IsOfRun schedule text.now drawing.well ⊎ IsOfJournal text.now drawing.well) }
+    ensures drawn { IfOk result (λ drawing. IsOf (is_journal text.now) schedule text.now drawing.well) }
     ensures fault { (call : Option ℕ) → IfErr result (IsFaultOfPicture schedule call text.now) }
 {
     if is_journal(text) {
@@ -147,31 +147,31 @@ pub fn draw_input<R: Source, W: Sink>(
     requires reads { R.failures reader.old < 2 ^ 64 - 1 }
     requires writes { W.failures writer.old < 2 ^ 64 - 1 }
 
-    // What is written is a picture of a run of the script that was read, or of the journal, and the answer how that went.
+    // What is written is a picture of a run of the script that was read, or of the journal, by its first bytes; and the answer how that went.
     ensures ran { IfOk result (λ well. (text : List ℕ) × IfSome (R.remaining reader.old) (λ input. IsPictureOf schedule input well text) × Appends (W.contents writer.old) (W.contents writer.new) text) }
     ensures end { OnOk result (IsAtEnd (R.remaining reader.new)) }
-    ensures input { (f : ScriptFault) → result ≡ Err (DrawFault.Run (RunFault.Input f)) → IfSome (R.remaining reader.old) (λ input. (script_of input ≡ Err f) ⊎ (verdict_of input ≡ Err f)) }
+    ensures input { (f : ScriptFault) → result ≡ Err (DrawFault.Run (RunFault.Input f)) → IfSome (R.remaining reader.old) (λ input. HasFault input f) }
     ensures full { result ≢ Err (DrawFault.Run RunFault.Full) }
     ensures no_call { (number : ℕ) → result ≡ Err (DrawFault.NoCall number) → call ≡ Some number }
 
     // `UnderWay` comes where the script comes to a checkpoint while calls are under way; then it has no run.
     ensures under_way { (c : ℕ) → result ≡ Err (DrawFault.Run (RunFault.UnderWay c)) → IfSome (R.remaining reader.old) (λ input. ReachesStop schedule input (RunFault.UnderWay c)) }
 
-    // A device is blamed only where it failed in this call.
-    ensures read { IsErrOf result (DrawFault.Run RunFault.Read) → R.failures reader.new ≡ R.failures reader.old + 1 }
-    ensures write { IsErrOf result (DrawFault.Run RunFault.Write) → W.failures writer.new ≡ W.failures writer.old + 1 }
-
-    // After a failed write a beginning of the picture stands, and after every other error nothing was written.
-    ensures nothing { result ≢ Err (DrawFault.Run RunFault.Write) → OnErr result (writer.new ≡ writer.old) }
+    // A device is blamed only where it failed in this call; after a failed write a beginning of the picture stands, and after every
+    // other error nothing was written.
+    ensures devices { KeepsDevices R.failures W.failures reader.old reader.new writer.old writer.new (DrawFault.Run RunFault.Read) (DrawFault.Run RunFault.Write) result }
     ensures beginning { IsErrOf result (DrawFault.Run RunFault.Write) → (well : Bool) × (text : List ℕ) × IfSome (R.remaining reader.old) (λ input. IsPictureOf schedule input well text) × WritesBeginning text (W.contents writer.old) (W.contents writer.new) }
 {
-    let well = transform(
+    let ended = transform(
         alloc,
         reader,
         writer,
         |text| -> Result<Made<bool>, DrawFault>
             ensures { MakesPicture schedule call text.items result }
         { draw_text(alloc, text, schedule, call) },
-    )?;
-    Ok(well)
+    );
+    match ended {
+        Ok(well) => Ok(well),
+        Err(failure) => Err(between(failure)),
+    }
 }
