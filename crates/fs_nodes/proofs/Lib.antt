@@ -9,7 +9,8 @@ pub mod EntryLemmas
 pub mod MoveLemmas
 pub mod SwapLemmas
 pub mod SeenLemmas
-pub mod AheadLemmas
+pub mod BehindLemmas
+pub mod HintLemmas
 pub mod IndexLemmas
 pub mod KeyLemmas
 pub mod WalkLemmas

@@ -38,7 +38,9 @@ put_place dir n x prev next m p = record {
   next = cond (eqb m n) next (cond (is_at prev m) (Some n) p.next);
   prev = cond (eqb m n) prev (cond (is_at next m) (Some n) p.prev);
   entries = cond (eqb m dir) (p.entries + 1) p.entries;
-  ahead = p.ahead;
+  root = p.root;
+  left = p.left;
+  right = p.right;
 }
 
 -- the four edits, read at one number
@@ -82,7 +84,7 @@ get_put dir n x prev next ps m =
     ∙ go (eqb m n) (eqb m dir) (slice_get ps m)
   where
     go : (b t : Bool) (o : Option Place) → option_map (λ p. cond b (entered (Some dir) x prev next p) p) (option_map {T = Place} {U = Place} (λ p. record p { prev = cond (is_at next m) (Some n) p.prev }) (option_map {T = Place} {U = Place} (λ p. record p { first = cond (t && is_none prev) (Some n) p.first; next = cond (is_at prev m) (Some n) p.next }) (option_map (λ p. cond t (with_entries (p.entries + 1) p) p) o)))
-        ≡ option_map {T = Place} {U = Place} (λ p. record { content = p.content; name = cond b x p.name; parent = cond b (Some dir) p.parent; first = cond (t && is_none prev) (Some n) p.first; next = cond b next (cond (is_at prev m) (Some n) p.next); prev = cond b prev (cond (is_at next m) (Some n) p.prev); entries = cond t (p.entries + 1) p.entries; ahead = p.ahead }) o
+        ≡ option_map {T = Place} {U = Place} (λ p. record { content = p.content; name = cond b x p.name; parent = cond b (Some dir) p.parent; first = cond (t && is_none prev) (Some n) p.first; next = cond b next (cond (is_at prev m) (Some n) p.next); prev = cond b prev (cond (is_at next m) (Some n) p.prev); entries = cond t (p.entries + 1) p.entries; root = p.root; left = p.left; right = p.right }) o
     go b t None = refl
     go true true (Some p) = refl
     go true false (Some p) = refl

@@ -38,7 +38,9 @@ take_place dir n prev next m p = record {
   next = cond (eqb m n) None (cond (is_at prev m) next p.next);
   prev = cond (eqb m n) None (cond (is_at next m) prev p.prev);
   entries = cond (eqb m dir) (p.entries - 1) p.entries;
-  ahead = p.ahead;
+  root = p.root;
+  left = p.left;
+  right = p.right;
 }
 
 -- the four edits, read at one number
@@ -54,7 +56,7 @@ get_taken dir n prev next ps m =
     ∙ go (eqb m n) (eqb m dir) (slice_get ps m)
   where
     go : (b t : Bool) (o : Option Place) → option_map (λ p. cond b (entered None p.name None None p) p) (option_map {T = Place} {U = Place} (λ p. record p { prev = cond (is_at next m) prev p.prev }) (option_map {T = Place} {U = Place} (λ p. record p { first = cond (t && is_none prev) next p.first; next = cond (is_at prev m) next p.next }) (option_map (λ p. cond t (with_entries (p.entries - 1) p) p) o)))
-        ≡ option_map {T = Place} {U = Place} (λ p. record { content = p.content; name = p.name; parent = cond b None p.parent; first = cond (t && is_none prev) next p.first; next = cond b None (cond (is_at prev m) next p.next); prev = cond b None (cond (is_at next m) prev p.prev); entries = cond t (p.entries - 1) p.entries; ahead = p.ahead }) o
+        ≡ option_map {T = Place} {U = Place} (λ p. record { content = p.content; name = p.name; parent = cond b None p.parent; first = cond (t && is_none prev) next p.first; next = cond b None (cond (is_at prev m) next p.next); prev = cond b None (cond (is_at next m) prev p.prev); entries = cond t (p.entries - 1) p.entries; root = p.root; left = p.left; right = p.right }) o
     go b t None = refl
     go true true (Some p) = refl
     go true false (Some p) = refl

@@ -20,7 +20,7 @@ use Rattle.std.proofs.lemmas.List.{length-map}
 use Rattle.fs_places.proofs.EditLemmas.{read_place}
 use Rattle.fs_nodes.proofs.StepLemmas.{IsMet, dir_ascends, entry_none, child_place, entry_parts, get_some, met, next_within, passed_first, passed_here, passed_more, passed_smaller, sought_found, sought_past, sought_end}
 use Rattle.fs_nodes.proofs.OrderLemmas.{all_names}
-use Rattle.fs_nodes.proofs.AheadLemmas.{entry_passed, single_passed, single_nearer, leap_nearer, not_greater, lesser_within}
+use Rattle.fs_nodes.proofs.BehindLemmas.{entry_passed, single_passed, single_nearer, leap_nearer, not_greater, lesser_within}
 
 -- how many entries are still to come, where a search stands
 rank_left : (ps : List Place) (dir : ℕ) (x : Name) (prev next : Option ℕ) → IsPlaces ps → (s : IsPassed ps dir x prev next) → rank ps dir next ≡ length (names_above s.low (names_of ((graph_of_places ps).shape dir)))

@@ -1,5 +1,4 @@
 -- What ties the code to the definitions: of it nothing has to be believed.
 pub mod Linked
 pub mod Frees
-pub mod Strides
 pub mod Indexes

@@ -12,12 +12,12 @@
 //! `Frees` what its free places do, and `Indexes` what the slots beside them keep.
 #![tactic(auto)]
 
+mod hints;
 mod index;
 pub mod number;
 pub mod plain;
 mod siblings;
 pub mod store;
-mod stride;
 
 pub use number::NodeNo;
 pub use store::{NoNode, Store};

@@ -11,10 +11,10 @@ ghost use Rattle.fs_places.specs.code.Keys.{key_of, keys_of};
 ghost use Rattle.fs_nodes.specs.code.Indexes.{IsIndex};
 ghost use Rattle.fs_places.specs.code.Spots.{is_number, one_of};
 ghost use Rattle.fs_places.specs.code.Edits.{edited};
-ghost use Rattle.fs_nodes.specs.code.Linked.{graph_of_places, next_child, IsPlaces, IsGap, IsNextSibling, IsEntry, IsLesser, IsGreater, may_leap, IsPassed, rank, with_entries, entered, led, followed, pointed, put_between, taken_out};
+ghost use Rattle.fs_nodes.specs.code.Linked.{graph_of_places, next_child, IsPlaces, IsGap, IsNextSibling, IsEntry, IsLesser, IsGreater, is_lesser, IsPassed, with_entries, entered, led, followed, put_between, taken_out};
 
+use crate::hints::low_of;
 use crate::index::{Found, Slot, seek};
-use crate::stride::Stride;
 use fs_names::{NODE_LIMIT, Name};
 use fs_places::label::{head, is_short};
 use fs_places::place::dir_of;
@@ -23,16 +23,24 @@ use fs_plain::is_higher;
 use std::cmp::Ordering;
 
 /// The place of a directory's first entry.
-fn first_of(places: &[Place], dir: usize) -> Option<usize>
+fn first_spot(places: &[Place], dir: usize) -> Spot
     requires { IsPlaces places.now }
     ensures { result ≡ next_child (graph_of_places places.now) dir None }
 {
     if dir < places.len() {
         let place = &places[dir];
-        place.first.get()
+        place.first
     } else {
-        None
+        Spot::none()
     }
+}
+
+/// Its number.
+fn first_of(places: &[Place], dir: usize) -> Option<usize>
+    requires { IsPlaces places.now }
+    ensures { result ≡ next_child (graph_of_places places.now) dir None }
+{
+    first_spot(places, dir).get()
 }
 
 /// Whether a number is this one.
@@ -152,7 +160,10 @@ fn look(
             }
         }
         Found::Nothing => (None, 0),
-        Found::Open => search(places, key.dir, None, first, name),
+        Found::Open => {
+            let other = lesser_told(places, key.dir, first, name);
+            search(places, key.dir, other, first, name)
+        }
     }
 }
 
@@ -222,73 +233,90 @@ fn is_in_dir(place: &Place, dir: usize) -> bool
     }
 }
 
-/// Whether a search for a name may go on at this place: it is an entry of the directory, not after the name but after the given one.
-fn may_leap(place: &Place, dir: usize, from: &Label, first: u64, name: &Name) -> bool
+/// Whether a place is that of an entry of the directory with a lesser name.
+fn is_lesser(place: &Place, dir: usize, first: u64, name: &Name) -> bool
     requires { IsHead first name.now }
-    ensures { result ≡ may_leap place.now dir from.now name.now }
+    ensures { result ≡ is_lesser place.now dir name.now }
 {
-    is_in_dir(place, dir)
-        && place.name.cmp(first, name) != Ordering::Greater
-        && place.name.is_after(from)
+    is_in_dir(place, dir) && place.name.cmp(first, name) == Ordering::Less
 }
 
-/// Between which siblings a search for a name stands after an entry with a lesser one whose way ahead leads to a place:
-/// before that place, where the search may go on there, and else behind the entry.
-fn leap(places: &[Place], dir: usize, at: usize, to: usize, first: u64, name: &Name) -> (Spot, Spot)
+/// The place that was told, if it is that of an entry of the directory with a lesser name.
+pub fn lesser(
+    places: &[Place],
+    dir: usize,
+    told: Spot,
+    first: u64,
+    name: &Name,
+) -> Option<usize>
     requires places { IsPlaces places.now }
     requires first { IsHead first name.now }
-    requires at { IsLesser (graph_of_places places.now) dir name.now at }
-    requires to { to < length places.now }
-    ensures stands { IsPassed places.now dir name.now result.0 result.1 }
-    ensures nearer { rank places.now dir result.1 < rank places.now dir (Some at) }
+    ensures { IfSome result (IsLesser (graph_of_places places.now) dir name.now) }
 {
-    let place = &places[at];
-    let far = &places[to];
-    if may_leap(far, dir, &place.name, first, name) {
-        (far.prev, Spot::at(to))
-    } else {
-        (Spot::at(at), place.next)
+    match told.below(places.len()) {
+        Some(n) => {
+            let place = &places[n];
+            if is_lesser(place, dir, first, name) {
+                Some(n)
+            } else {
+                None
+            }
+        }
+        None => None,
     }
 }
 
-/// The siblings between which an entry of this name belongs, where there is none yet, and how the walk went.
-pub fn gap(places: &[Place], dir: usize, name: &Name) -> (Spot, Spot, Stride)
+/// An entry of the directory with a lesser name, if the tree beside the siblings tells one.
+#[inline(never)]
+fn lesser_told(places: &[Place], dir: usize, first: u64, name: &Name) -> Option<usize>
     requires places { IsPlaces places.now }
-    requires dir { dir < length places.now }
+    requires first { IsHead first name.now }
+    ensures { IfSome result (IsLesser (graph_of_places places.now) dir name.now) }
+{
+    lesser(places, dir, low_of(places, dir, first, name), first, name)
+}
+
+/// Between which siblings a search for a name begins: behind an entry with a lesser one, or before the first entry.
+fn start(places: &[Place], dir: usize, after: Option<usize>) -> (Spot, Spot)
+    requires places { IsPlaces places.now }
+    requires after { IfSome after (IsEntry (graph_of_places places.now) dir) }
+    ensures stands { (x : Name) → IfSome after (IsLesser (graph_of_places places.now) dir x) → IsPassed places.now dir x result.0 result.1 }
+    ensures first { after ≡ None → result.1 ≡ next_child (graph_of_places places.now) dir None }
+{
+    match after {
+        Some(n) => {
+            let place = &places[n];
+            (Spot::at(n), place.next)
+        }
+        None => (Spot::none(), first_spot(places, dir)),
+    }
+}
+
+/// The siblings between which an entry of this name belongs, where there is none yet; they are looked for behind an entry with a lesser name, if one is given.
+pub fn gap(
+    places: &[Place],
+    dir: usize,
+    after: Option<usize>,
+    first: u64,
+    name: &Name,
+) -> (Spot, Spot)
+    requires places { IsPlaces places.now }
+    requires after { IfSome after (IsLesser (graph_of_places places.now) dir name.now) }
+    requires first { IsHead first name.now }
     requires absent { (graph_of_places places.now).child dir name.now ≡ None }
     ensures { IsGap (graph_of_places places.now) dir name.now result.0 result.1 }
 {
-    let start = head(name.bytes());
-    let mut prev = Spot::none();
-    let first = &places[dir];
-    let mut next = first.first;
-    let mut stride = Stride::begin(next);
+    let (mut prev, mut next) = start(places, dir, after);
     while let Some(n) = next.get() {
         let place = &places[n];
-        match place.name.cmp(start, name) {
+        match place.name.cmp(first, name) {
             Ordering::Less => {}
-            _ => return (prev, next, stride),
+            _ => return (prev, next),
         }
-        let (before, after) = match place.ahead.below(places.len()) {
-            Some(to) => leap(places, dir, n, to, start, name),
-            None => (next, place.next),
-        };
-        stride.step(before == next, after);
-        prev = before;
-        next = after;
+        prev = next;
+        next = place.next;
     }
-    (prev, next, stride)
-}
-
-/// The way ahead from a place, if one is given, leads to this one from now on.
-pub fn set_ahead(places: &mut [Place], from: Spot, to: Spot)
-    requires { length places.old ≤ NODE_LIMIT }
-    ensures { places.new ≡ pointed from to places.old }
-{
-    if let Some(k) = from.below(places.len()) {
-        let place = &mut places[k];
-        place.ahead = to;
-    }
+    (prev, next)
 }
 
 /// The way to an entry leads elsewhere: from the sibling before it, or from its directory.
@@ -457,7 +485,11 @@ pub fn least_above(places: &[Place], dir: usize, low: Option<&Name>) -> Option<u
     requires { IsPlaces places.now }
     ensures { result ≡ next_child (graph_of_places places.now) dir (option_copied low.entry) }
 {
-    let mut next = first_of(places, dir);
+    let after = match low {
+        Some(name) => lesser_told(places, dir, head(name.bytes()), name),
+        None => None,
+    };
+    let mut next = start(places, dir, after).1.get();
     while let Some(n) = next {
         let place = &places[n];
         if is_higher(place.name.name(), low) {

@@ -27,9 +27,11 @@ pub struct Place {
     pub next: Spot,
     pub prev: Spot,
     pub entries: u32,
-    /// A sibling some entries further on, as a walk once found it, or none. Nothing is known of it: whoever takes the way
-    /// asks first whether it still leads there.
-    pub ahead: Spot,
+    /// A tree of the entries of a large directory: where it begins, as a directory's, and the ways to lesser and to greater
+    /// names, as an entry's. Nothing is known of it: whoever takes a way asks first whether it still leads there.
+    pub root: Spot,
+    pub left: Spot,
+    pub right: Spot,
 }
 
 impl Place {
@@ -41,7 +43,9 @@ impl Place {
         ensures next { result.next ≡ None }
         ensures prev { result.prev ≡ None }
         ensures entries { result.entries ≡ 0 }
-        ensures ahead { result.ahead ≡ None }
+        ensures root { result.root ≡ None }
+        ensures left { result.left ≡ None }
+        ensures right { result.right ≡ None }
     {
         Place {
             content: Some(Content::new(alloc, kind)),
@@ -51,7 +55,9 @@ impl Place {
             next: Spot::none(),
             prev: Spot::none(),
             entries: 0,
-            ahead: Spot::none(),
+            root: Spot::none(),
+            left: Spot::none(),
+            right: Spot::none(),
         }
     }
 }

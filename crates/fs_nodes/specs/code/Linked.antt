@@ -1,8 +1,7 @@
 -- What the places of a store with sibling links say, and what they keep.
-use Rattle.std.specs.Prelude.{ℕ, Bool, true, suc, ◌≡◌, ◌+◌, ◌-◌, ◌&&◌, not, List, Option, Some, None, length, slice_get}
+use Rattle.std.specs.Prelude.{ℕ, Bool, true, suc, ◌≡◌, ◌+◌, ◌-◌, ◌&&◌, List, Option, Some, None, length, map, slice_get}
 use Rattle.std.specs.List.{find}
-use Rattle.std.specs.Ordering.{is_gt}
-use Rattle.fs_names.specs.Names.{Name, name_cmp}
+use Rattle.fs_names.specs.Names.{Name}
 use Rattle.fs_names.specs.Shapes.{names_of}
 use Rattle.fs_names.specs.declared.limits.TheConstants.{NODE_LIMIT}
 use Rattle.fs_plain.specs.declared.node.Link.{Link}
@@ -104,14 +103,13 @@ put_between dir n name prev next ps = edited n (entered (Some dir) name prev nex
 abbrev pub taken_out : ℕ → ℕ → Option ℕ → Option ℕ → List Place → List Place
 taken_out dir n prev next ps = edited n (λ p. entered None p.name None None p) (followed next prev (led dir prev next (edited dir (λ p. with_entries (p.entries - 1) p) ps)))
 
--- the way ahead is another one
-abbrev pub with_ahead : Option ℕ → Place → Place
-with_ahead to p = record p { ahead = to }
+-- a place without what it tells of the tree beside the siblings
+abbrev pub bare : Place → Place
+bare p = record p { root = None; left = None; right = None }
 
--- the way ahead from a place, if one is given
-abbrev pub pointed : Option ℕ → Option ℕ → List Place → List Place
-pointed None to ps = ps
-pointed (Some n) to ps = edited n (with_ahead to) ps
+-- all places without that
+abbrev pub bared : List Place → List Place
+bared ps = map bare ps
 
 -- an entry of a directory
 abbrev pub IsEntry : Graph → ℕ → ℕ → Type 0
@@ -125,9 +123,9 @@ IsGreater graph dir x n = (y : Name) × (graph.child dir y ≡ Some n) × (is_ab
 abbrev pub IsLesser : Graph → ℕ → Name → ℕ → Type 0
 IsLesser graph dir x n = (y : Name) × (graph.child dir y ≡ Some n) × (is_above (Some y) x ≡ true)
 
--- whether a search for x may go on at a place: it is an entry of the directory, not above x but above y
-abbrev pub may_leap : Place → ℕ → Name → Name → Bool
-may_leap p dir y x = is_in (link_of (plain p)) dir && not (is_gt (name_cmp p.name x)) && is_above (Some y) p.name
+-- whether a place is that of an entry of the directory with a lesser name
+abbrev pub is_lesser : Place → ℕ → Name → Bool
+is_lesser p dir x = is_in (link_of (plain p)) dir && is_above (Some p.name) x
 
 -- where a search for x stands: between two siblings, the first of which is lesser, if there is one
 pub record IsPassed (ps : List Place) (dir : ℕ) (x : Name) (prev next : Option ℕ) : Type 0 where

@@ -1,5 +1,5 @@
--- The ways ahead: where a search goes on that takes one, and that setting one changes nothing else.
-use Rattle.std.proofs.Common.{◌≡◌, ℕ, zero, suc, ◌<◌, ◌≤◌, Bool, true, false, cond, eqb, ◌&&◌, not, List, [], ◌∷◌, Option, Some, None, is_some, option_map, get_or, length, refl, sym, ap, subst, ◌∙◌, arith}
+-- Where a search stands behind an entry with a lesser name, and what a hint says that was asked.
+use Rattle.std.proofs.Common.{◌≡◌, ℕ, zero, suc, ◌<◌, ◌≤◌, Bool, true, false, cond, eqb, ◌&&◌, not, List, [], ◌∷◌, Option, Some, None, IfSome, is_some, get_or, length, refl, sym, ap, subst, ◌∙◌, arith}
 use Rattle.std.specs.Prelude.{slice_get, nat_lt}
 use Rattle.std.specs.List.{find}
 use Rattle.std.specs.Ordering.{is_lt, is_gt}
@@ -10,14 +10,11 @@ use Rattle.fs_names.proofs.Lemmas.{name_total, same_name_exact}
 use Rattle.std.proofs.lemmas.Cmp.{tied_itself}
 use Rattle.fs_names.specs.declared.limits.TheConstants.{NODE_LIMIT}
 use Rattle.fs_plain.specs.declared.node.Content.{Content}
-use Rattle.fs_plain.specs.declared.node.Node.{Node}
 use Rattle.fs_places.specs.declared.place.Place.{Place}
-use Rattle.fs_graph.specs.Graphs.{then_at}
-use Rattle.fs_plain.specs.Stores.{link_of, is_in, is_above, names_above, graph_in, IsStore}
+use Rattle.fs_graph.specs.Graphs.{Graph}
+use Rattle.fs_plain.specs.Stores.{link_of, is_in, is_above, names_above}
 use Rattle.fs_places.specs.Plains.{link_with, plain_with, plain, plains}
-use Rattle.fs_places.specs.code.Edits.{edited}
-use Rattle.fs_nodes.specs.code.Linked.{graph_of_places, next_child, IsPrev, IsBeside, IsIndexed, IsPlaces, IsPassed, IsLesser, names_past, rank, with_ahead, pointed, may_leap}
-use Rattle.fs_nodes.specs.code.Frees.{is_free, IsLinked}
+use Rattle.fs_nodes.specs.code.Linked.{graph_of_places, next_child, IsPrev, IsBeside, IsIndexed, IsPlaces, IsPassed, IsEntry, IsLesser, is_lesser, names_past, rank}
 use Rattle.fs_places.specs.code.Spots.{number_below}
 use Rattle.fs_graph.proofs.NameLemmas.{Compared, Below, Same, Above, compare}
 use Rattle.fs_plain.proofs.AscentLemmas.{above_more, above_above, not_itself}
@@ -25,11 +22,8 @@ use Rattle.fs_graph.proofs.EqualLemmas.{eqb_true, both_true}
 use Rattle.fs_nodes.proofs.OrderLemmas.{found_is_above}
 use Rattle.fs_plain.proofs.EditLemmas.{child_within}
 use Rattle.fs_places.proofs.EditLemmas.{read_place}
-use Rattle.fs_nodes.proofs.StepLemmas.{link_of_place, child_place, entry_parts, dir_has, next_child_name, passed_smaller}
-use Rattle.fs_places.proofs.EditLemmas.{get_edited, length_edited, plains_edited}
+use Rattle.fs_nodes.proofs.StepLemmas.{IsAsked, link_of_place, child_place, entry_parts, dir_has, next_child_name, passed_smaller}
 use Rattle.fs_nodes.proofs.LinkLemmas.{child_name}
-use Rattle.fs_nodes.proofs.FreeLemmas.{list_kept}
-use Rattle.fs_nodes.proofs.ReserveLemmas.{edited_read}
 
 -- a number that is below a bound
 pub below_read : (bound : ℕ) (o : Option ℕ) (n : ℕ) → number_below bound o ≡ Some n → (o ≡ Some n) × (n < bound)
@@ -179,89 +173,40 @@ single_nearer ps dir x n p places r v =
     let l : (link_of (plain p) ≡ Some (record { dir = dir; name = p.name })) × (is_above (Some p.name) x ≡ true) = lesser_entry ps dir x n p e r in
     passed_smaller ps dir p.name p.prev (Some n) n p places (entry_passed ps dir p.name n p places e l.0 (not_greater p.name)) refl v
 
--- what the test of a leap says
-leap_parts : (p : Place) (dir : ℕ) (y x : Name) → may_leap p dir y x ≡ true → (link_of (plain p) ≡ Some (record { dir = dir; name = p.name })) × (is_above (Some y) p.name ≡ true) × (is_gt (name_cmp p.name x) ≡ false)
-leap_parts p dir y x e =
-    let one : ((is_in (link_of (plain p)) dir && not (is_gt (name_cmp p.name x))) ≡ true) × (is_above (Some y) p.name ≡ true) = both_true (is_in (link_of (plain p)) dir && not (is_gt (name_cmp p.name x))) (is_above (Some y) p.name) e in
-    let two : (is_in (link_of (plain p)) dir ≡ true) × (not (is_gt (name_cmp p.name x)) ≡ true) = both_true (is_in (link_of (plain p)) dir) (not (is_gt (name_cmp p.name x))) one.0 in
-    (in_dir p dir two.0, one.1, no (is_gt (name_cmp p.name x)) two.1)
+-- what was told, and asked, is a lesser entry
+pub told_lesser : (ps : List Place) (dir : ℕ) (x : Name) (n : ℕ) (p : Place) → IsPlaces ps → n < length ps → p ≡ get_or ps n p → is_lesser p dir x ≡ true → IsLesser (graph_of_places ps) dir x n
+told_lesser ps dir x n p places w v h =
+    let t : (is_in (link_of (plain p)) dir ≡ true) × (is_above (Some p.name) x ≡ true) = both_true (is_in (link_of (plain p)) dir) (is_above (Some p.name) x) h in
+    (p.name, entry_child ps dir n p places (read_place ps n p w v) (in_dir p dir t.0), t.1)
+
+-- a lesser entry is an entry
+pub lesser_is_entry : (graph : Graph) (dir : ℕ) (x : Name) (o : Option ℕ) → IfSome o (IsLesser graph dir x) → IfSome o (IsEntry graph dir)
+lesser_is_entry graph dir x None r = tt
+lesser_is_entry graph dir x (Some n) r = (r.0, r.1)
+
+-- there are no more places than numbers
+pub places_few : (ps : List Place) → IsPlaces ps → length ps ≤ NODE_LIMIT
+places_few ps places =
+    let l : length (plains ps) ≡ length ps = length-map ps plain in
+    let h : length (plains ps) ≤ NODE_LIMIT = places.store.within in
+    omega arith
+
+-- the first name above a greater one is among those above the lesser one
+find_past : (low : Option Name) (x : Name) (names : List Name) → is_above low x ≡ true → find (is_above (Some x)) names ≡ find (is_above (Some x)) (names_above low names)
+find_past low x [] h = refl
+find_past low x (w ∷ ws) h = go (is_above (Some x) w) refl (is_above low w) refl (find_past low x ws h)
   where
-    no : (b : Bool) → not b ≡ true → b ≡ false
-    no true e = cc
-    no false e = refl
+    go : (a : Bool) → is_above (Some x) w ≡ a → (b : Bool) → is_above low w ≡ b → find (is_above (Some x)) ws ≡ find (is_above (Some x)) (names_above low ws)
+        → cond a (Some w) (find (is_above (Some x)) ws) ≡ find (is_above (Some x)) (cond b (w ∷ names_above low ws) (names_above low ws))
+    go true e true f r = ap (λ (t : Bool). cond t (Some w) (find (is_above (Some x)) (names_above low ws))) (sym e)
+    go false e true f r = r ∙ ap (λ (t : Bool). cond t (Some w) (find (is_above (Some x)) (names_above low ws))) (sym e)
+    go true e false f r = let k : true ≡ false = sym (above_above low x w h e) ∙ f in absurd (cc)
+    go false e false f r = r
 
--- a leap
-pub leap_passed : (ps : List Place) (dir : ℕ) (x y : Name) (n : ℕ) (q : Place) → IsPlaces ps → n < length ps → q ≡ get_or ps n q → may_leap q dir y x ≡ true → IsPassed ps dir x q.prev (Some n)
-leap_passed ps dir x y n q places w v h =
-    let t : (link_of (plain q) ≡ Some (record { dir = dir; name = q.name })) × (is_above (Some y) q.name ≡ true) × (is_gt (name_cmp q.name x) ≡ false) = leap_parts q dir y x h in
-    entry_passed ps dir x n q places (read_place ps n q w v) t.0 t.2
-
--- is one to the front
-pub leap_smaller : (ps : List Place) (dir : ℕ) (x : Name) (at n : ℕ) (p q : Place) → IsPlaces ps → IsLesser (graph_of_places ps) dir x at → p ≡ get_or ps at p → n < length ps → q ≡ get_or ps n q → may_leap q dir p.name x ≡ true → rank ps dir (Some n) < rank ps dir (Some at)
-leap_smaller ps dir x at n p q places r u w v h =
-    let t : (link_of (plain q) ≡ Some (record { dir = dir; name = q.name })) × (is_above (Some p.name) q.name ≡ true) × (is_gt (name_cmp q.name x) ≡ false) = leap_parts q dir p.name x h in
-    let f : slice_get ps n ≡ Some q = read_place ps n q w v in
-    leap_nearer ps dir at n p q places (read_place ps at p (lesser_within ps dir x at r) u) f (entry_child ps dir n q places f t.0) t.1
-
--- an entry that a search meets with a lesser name
-pub met_lesser : (ps : List Place) (dir : ℕ) (x : Name) (n : ℕ) (y : Name) → (graph_of_places ps).child dir y ≡ Some n → is_lt (name_cmp y x) ≡ true → IsLesser (graph_of_places ps) dir x n
-met_lesser ps dir x n y k h = (y, k, h)
-
--- an edit behind the end changes nothing
-edited_past : (n : ℕ) (f : Place → Place) (ps : List Place) → length ps ≤ n → edited n f ps ≡ ps
-edited_past n f [] h = refl
-edited_past zero f (p ∷ ps) h = absurd (omega arith)
-edited_past (suc n) f (p ∷ ps) h = ap (λ (l : List Place). p ∷ l) (edited_past n f ps (omega arith))
-
--- a way ahead from no place
-pub pointed_past : (from to : Option ℕ) (ps : List Place) → number_below (length ps) from ≡ None → ps ≡ pointed from to ps
-pointed_past None to ps e = refl
-pointed_past (Some n) to ps e = go (nat_lt n (length ps)) refl e
-  where
-    go : (b : Bool) → nat_lt n (length ps) ≡ b → ◌≡◌ {A = Option ℕ} (cond b (Some n) None) None → ps ≡ edited n (with_ahead to) ps
-    go true f g = absurd (cc)
-    go false f g = sym (edited_past n (with_ahead to) ps (let k : length ps ≤ n = grind arith in k))
-
--- the nodes are the same
-pub plains_pointed : (from to : Option ℕ) (ps : List Place) → plains (pointed from to ps) ≡ plains ps
-plains_pointed None to ps = refl
-plains_pointed (Some n) to ps = plains_edited n (with_ahead to) ps (λ p. refl)
-
--- as many as before
-pub length_pointed : (from to : Option ℕ) (ps : List Place) → length (pointed from to ps) ≡ length ps
-length_pointed None to ps = refl
-length_pointed (Some n) to ps = length_edited n (with_ahead to) ps
-
--- and the store keeps what it kept
-pub linked_pointed : (limit : ℕ) (ps : List Place) (free from to : Option ℕ) → IsLinked limit ps free → IsLinked limit (pointed from to ps) free
-linked_pointed limit ps free None to s = s
-linked_pointed limit ps free (Some n) to s =
-    let l : length (edited n (with_ahead to) ps) ≡ length ps = length_edited n (with_ahead to) ps in
-    record {
-      most = s.most;
-      within = (let h : length ps ≤ limit = s.within in omega arith);
-      places = record {
-        store = subst (IsStore NODE_LIMIT) (sym same) s.places.store;
-        each = λ m q g. subst (λ (z : List (Option Node)). IsIndexed (graph_in z) m q) (sym same) (each m q (edited_read n (with_ahead to) ps m q g));
-      };
-      list = list_kept ps (edited n (with_ahead to) ps) free (λ k h. ap (λ (o : Option Place). then_at o (λ p. p.next)) (get_edited n (with_ahead to) ps k) ∙ next (eqb k n) (slice_get ps k)) (λ k. ap (λ (z : List (Option Node)). is_free (slice_get z k)) same) s.list;
-    }
-  where
-    same : plains (edited n (with_ahead to) ps) ≡ plains ps
-    same = plains_pointed (Some n) to ps
-
-    next : (b : Bool) (o : Option Place) → then_at (option_map (λ p. cond b (with_ahead to p) p) o) (λ p. p.next) ≡ then_at o (λ p. p.next)
-    next b None = refl
-    next true (Some p) = refl
-    next false (Some p) = refl
-
-    go : (m : ℕ) (p : Place) → IsIndexed (graph_of_places ps) m p → (b : Bool) → IsIndexed (graph_of_places ps) m (cond b (with_ahead to p) p)
-    go m p i true = record {
-      entries = i.entries;
-      first = i.first;
-      beside = i.beside;
-    }
-    go m p i false = i
-
-    each : (m : ℕ) (q : Place) → (p : Place) × (slice_get ps m ≡ Some p) × (q ≡ cond (eqb m n) (with_ahead to p) p) → IsIndexed (graph_of_places ps) m q
-    each m q r = subst (IsIndexed (graph_of_places ps) m) (sym r.2) (go m r.0 (s.places.each m r.0 r.1) (eqb m n))
+-- so a search for the least name above one may begin where a search for that one stands
+pub asked_passed : (ps : List Place) (dir : ℕ) (x : Name) (prev next : Option ℕ) → IsPassed ps dir x prev next → IsAsked ps dir (Some x) next
+asked_passed ps dir x prev next s = record {
+  base = s.low;
+  next_is = s.next_is;
+  rest = find_past s.low x (names_of ((graph_of_places ps).shape dir)) s.below;
+}

@@ -1,0 +1,280 @@
+//! A tree beside the entries of a large directory, by which a search begins near its end.
+//!
+//! Nothing is known of it: of each place that it tells is asked whether it is an entry of the directory with a lesser name, and
+//! what is not such a way stays as it is. An entry comes into the tree where its directory has `FEW` others, so at most so many are not in it, and a search goes past no
+//! more than these. The tree is a treap: an entry that stands higher is above; how high it stands is the number of its node, mixed.
+
+ghost use Rattle.std.specs.Prelude.{◌≡◌, ◌≤◌, ◌<◌, length};
+ghost use Rattle.fs_places.specs.code.Heads.{IsHead};
+ghost use Rattle.fs_nodes.specs.code.Linked.{bared};
+
+use fs_names::{NODE_LIMIT, Name};
+use fs_places::{Place, Spot};
+use std::cmp::Ordering;
+
+/// How many entries a directory has before there is a tree.
+const FEW: u32 = 32;
+
+/// More steps than a way along a tree takes. A way that is longer is left there.
+const MOST: usize = 128;
+
+/// A way of a place.
+#[derive(Clone, Copy)]
+enum Way {
+    Root,
+    Left,
+    Right,
+}
+
+/// How high the entry of a node stands.
+#[inline(always)]
+fn height(node: usize) -> u32 {
+    let word = (node & 0xffff_ffff) as u32;
+    let word = (word ^ word >> 16).wrapping_mul(0x7feb_352d);
+    let word = (word ^ word >> 15).wrapping_mul(0x846c_a68b);
+    word ^ word >> 16
+}
+
+/// Whether the entry of a place has a lesser name.
+#[inline(always)]
+fn is_below(place: &Place, first: u64, name: &Name) -> bool
+    requires { IsHead first name.now }
+{
+    place.name.cmp(first, name) == Ordering::Less
+}
+
+/// A way of a place, if there is one of this number, leads elsewhere.
+#[inline(always)]
+fn set(places: &mut [Place], at: usize, way: Way, to: Spot)
+    requires { length places.old ≤ NODE_LIMIT }
+    ensures { bared places.new ≡ bared places.old }
+{
+    if at < places.len() {
+        let place = &mut places[at];
+        match way {
+            Way::Root => place.root = to,
+            Way::Left => place.left = to,
+            Way::Right => place.right = to,
+        }
+    }
+}
+
+/// Where the tree of a directory begins.
+#[inline(always)]
+fn root_of(places: &[Place], dir: usize) -> Spot
+    requires { length places.now ≤ NODE_LIMIT }
+{
+    if dir < places.len() {
+        let place = &places[dir];
+        place.root
+    } else {
+        Spot::none()
+    }
+}
+
+/// The greatest entry that the tree has below a name, or none.
+pub fn low_of(places: &[Place], dir: usize, first: u64, name: &Name) -> Spot
+    requires most { length places.now ≤ NODE_LIMIT }
+    requires first { IsHead first name.now }
+{
+    let mut low = Spot::none();
+    let mut at = root_of(places, dir);
+    for _ in 0..MOST {
+        let Some(n) = at.below(places.len()) else {
+            break;
+        };
+        let place = &places[n];
+        if is_below(place, first, name) {
+            low = at;
+            at = place.right;
+        } else {
+            at = place.left;
+        }
+    }
+    low
+}
+
+/// What is below a place is parted by a name: lesser entries go to the left of a node, the others to its right. The greatest of
+/// the lesser ones is answered, or else what was told before.
+fn part(
+    places: &mut [Place],
+    node: usize,
+    from: Spot,
+    first: u64,
+    name: &Name,
+    told: Spot,
+) -> Spot
+    requires most { length places.old ≤ NODE_LIMIT }
+    requires first { IsHead first name.now }
+    ensures { bared places.new ≡ bared places.old }
+{
+    let mut low = told;
+    let mut at = from;
+    let mut lesser = (node, Way::Left);
+    let mut greater = (node, Way::Right);
+    for _ in 0..MOST {
+        let Some(n) = at.below(places.len()) else {
+            break;
+        };
+        let place = &places[n];
+        if is_below(place, first, name) {
+            let next = place.right;
+            set(places, lesser.0, lesser.1, at);
+            lesser = (n, Way::Right);
+            low = at;
+            at = next;
+        } else {
+            let next = place.left;
+            set(places, greater.0, greater.1, at);
+            greater = (n, Way::Left);
+            at = next;
+        }
+    }
+    set(places, lesser.0, lesser.1, Spot::none());
+    set(places, greater.0, greater.1, Spot::none());
+    low
+}
+
+/// A node comes into the tree of a directory. The greatest entry of the tree below its name is answered, or none.
+fn grow(places: &mut [Place], dir: usize, node: usize, first: u64, name: &Name) -> Spot
+    requires most { length places.old ≤ NODE_LIMIT }
+    requires node { node < NODE_LIMIT }
+    requires first { IsHead first name.now }
+    ensures { bared places.new ≡ bared places.old }
+{
+    let mut low = Spot::none();
+    let mut from = (dir, Way::Root);
+    let mut at = root_of(places, dir);
+    let own = height(node);
+    for _ in 0..MOST {
+        let Some(n) = at.below(places.len()) else {
+            break;
+        };
+        if height(n) < own {
+            break;
+        }
+        let place = &places[n];
+        if is_below(place, first, name) {
+            low = at;
+            from = (n, Way::Right);
+            at = place.right;
+        } else {
+            from = (n, Way::Left);
+            at = place.left;
+        }
+    }
+    set(places, from.0, from.1, Spot::at(node));
+    part(places, node, at, first, name, low)
+}
+
+/// The same where the directory has so many entries; where it has few, the greatest entry of its tree below the name is answered.
+#[inline(never)]
+fn come_in(places: &mut [Place], dir: usize, node: usize, first: u64, name: &Name) -> Spot
+    requires most { length places.old ≤ NODE_LIMIT }
+    requires dir { dir < length places.old }
+    requires node { node < NODE_LIMIT }
+    requires first { IsHead first name.now }
+    ensures { bared places.new ≡ bared places.old }
+{
+    let place = &places[dir];
+    if place.entries < FEW {
+        low_of(places, dir, first, name)
+    } else {
+        grow(places, dir, node, first, name)
+    }
+}
+
+/// A node is to be an entry of a directory under this name. Where the directory has many, it comes into its tree. The greatest
+/// entry of the tree below the name is answered, or none.
+#[inline(always)]
+pub fn come(places: &mut [Place], dir: usize, node: usize, first: u64, name: &Name) -> Spot
+    requires most { length places.old ≤ NODE_LIMIT }
+    requires dir { dir < length places.old }
+    requires node { node < NODE_LIMIT }
+    requires first { IsHead first name.now }
+    ensures { bared places.new ≡ bared places.old }
+{
+    let place = &places[dir];
+    if place.entries < FEW && place.root == Spot::none() {
+        Spot::none()
+    } else {
+        come_in(places, dir, node, first, name)
+    }
+}
+
+/// The two sides of a node go together to where it stood.
+fn join(places: &mut [Place], at: usize, way: Way, left: Spot, right: Spot)
+    requires { length places.old ≤ NODE_LIMIT }
+    ensures { bared places.new ≡ bared places.old }
+{
+    let mut to = (at, way);
+    let mut lesser = left;
+    let mut greater = right;
+    for _ in 0..MOST {
+        let Some(low) = lesser.below(places.len()) else {
+            set(places, to.0, to.1, greater);
+            return;
+        };
+        let Some(high) = greater.below(places.len()) else {
+            set(places, to.0, to.1, lesser);
+            return;
+        };
+        if height(low) > height(high) {
+            set(places, to.0, to.1, lesser);
+            to = (low, Way::Right);
+            let place = &places[low];
+            lesser = place.right;
+        } else {
+            set(places, to.0, to.1, greater);
+            to = (high, Way::Left);
+            let place = &places[high];
+            greater = place.left;
+        }
+    }
+}
+
+/// A node leaves the tree of a directory, if it is found there under this name.
+#[inline(never)]
+fn go_out(places: &mut [Place], dir: usize, node: usize, first: u64, name: &Name)
+    requires most { length places.old ≤ NODE_LIMIT }
+    requires first { IsHead first name.now }
+    ensures { bared places.new ≡ bared places.old }
+{
+    let mut from = (dir, Way::Root);
+    let mut at = root_of(places, dir);
+    let own = height(node);
+    for _ in 0..MOST {
+        let Some(n) = at.below(places.len()) else {
+            return;
+        };
+        let place = &places[n];
+        let left = place.left;
+        let right = place.right;
+        if n == node {
+            join(places, from.0, from.1, left, right);
+            return;
+        }
+        if height(n) < own {
+            return;
+        }
+        if is_below(place, first, name) {
+            from = (n, Way::Right);
+            at = right;
+        } else {
+            from = (n, Way::Left);
+            at = left;
+        }
+    }
+}
+
+/// A node is an entry of a directory under this name no more.
+#[inline(always)]
+pub fn go(places: &mut [Place], dir: usize, node: usize, first: u64, name: &Name)
+    requires most { length places.old ≤ NODE_LIMIT }
+    requires first { IsHead first name.now }
+    ensures { bared places.new ≡ bared places.old }
+{
+    if root_of(places, dir) != Spot::none() {
+        go_out(places, dir, node, first, name);
+    }
+}
