@@ -1,8 +1,8 @@
 -- Where a search stands behind an entry with a lesser name, and what a hint says that was asked.
-use Rattle.std.proofs.Common.{◌≡◌, ℕ, zero, suc, ◌<◌, ◌≤◌, Bool, true, false, cond, eqb, ◌&&◌, not, List, [], ◌∷◌, Option, Some, None, IfSome, is_some, get_or, length, refl, sym, ap, subst, ◌∙◌, arith}
+use Rattle.std.proofs.Common.{◌≡◌, ℕ, ◌<◌, ◌≤◌, Bool, true, false, cond, List, [], ◌∷◌, Option, Some, None, IfSome, is_some, get_or, length, refl, sym, ap, subst, ◌∙◌, arith}
 use Rattle.std.specs.Prelude.{slice_get, nat_lt}
 use Rattle.std.specs.List.{find}
-use Rattle.std.specs.Ordering.{is_lt, is_gt}
+use Rattle.std.specs.Ordering.{is_gt}
 use Rattle.std.proofs.lemmas.List.{length-map}
 use Rattle.fs_names.specs.Names.{Name, name_cmp, same_name, has_name}
 use Rattle.fs_names.specs.Shapes.{names_of}
@@ -14,7 +14,7 @@ use Rattle.fs_places.specs.declared.place.Place.{Place}
 use Rattle.fs_graph.specs.Graphs.{Graph}
 use Rattle.fs_plain.specs.Stores.{link_of, is_in, is_above, names_above}
 use Rattle.fs_places.specs.Plains.{link_with, plain_with, plain, plains}
-use Rattle.fs_nodes.specs.code.Linked.{graph_of_places, next_child, IsPrev, IsBeside, IsIndexed, IsPlaces, IsPassed, IsEntry, IsLesser, is_lesser, names_past, rank}
+use Rattle.fs_nodes.specs.code.Linked.{graph_of_places, next_child, IsPrev, IsBeside, IsPlaces, IsPassed, IsEntry, IsLesser, is_lesser, names_past, rank}
 use Rattle.fs_places.specs.code.Spots.{number_below}
 use Rattle.fs_graph.proofs.NameLemmas.{Compared, Below, Same, Above, compare}
 use Rattle.fs_plain.proofs.AscentLemmas.{above_more, above_above, not_itself}

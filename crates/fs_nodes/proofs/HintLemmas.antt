@@ -1,5 +1,5 @@
 -- What is told of the tree beside the siblings: a step along it says nothing to the rest.
-use Rattle.std.proofs.Common.{◌≡◌, ◌≤◌, ℕ, zero, suc, List, [], ◌∷◌, Option, Some, None, map, set, get_or, length, option_map, Vec, refl, sym, ap, subst, ◌∙◌, arith}
+use Rattle.std.proofs.Common.{◌≡◌, ◌≤◌, ℕ, zero, suc, List, [], ◌∷◌, Option, Some, None, map, set, get_or, length, option_map, Vec, refl, sym, ap, subst, ◌∙◌}
 use Rattle.std.specs.Prelude.{slice_get}
 use Rattle.std.proofs.lemmas.Option.{slice_get-map}
 use Rattle.std.specs.Vec.{with_items}
@@ -11,7 +11,7 @@ use Rattle.fs_places.specs.declared.place.Place.{Place}
 use Rattle.fs_graph.specs.Graphs.{then_at}
 use Rattle.fs_plain.specs.Stores.{graph_in, IsStore}
 use Rattle.fs_places.specs.Plains.{plain, plains}
-use Rattle.fs_nodes.specs.code.Linked.{graph_of_places, IsIndexed, IsPlaces, bare, bared}
+use Rattle.fs_nodes.specs.code.Linked.{graph_of_places, IsIndexed, bare, bared}
 use Rattle.fs_nodes.specs.code.Frees.{is_free, IsLinked}
 use Rattle.fs_nodes.proofs.FreeLemmas.{list_kept}
 
