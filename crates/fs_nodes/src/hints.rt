@@ -1,11 +1,13 @@
 //! A tree beside the entries of a large directory, by which a search begins near its end.
 //!
-//! Nothing is known of it: of each place that it tells is asked whether it is an entry of the directory with a lesser name, and
-//! what is not such a way stays as it is. An entry comes into the tree where its directory has `FEW` others, so at most so many are not in it, and a search goes past no
-//! more than these. The tree is a treap: an entry that stands higher is above; how high it stands is the number of its node, mixed.
+//! Nothing is known of it: of each place that it tells is asked whether it is that of an entry of the directory with a lesser
+//! name, and a step along it changes nothing else. An entry comes into the tree where its directory has `FEW` others, so at most
+//! so many are not in it, and a search goes past no more of these. The tree is a treap: an entry that stands higher is above, and
+//! how high it stands is the number of its node, mixed.
 
 ghost use Rattle.std.specs.Prelude.{◌≡◌, ◌≤◌, ◌<◌, length};
 ghost use Rattle.fs_places.specs.code.Heads.{IsHead};
+ghost use Rattle.fs_nodes.specs.declared.hints.TheConstants.{MOST};
 ghost use Rattle.fs_nodes.specs.code.Linked.{bared};
 
 use fs_names::{NODE_LIMIT, Name};
@@ -16,7 +18,7 @@ use std::cmp::Ordering;
 const FEW: u32 = 32;
 
 /// More steps than a way along a tree takes. A way that is longer is left there.
-const MOST: usize = 128;
+pub const MOST: usize = 128;
 
 /// A way of a place.
 #[derive(Clone, Copy)]
@@ -72,16 +74,17 @@ fn root_of(places: &[Place], dir: usize) -> Spot
     }
 }
 
-/// The greatest entry that the tree has below a name, or none.
-pub fn low_of(places: &[Place], dir: usize, first: u64, name: &Name) -> Spot
+/// The greatest entry that the tree has below a name, or none, and after how many steps.
+pub fn low_of(places: &[Place], dir: usize, first: u64, name: &Name) -> (Spot, usize)
     requires most { length places.now ≤ NODE_LIMIT }
     requires first { IsHead first name.now }
+    ensures { result.1 ≤ MOST }
 {
     let mut low = Spot::none();
     let mut at = root_of(places, dir);
-    for _ in 0..MOST {
+    for steps in 0..MOST {
         let Some(n) = at.below(places.len()) else {
-            break;
+            return (low, steps);
         };
         let place = &places[n];
         if is_below(place, first, name) {
@@ -91,19 +94,12 @@ pub fn low_of(places: &[Place], dir: usize, first: u64, name: &Name) -> Spot
             at = place.left;
         }
     }
-    low
+    (low, MOST)
 }
 
 /// What is below a place is parted by a name: lesser entries go to the left of a node, the others to its right. The greatest of
 /// the lesser ones is answered, or else what was told before.
-fn part(
-    places: &mut [Place],
-    node: usize,
-    from: Spot,
-    first: u64,
-    name: &Name,
-    told: Spot,
-) -> Spot
+fn part(places: &mut [Place], node: usize, from: Spot, first: u64, name: &Name, told: Spot) -> Spot
     requires most { length places.old ≤ NODE_LIMIT }
     requires first { IsHead first name.now }
     ensures { bared places.new ≡ bared places.old }
@@ -178,7 +174,7 @@ fn come_in(places: &mut [Place], dir: usize, node: usize, first: u64, name: &Nam
 {
     let place = &places[dir];
     if place.entries < FEW {
-        low_of(places, dir, first, name)
+        low_of(places, dir, first, name).0
     } else {
         grow(places, dir, node, first, name)
     }

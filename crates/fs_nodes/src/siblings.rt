@@ -10,10 +10,11 @@ ghost use Rattle.fs_places.specs.code.Heads.{IsHead};
 ghost use Rattle.fs_places.specs.code.Keys.{key_of, keys_of};
 ghost use Rattle.fs_nodes.specs.code.Indexes.{IsIndex};
 ghost use Rattle.fs_places.specs.code.Spots.{is_number, one_of};
+ghost use Rattle.fs_nodes.specs.declared.hints.TheConstants.{MOST};
 ghost use Rattle.fs_places.specs.code.Edits.{edited};
 ghost use Rattle.fs_nodes.specs.code.Linked.{graph_of_places, next_child, IsPlaces, IsGap, IsNextSibling, IsEntry, IsLesser, IsGreater, is_lesser, IsPassed, with_entries, entered, led, followed, put_between, taken_out};
 
-use crate::hints::low_of;
+use crate::hints::{MOST, low_of};
 use crate::index::{Found, Slot, seek};
 use fs_names::{NODE_LIMIT, Name};
 use fs_places::label::{head, is_short};
@@ -241,14 +242,8 @@ fn is_lesser(place: &Place, dir: usize, first: u64, name: &Name) -> bool
     is_in_dir(place, dir) && place.name.cmp(first, name) == Ordering::Less
 }
 
-/// The place that was told, if it is that of an entry of the directory with a lesser name.
-pub fn lesser(
-    places: &[Place],
-    dir: usize,
-    told: Spot,
-    first: u64,
-    name: &Name,
-) -> Option<usize>
+/// A place that was told, if it is that of an entry of the directory with a lesser name.
+pub fn lesser(places: &[Place], dir: usize, told: Spot, first: u64, name: &Name) -> Option<usize>
     requires places { IsPlaces places.now }
     requires first { IsHead first name.now }
     ensures { IfSome result (IsLesser (graph_of_places places.now) dir name.now) }
@@ -273,7 +268,7 @@ fn lesser_told(places: &[Place], dir: usize, first: u64, name: &Name) -> Option<
     requires first { IsHead first name.now }
     ensures { IfSome result (IsLesser (graph_of_places places.now) dir name.now) }
 {
-    lesser(places, dir, low_of(places, dir, first, name), first, name)
+    lesser(places, dir, low_of(places, dir, first, name).0, first, name)
 }
 
 /// Between which siblings a search for a name begins: behind an entry with a lesser one, or before the first entry.
@@ -292,7 +287,8 @@ fn start(places: &[Place], dir: usize, after: Option<usize>) -> (Spot, Spot)
     }
 }
 
-/// The siblings between which an entry of this name belongs, where there is none yet; they are looked for behind an entry with a lesser name, if one is given.
+/// The siblings between which an entry of this name belongs, where there is none yet. They are looked for behind an entry with a
+/// lesser name, if one is given.
 pub fn gap(
     places: &[Place],
     dir: usize,
@@ -478,6 +474,18 @@ pub fn entry_after(places: &[Place], node: usize) -> Option<(Name, usize)>
         }
         None => None,
     }
+}
+
+/// How many steps a search for a name along the tree and the siblings takes.
+pub fn order_steps(places: &[Place], dir: usize, name: &Name) -> usize
+    requires { IsPlaces places.now }
+    ensures { result ≤ MOST + length (names_of ((graph_of_places places.now).shape dir)) }
+{
+    let first = head(name.bytes());
+    let (told, steps) = low_of(places, dir, first, name);
+    let other = lesser(places, dir, told, first, name);
+    let looked = search(places, dir, other, first, name);
+    steps + looked.1
 }
 
 /// The node of a directory's least name above the given one.
