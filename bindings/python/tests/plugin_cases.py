@@ -95,6 +95,37 @@ FAILS = """
 """
 
 
+def test_patch(pytester):
+    """The tree of the test stands at the directory of the mark until the test ends, also where it fails."""
+    text = """
+        import os
+        import pathlib
+        import pytest
+
+        def test_one(atom_patch, atom_tree):
+            assert atom_patch.at == pathlib.Path("/sandbox")
+            os.makedirs("/sandbox/a")
+            (atom_patch.at / "a" / "f").write_text("text")
+            assert atom_tree.to_dict() == {"/a/f": b"text"}
+
+        @pytest.mark.atomfs({"f": "text"}, at="/elsewhere/below")
+        def test_elsewhere(atom_patch):
+            os.chdir("/elsewhere/below")
+            assert open("f").read() == "text" and not os.path.exists("/sandbox")
+            assert False
+
+        def test_behind():
+            assert not os.path.exists("/elsewhere/below") and not os.path.exists("/sandbox")
+            assert os.path.isdir(os.getcwd())
+
+        @pytest.mark.atomfs(at="/")
+        def test_root(atom_patch):
+            pass
+    """
+    result = outcomes(pytester, text, passed=2, failed=1, errors=1)
+    result.stdout.fnmatch_lines(["*ValueError: a tree stands at a directory below the root*"])
+
+
 def test_section(pytester):
     """A test that fails shows the tree and the last calls, and one that passes does not."""
     result = outcomes(pytester, FAILS.format(False), failed=1)

@@ -5,8 +5,10 @@ import csv
 import errno
 import io
 import json
+import os
 import pathlib
 import pickle
+import shutil
 import sqlite3
 import stat
 import tempfile
@@ -14,7 +16,7 @@ import threading
 import unittest
 import zipfile
 
-from atomfs import Tree, diff
+from atomfs import Tree, diff, patch
 
 
 class FirstSuite(unittest.TestCase):
@@ -147,6 +149,18 @@ class FirstSuite(unittest.TestCase):
                 other.to_zip(again)
         with self.tree.open("/again.zip", "rb") as file:
             self.assertEqual(zipfile.ZipFile(file).read("d/f.txt"), b"in a zip")
+
+    def test_the_builtin_open(self):
+        """What a program does with `open`, `os`, pathlib and shutil goes to the tree, below one directory."""
+        with patch(self.tree, at="/sandbox"):
+            os.makedirs("/sandbox/a/b")
+            with open("/sandbox/a/f.txt", "w") as file:
+                file.write("by open")
+            shutil.copytree("/sandbox/a", "/sandbox/c")
+            self.assertEqual(sorted(map(str, pathlib.Path("/sandbox").rglob("*.txt"))), ["/sandbox/a/f.txt", "/sandbox/c/f.txt"])
+            self.assertRaisesRegex(OSError, "a tree keeps no times", os.utime, "/sandbox/a/f.txt")
+            self.assertTrue(os.path.exists(__file__))
+        self.assertEqual((self.tree.read_text("/c/f.txt"), os.path.exists("/sandbox")), ("by open", False))
 
     def test_csv_and_json(self):
         with self.tree.open("/t.csv", "w", newline="") as file:

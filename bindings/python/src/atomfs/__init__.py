@@ -15,6 +15,7 @@ from ._journal import ALL, LAST, NONE, Journal
 from ._library import NODE_LIMIT, PATH_LIMIT, Did, Limits, Status
 from ._library import library as _shared_object
 from ._load import Snapshot, diff
+from ._patch import patch
 from ._path import Path
 from ._tree import Begin, Seat, Stat, Step, Tree, check, run
 
@@ -50,5 +51,6 @@ __all__ = [
     "check",
     "diff",
     "library_version",
+    "patch",
     "run",
 ]

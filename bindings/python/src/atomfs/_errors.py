@@ -102,6 +102,11 @@ def error_at(tree: Tree, status: int, paths: tuple[AnyPath, ...]) -> Exception:
     return error_of(tree._library, status)
 
 
+def file_too_large(limits: Limits) -> OSError:
+    """The error of a file that would be too large."""
+    return OSError(errno.EFBIG, _words_of(limits, errno.EFBIG))
+
+
 def _words_of(limits: Limits, number: int) -> str:
     """What an error of a call says: of a limit, which one."""
     if number == errno.ENOSPC:

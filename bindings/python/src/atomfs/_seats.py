@@ -1,6 +1,7 @@
 """The seats of a tree's own calls: each thread of Python has one, which another thread gets once this one has ended."""
 from __future__ import annotations
 
+import contextlib
 import ctypes
 import threading
 from typing import List
@@ -29,26 +30,24 @@ class _Held:
 
 
 class Mine(threading.local):
-    """The seat of this thread, `number`: from its first call on, of which the tree's lock is held."""
-
-    number: int
+    """The seat of this thread, `number`, which it has from its first call on: Python comes to `__init__` once for each thread."""
 
     def __init__(self, library: Library, at: int, free: List[int]) -> None:
-        # Each thread comes here, and all have the same list.
+        # All threads have the same list.
         self._library, self._at, self._free = library, at, free
+        self._take()
 
-    def __getattr__(self, name: str) -> int:
+    def _take(self) -> None:
         """Takes a seat that a thread has left, or a new one."""
-        if name != "number":
-            raise AttributeError(name)
-        number = self._free.pop() if self._free else added(self._library, self._at)
-        self._held, self.number = _Held(number, self._free), number
-        return number
+        self.number = self._free.pop() if self._free else added(self._library, self._at)
+        self._held = _Held(self.number, self._free)
 
     def leave(self) -> int:
-        """The seat of this thread, which is not its own any more: its next call is on another."""
+        """The seat of this thread, which takes another for its next call."""
         number = self.number
-        # What is held has a list of its own now, and the seat is never free.
+        # What is held has a list of its own now, so that this seat is never free.
         self._held.free = []
-        del self.number, self._held
+        # Without memory for another, it is the thread's own again when the call on it has returned.
+        with contextlib.suppress(MemoryError):
+            self._take()
         return number

@@ -121,7 +121,8 @@ class Tree:
     `journal` says how many calls it keeps: `ALL`, `LAST(10_000)` or `NONE`. A tree that keeps all grows with every call.
 
     Threads may share it: each method holds `lock`, which is re-entrant, so that `with tree.lock:` keeps the other threads off
-    for several calls. The calls of a thread are on a seat of its own, by which the journal tells threads apart. Paths are absolute; those of `str` are UTF-8. `with` closes it.
+    for several calls. The calls of a thread are on a seat of its own, by which the journal tells threads apart. Paths are absolute;
+    those of `str` are UTF-8. `with` closes it.
     """
 
     def __init__(
@@ -152,7 +153,6 @@ class Tree:
         self._mine = _seats.Mine(self._library, self._at, [])
         # The names of seats that have one.
         self._names: Dict[int, str] = {}
-        self._mine.number  # noqa: B018
         if journal != ALL:
             self.keep(journal)
 

@@ -8,7 +8,8 @@
     def test_with_data(atom_path):
         assert (atom_path / "in.txt").is_file()
 
-`atom_tree` is a tree of the test's own, `atom_fs` the same as a file system of PyFilesystem2, `atom_path` its root as a path. At
+`atom_tree` is a tree of the test's own, `atom_fs` the same as a file system of PyFilesystem2, `atom_path` its root as a path. By
+`atom_patch` it stands at a directory of the disk, `/sandbox` where the mark has no other by `at`, for `open`, `os` and so on. At
 the end the journal of the tree has to be lawful. The report of a test that fails shows the tree and its last 30 calls.
 """
 from __future__ import annotations
@@ -21,6 +22,7 @@ import pytest
 
 from ._library import NODE_LIMIT, Limits
 from ._load import Snapshot, of_snapshot
+from ._patch import patch
 from ._path import Path
 from ._tree import Tree
 
@@ -29,7 +31,10 @@ if TYPE_CHECKING:
 
 _TREE = pytest.StashKey[Tree]()
 _LOADED = pytest.StashKey[Dict[Tuple[str, int, Limits], Snapshot]]()
-_MARK = "atomfs(load=None, limit=NODE_LIMIT, limits=Limits.V2): atom_tree begins with a directory, a zip or a dictionary, by these limits"
+_MARK = (
+    "atomfs(load=None, limit=NODE_LIMIT, limits=Limits.V2, at='/sandbox'): atom_tree begins with a directory, a zip or a dictionary, "
+    "by these limits, and by atom_patch it stands at this directory of the disk"
+)
 
 
 def pytest_configure(config: pytest.Config) -> None:
@@ -38,18 +43,23 @@ def pytest_configure(config: pytest.Config) -> None:
     config.stash[_LOADED] = loaded
 
 
-def _asked(load: Any = None, limit: int = NODE_LIMIT, limits: Limits = Limits.V2) -> Tuple[Any, int, Limits]:
+def _words(load: Any = None, limit: int = NODE_LIMIT, limits: Limits = Limits.V2, at: str = "/sandbox") -> Tuple[Any, int, Limits, str]:
     """The words of the mark."""
-    return load, limit, limits
+    return load, limit, limits, at
+
+
+def _asked(node: Any) -> Tuple[Any, int, Limits, str]:
+    """What the mark of a test asks for."""
+    mark = node.get_closest_marker("atomfs")
+    try:
+        return _words(*mark.args, **mark.kwargs) if mark else _words()
+    except TypeError as error:
+        raise pytest.UsageError(f"the mark atomfs: {error}") from None
 
 
 def _made(node: Any) -> Tree:
     """The tree that a test asks for. A directory or a zip is read once for all tests."""
-    mark = node.get_closest_marker("atomfs")
-    try:
-        load, limit, limits = _asked(*mark.args, **mark.kwargs) if mark else _asked()
-    except TypeError as error:
-        raise pytest.UsageError(f"the mark atomfs: {error}") from None
+    load, limit, limits, _ = _asked(node)
     if load is None:
         return Tree(limit, limits=limits)
     if isinstance(load, Mapping):
@@ -93,6 +103,13 @@ def atom_fs(atom_tree: Tree) -> Iterator[AtomFS]:
 def atom_path(atom_tree: Tree) -> Path:
     """The root of the tree of the test, as a path with the methods of `pathlib.Path`."""
     return atom_tree.path()
+
+
+@pytest.fixture
+def atom_patch(request: pytest.FixtureRequest, atom_tree: Tree) -> Iterator[patch]:
+    """The tree of the test stands at a directory of the disk, the `at` of what this is, until the test ends."""
+    with patch(atom_tree, _asked(request.node)[3]) as patched:
+        yield patched
 
 
 def _shown(tree: Tree) -> str:

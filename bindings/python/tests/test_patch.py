@@ -1,0 +1,830 @@
+"""A tree at a directory of the disk: each row does the same as in a directory of the disk itself, and nothing comes to the disk."""
+import bz2
+import codecs
+import contextlib
+import errno
+import fcntl
+import fileinput
+import glob
+import gzip
+import io
+import linecache
+import lzma
+import mmap
+import os
+import pathlib
+import re
+import shutil
+import sqlite3
+import stat
+import subprocess
+import sys
+import tarfile
+import tempfile
+import threading
+import unittest
+import zipfile
+from os import listdir as captured
+
+import atomfs
+from atomfs import _table
+
+AT = "/sandbox_of_atomfs"
+
+
+def written(path, text="text"):
+    with open(path, "w") as file:
+        file.write(text)
+    return path
+
+
+def text_of(path):
+    with open(path) as file:
+        return file.read()
+
+
+def all_of(at):
+    """What is below a path, with the bytes of files."""
+    found = []
+    for folder, folders, files in os.walk(at):
+        folders.sort()
+        found += [f"{folder}/{name}/" for name in folders]
+        for name in sorted(files):
+            with open(f"{folder}/{name}", "rb") as file:
+                found.append((f"{folder}/{name}", file.read()))
+    return found
+
+
+@contextlib.contextmanager
+def descriptor(path, flags=os.O_RDWR):
+    number = os.open(path, flags)
+    try:
+        yield number
+    finally:
+        os.close(number)
+
+
+def with_descriptor(work, flags=os.O_RDWR, name="f"):
+    """A row: what a function answers of a descriptor, and what is below the directory then."""
+
+    def row(at):
+        with descriptor(f"{at}/{name}", flags) as number:
+            return work(number), os.lseek(number, 0, os.SEEK_CUR) if name == "f" else None
+
+    return row
+
+
+def of_stat(found):
+    return stat.S_IFMT(found.st_mode), found.st_size if stat.S_ISREG(found.st_mode) else None
+
+
+def in_folder(work):
+    """A row that is run from a directory of the place."""
+
+    def row(at):
+        before = os.getcwd()
+        os.chdir(f"{at}/d")
+        try:
+            return work(at)
+        finally:
+            os.chdir(before)
+
+    return row
+
+
+def duplicate(number):
+    other = os.dup(number)
+    os.write(other, b"ab")
+    os.close(other)
+    return os.write(number, b"cd")
+
+
+def into_buffers(function):
+    def work(*given):
+        first, second = bytearray(2), bytearray(9)
+        return function(given[0], [first, second], *given[1:]), first, second
+
+    return work
+
+
+def no_links(at):
+    try:
+        os.readlink(f"{at}/f")
+    except OSError as error:
+        return error.errno
+
+
+def sent(function):
+    def row(at):
+        written(f"{at}/to", "")
+        with descriptor(f"{at}/f") as source, descriptor(f"{at}/to") as target:
+            function(source, target)
+        return all_of(at)
+
+    return row
+
+
+def renamed(function):
+    def row(at):
+        function(f"{at}/f", f"{at}/d/g")
+        function(f"{at}/d", f"{at}/e")
+        return all_of(at)
+
+    return row
+
+
+def scanned(at):
+    with os.scandir(f"{at}/d") as entries:
+        found = sorted(
+            (one.name, one.path, os.fspath(one), one.is_dir(), one.is_file(), one.is_symlink(), of_stat(one.stat())) for one in entries
+        )
+    with descriptor(f"{at}/d", os.O_RDONLY) as number, os.scandir(number) as entries:
+        return found, sorted(one.path for one in entries), sorted(one.name for one in os.scandir(os.fsencode(at)))
+
+
+def closed(at):
+    number = os.open(f"{at}/f", os.O_RDONLY)
+    os.close(number)
+    try:
+        os.read(number, 1)
+    except OSError as error:
+        return error.errno
+
+
+def closed_range(at):
+    number = os.open(f"{at}/f", os.O_RDONLY)
+    os.closerange(number, number + 1)
+    try:
+        os.fstat(number)
+    except OSError as error:
+        return error.errno
+
+
+def packed(at):
+    with zipfile.ZipFile(f"{at}/z.zip", "w") as archive:
+        archive.write(f"{at}/d/g", "g")
+        archive.writestr("x/y", "written")
+    with zipfile.ZipFile(f"{at}/z.zip") as archive:
+        archive.extractall(f"{at}/out")
+        return archive.namelist(), all_of(f"{at}/out")
+
+
+def tarred(at):
+    with tarfile.open(f"{at}/t.tar.gz", "w:gz") as archive:
+        archive.add(f"{at}/d", "d")
+    with tarfile.open(f"{at}/t.tar.gz") as archive:
+        archive.extractall(f"{at}/out")
+        return archive.getnames(), all_of(f"{at}/out")
+
+
+def compressed(module):
+    def row(at):
+        with module.open(f"{at}/z", "wt") as file:
+            file.write("text")
+        with module.open(f"{at}/z", "rt") as file:
+            return file.read()
+
+    return row
+
+
+def archived(at):
+    for kind in ("zip", "gztar"):
+        shutil.make_archive(f"{at}/e", kind, f"{at}/d")
+    return sorted(os.listdir(at)), zipfile.ZipFile(f"{at}/e.zip").namelist()
+
+
+def unpacked(at):
+    shutil.make_archive(f"{at}/e", "zip", f"{at}/d")
+    shutil.unpack_archive(f"{at}/e.zip", f"{at}/out")
+    return all_of(f"{at}/out")
+
+
+def of_file_objects(at):
+    with open(f"{at}/f", "rb") as source, open(f"{at}/to", "wb") as target:
+        shutil.copyfileobj(source, target)
+    return text_of(f"{at}/to")
+
+
+def copied(function):
+    def row(at):
+        function(f"{at}/f", f"{at}/to")
+        function(f"{at}/f", f"{at}/d/g")
+        return all_of(at)
+
+    return row
+
+
+def named_file(at):
+    with tempfile.NamedTemporaryFile("w+", dir=at) as file:
+        file.write("text")
+        file.flush()
+        found = text_of(file.name), len(os.listdir(at))
+    return found, sorted(os.listdir(at))
+
+
+def unnamed_file(at):
+    with tempfile.TemporaryFile(dir=at) as file:
+        file.write(b"text")
+        file.seek(1)
+        return file.read(), os.fstat(file.fileno()).st_size, sorted(os.listdir(at))
+
+
+def made_file(at):
+    number, path = tempfile.mkstemp(dir=at)
+    os.write(number, b"text")
+    os.close(number)
+    return text_of(path), os.path.dirname(path)
+
+
+def temporary_folder(at):
+    with tempfile.TemporaryDirectory(dir=at) as folder:
+        os.makedirs(f"{folder}/a/b")
+        written(f"{folder}/a/f")
+        found = len(os.listdir(at))
+    return found, sorted(os.listdir(at))
+
+
+def rolled(at):
+    with tempfile.SpooledTemporaryFile(2, dir=at) as file:
+        file.write(b"text")
+        file.seek(0)
+        return file.read(), sorted(os.listdir(at))
+
+
+def opened(at):
+    found = []
+    for mode, text in (("w", "one\ntwo\n"), ("a", "three\n"), ("r+", "ONE"), ("a+", "four"), ("w+", "x\r\ny")):
+        with open(f"{at}/o", mode) as file:
+            found.append((file.write(text), file.tell(), file.name, file.mode, file.seekable(), file.isatty()))
+        with open(f"{at}/o", "rb", 0) as file:
+            found.append((file.read(3), file.readall(), file.seek(-1, 2), file.tell(), file.read(), file.fileno() > 2, file.mode))
+        with open(f"{at}/o", newline="", buffering=1) as file:
+            found.append(list(file))
+    with open(f"{at}/o", "rb+") as file:
+        found += [file.truncate(2), file.seek(0, 2), file.write(b"z"), file.seek(0), file.read()]
+    with open(f"{at}/new", "x", opener=lambda path, flags: os.open(path, flags, 0o600)) as file:
+        found.append(file.name)
+    with open(pathlib.Path(at, "f").open().fileno(), closefd=False) as file:
+        found.append(file.read())
+    return found
+
+
+def open_code(at):
+    with io.open_code(f"{at}/f") as file:
+        return file.read()
+
+
+def touched(at):
+    path = pathlib.Path(at, "t")
+    path.touch()
+    path.touch()
+    return path.stat().st_size
+
+
+def by_pathlib(name, *given):
+    return lambda at: getattr(pathlib.Path(at, "f"), name)(*given)
+
+
+def changed(function):
+    """A row: what is below the directory after a change."""
+
+    def row(at):
+        answered = function(at)
+        return answered, all_of(at)
+
+    return row
+
+
+def sizes(at):
+    os.truncate(f"{at}/f", 2)
+    with descriptor(f"{at}/d/g") as number:
+        os.truncate(number, 9)
+    return all_of(at)
+
+
+def there(function):
+    return lambda at: [function(f"{at}/{name}") for name in ("", "f", "d", "f/", "d/", "none", "f/x", "d/../f", "./d//g", "none/..", "f/..")]
+
+
+def same(function):
+    return lambda at: [function(f"{at}/f", f"{at}/{name}") for name in ("f", "d/../f", "d/g")]
+
+
+# What each name does below a directory that has a file `f` and a directory `d` with a file `g` and a directory `e`.
+ROWS = {
+    "builtins.open": opened,
+    "io.open": lambda at: io.open(f"{at}/f", "rb").read(),
+    "io.open_code": open_code,
+    "os.stat": lambda at: [of_stat(os.stat(one)) for one in (at, f"{at}/f", f"{at}/d/", os.fsencode(at), pathlib.Path(at, "f"))],
+    "os.lstat": lambda at: of_stat(os.lstat(f"{at}/f")),
+    "os.access": there(lambda path: os.access(path, os.R_OK | os.W_OK)),
+    "os.listdir": lambda at: (sorted(os.listdir(at)), sorted(os.listdir(os.fsencode(f"{at}/d"))), with_descriptor(lambda number: sorted(os.listdir(number)), 0, "d")(at)),
+    "os.scandir": scanned,
+    "os.readlink": no_links,
+    "os.chdir": in_folder(lambda at: (os.getcwd(), text_of("g"), sorted(os.listdir()), sorted(os.listdir("..")), os.path.exists("../../none"))),
+    "os.getcwd": in_folder(lambda at: os.getcwd()),
+    "os.getcwdb": in_folder(lambda at: os.getcwdb()),
+    "os.fchdir": in_folder(lambda at: (with_descriptor(lambda number: os.fchdir(number), 0, "d/e")(at), os.getcwd())),
+    "os.mkdir": changed(lambda at: (os.mkdir(f"{at}/n"), os.mkdir(f"{at}/n/m/", 0o700), os.mkdir(path=f"{at}/k"))),
+    "os.mknod": changed(lambda at: os.mknod(f"{at}/n", stat.S_IFREG | 0o600)),
+    "os.unlink": changed(lambda at: os.unlink(f"{at}/f")),
+    "os.remove": changed(lambda at: os.remove(f"{at}/d/g")),
+    "os.rmdir": changed(lambda at: os.rmdir(f"{at}/d/e")),
+    "os.rename": renamed(lambda *paths: os.rename(*paths)),
+    "os.replace": renamed(lambda *paths: os.replace(*paths)),
+    "os.truncate": sizes,
+    "os.open": lambda at: with_descriptor(lambda number: os.open("e", 0, dir_fd=number) > 2, 0, "d")(at),
+    "os.fstat": with_descriptor(lambda number: of_stat(os.fstat(number))),
+    "os.close": closed,
+    "os.closerange": closed_range,
+    "os.read": with_descriptor(lambda number: (os.read(number, 2), os.read(number, 9), os.read(number, 9))),
+    "os.write": changed(with_descriptor(lambda number: (os.write(number, b"ab"), os.write(number, memoryview(b"cd"))), os.O_RDWR | os.O_APPEND)),
+    "os.pread": with_descriptor(lambda number: os.pread(number, 2, 1)),
+    "os.pwrite": changed(with_descriptor(lambda number: os.pwrite(number, b"ab", 7))),
+    "os.readv": with_descriptor(lambda number: into_buffers(os.readv)(number)),
+    "os.preadv": with_descriptor(lambda number: into_buffers(os.preadv)(number, 1)),
+    "os.writev": changed(with_descriptor(lambda number: os.writev(number, [b"ab", b"cd"]))),
+    "os.pwritev": changed(with_descriptor(lambda number: os.pwritev(number, [b"ab", b"cd"], 3))),
+    "os.lseek": with_descriptor(lambda number: [os.lseek(number, *to) for to in ((3, 0), (1, 1), (-1, 2), (9, 0))]),
+    "os.ftruncate": changed(with_descriptor(lambda number: os.ftruncate(number, 7))),
+    "os.posix_fallocate": changed(with_descriptor(lambda number: os.posix_fallocate(number, 3, 7))),
+    "os.posix_fadvise": with_descriptor(lambda number: os.posix_fadvise(number, 0, 0, os.POSIX_FADV_NORMAL)),
+    "os.fsync": with_descriptor(lambda number: os.fsync(number)),
+    "os.fdatasync": with_descriptor(lambda number: os.fdatasync(number)),
+    "os.isatty": with_descriptor(lambda number: os.isatty(number)),
+    "os.get_inheritable": with_descriptor(lambda number: os.get_inheritable(number)),
+    "os.set_inheritable": with_descriptor(lambda number: os.set_inheritable(number, False)),
+    "os.get_blocking": with_descriptor(lambda number: os.get_blocking(number)),
+    "os.set_blocking": with_descriptor(lambda number: os.set_blocking(number, True)),
+    "os.dup": changed(with_descriptor(duplicate)),
+    "os.sendfile": sent(lambda source, target: (os.sendfile(target, source, 1, 3), os.sendfile(target, source, None, 9))),
+    "os.copy_file_range": sent(lambda source, target: (os.copy_file_range(source, target, 2), os.copy_file_range(source, target, 9, 1, 4))),
+    "os.fdopen": lambda at: os.fdopen(os.open(f"{at}/f", os.O_RDONLY)).read(),
+    "os.makedirs": changed(lambda at: (os.makedirs(f"{at}/n/m/k"), os.makedirs(f"{at}/n/m", exist_ok=True))),
+    "os.removedirs": changed(lambda at: (os.makedirs(f"{at}/n/m/k"), os.removedirs(f"{at}/n/m/k"))),
+    "os.renames": changed(lambda at: os.renames(f"{at}/f", f"{at}/n/m/f")),
+    "os.walk": lambda at: sorted((path, sorted(folders), sorted(files)) for path, folders, files in os.walk(at, topdown=False)),
+    "os.fwalk": lambda at: sorted((path, sorted(folders), sorted(files)) for path, folders, files, _ in os.fwalk(at)),
+    "os.path.exists": there(os.path.exists),
+    "os.path.lexists": there(os.path.lexists),
+    "os.path.isdir": there(os.path.isdir),
+    "os.path.isfile": there(os.path.isfile),
+    "os.path.islink": there(os.path.islink),
+    "os.path.ismount": lambda at: os.path.ismount(f"{at}/d"),
+    "os.path.getsize": lambda at: os.path.getsize(f"{at}/f"),
+    "os.path.getmtime": lambda at: os.path.getmtime(f"{at}/f") > 0,
+    "os.path.samefile": same(os.path.samefile),
+    "os.path.sameopenfile": with_descriptor(lambda number: os.path.sameopenfile(number, number)),
+    "os.path.abspath": in_folder(lambda at: os.path.abspath("../f")),
+    "os.path.realpath": in_folder(lambda at: (os.path.realpath("e/../g"), os.path.realpath(f"{at}/d/../f"))),
+    "os.path.relpath": in_folder(lambda at: os.path.relpath(f"{at}/f")),
+    "pathlib.Path.exists": there(lambda path: pathlib.Path(path).exists()),
+    "pathlib.Path.is_dir": there(lambda path: pathlib.Path(path).is_dir()),
+    "pathlib.Path.is_file": there(lambda path: pathlib.Path(path).is_file()),
+    "pathlib.Path.is_symlink": by_pathlib("is_symlink"),
+    "pathlib.Path.is_mount": by_pathlib("is_mount"),
+    "pathlib.Path.stat": lambda at: of_stat(pathlib.Path(at, "f").stat()),
+    "pathlib.Path.lstat": lambda at: of_stat(pathlib.Path(at, "f").lstat()),
+    "pathlib.Path.iterdir": lambda at: sorted(map(str, pathlib.Path(at).iterdir())),
+    "pathlib.Path.glob": lambda at: sorted(map(str, pathlib.Path(at).glob("*/[eg]"))),
+    "pathlib.Path.rglob": lambda at: sorted(map(str, pathlib.Path(at).rglob("*"))),
+    "pathlib.Path.mkdir": changed(lambda at: (pathlib.Path(at, "n/m").mkdir(parents=True), pathlib.Path(at, "n").mkdir(exist_ok=True))),
+    "pathlib.Path.rmdir": changed(lambda at: pathlib.Path(at, "d/e").rmdir()),
+    "pathlib.Path.touch": touched,
+    "pathlib.Path.unlink": changed(lambda at: (pathlib.Path(at, "f").unlink(), pathlib.Path(at, "f").unlink(missing_ok=True))),
+    "pathlib.Path.rename": changed(lambda at: str(pathlib.Path(at, "f").rename(f"{at}/n"))),
+    "pathlib.Path.replace": changed(lambda at: str(pathlib.Path(at, "f").replace(f"{at}/d/g"))),
+    "pathlib.Path.open": lambda at: pathlib.Path(at, "f").open().read(),
+    "pathlib.Path.read_text": by_pathlib("read_text"),
+    "pathlib.Path.write_text": changed(by_pathlib("write_text", "other")),
+    "pathlib.Path.read_bytes": by_pathlib("read_bytes"),
+    "pathlib.Path.write_bytes": changed(by_pathlib("write_bytes", b"other")),
+    "pathlib.Path.samefile": same(lambda path, other: pathlib.Path(path).samefile(other)),
+    "pathlib.Path.resolve": in_folder(lambda at: (str(pathlib.Path("../f").resolve()), str(pathlib.Path(at, "f").resolve(strict=True)))),
+    "pathlib.Path.absolute": in_folder(lambda at: str(pathlib.Path("g").absolute())),
+    "pathlib.Path.cwd": in_folder(lambda at: str(pathlib.Path.cwd())),
+    "shutil.copyfile": copied(shutil.copyfile),
+    "shutil.copyfileobj": of_file_objects,
+    "shutil.copy": copied(shutil.copy),
+    "shutil.copy2": copied(shutil.copy2),
+    "shutil.copystat": changed(lambda at: shutil.copystat(f"{at}/f", f"{at}/d/g")),
+    "shutil.copymode": changed(lambda at: shutil.copymode(f"{at}/f", f"{at}/d/g")),
+    "shutil.copytree": changed(lambda at: shutil.copytree(f"{at}/d", f"{at}/c/k")),
+    "shutil.move": changed(lambda at: (shutil.move(f"{at}/f", f"{at}/d"), shutil.move(f"{at}/d", f"{at}/k"))),
+    "shutil.rmtree": changed(lambda at: shutil.rmtree(f"{at}/d")),
+    "shutil.make_archive": archived,
+    "shutil.unpack_archive": unpacked,
+    "tempfile.mkstemp": made_file,
+    "tempfile.mkdtemp": lambda at: os.path.isdir(tempfile.mkdtemp(dir=at)),
+    "tempfile.TemporaryFile": unnamed_file,
+    "tempfile.NamedTemporaryFile": named_file,
+    "tempfile.TemporaryDirectory": temporary_folder,
+    "tempfile.SpooledTemporaryFile": rolled,
+    "zipfile.ZipFile": packed,
+    "zipfile.is_zipfile": lambda at: (packed(at), zipfile.is_zipfile(f"{at}/z.zip"), zipfile.is_zipfile(f"{at}/f")),
+    "zipfile.Path": lambda at: (packed(at), zipfile.Path(f"{at}/z.zip", "g").read_text()),
+    "tarfile.open": tarred,
+    "gzip.open": compressed(gzip),
+    "bz2.open": compressed(bz2),
+    "lzma.open": compressed(lzma),
+    "glob.glob": lambda at: sorted(glob.glob(f"{at}/**", recursive=True)),
+    "glob.iglob": lambda at: sorted(glob.iglob(f"{at}/*/g")),
+    "codecs.open": lambda at: codecs.open(f"{at}/f", encoding="utf-8").read(),
+    "fileinput.input": lambda at: list(fileinput.FileInput([f"{at}/f", f"{at}/d/g"])),
+    "linecache.getline": lambda at: (linecache.checkcache(), linecache.getline(f"{at}/f", 1)),
+}
+
+# What is refused below the directory, and how it is called there.
+REFUSALS = {
+    "os.chmod": lambda at: os.chmod(f"{at}/f", 0o600),
+    "os.fchmod": with_descriptor(lambda number: os.fchmod(number, 0o600)),
+    "os.chown": lambda at: os.chown(f"{at}/f", 0, 0),
+    "os.lchown": lambda at: os.lchown(f"{at}/f", 0, 0),
+    "os.fchown": with_descriptor(lambda number: os.fchown(number, 0, 0)),
+    "os.utime": lambda at: os.utime(f"{at}/f"),
+    "os.chroot": lambda at: os.chroot(f"{at}/d"),
+    "os.link": lambda at: os.link(f"{at}/f", f"{at}/l"),
+    "os.symlink": lambda at: os.symlink("f", f"{at}/l"),
+    "os.mkfifo": lambda at: os.mkfifo(f"{at}/p"),
+    "os.statvfs": lambda at: os.statvfs(f"{at}/f"),
+    "os.fstatvfs": with_descriptor(lambda number: os.fstatvfs(number)),
+    "os.pathconf": lambda at: os.pathconf(at, "PC_NAME_MAX"),
+    "os.fpathconf": with_descriptor(lambda number: os.fpathconf(number, "PC_NAME_MAX")),
+    "os.getxattr": lambda at: os.getxattr(f"{at}/f", "user.a"),
+    "os.setxattr": lambda at: os.setxattr(f"{at}/f", "user.a", b""),
+    "os.listxattr": lambda at: os.listxattr(f"{at}/f"),
+    "os.removexattr": lambda at: os.removexattr(f"{at}/f", "user.a"),
+    "os.execv": lambda at: os.execv(f"{at}/f", ["f"]),
+    "os.execve": lambda at: os.execve(f"{at}/f", ["f"], {}),
+    "os.posix_spawn": lambda at: os.posix_spawn(f"{at}/f", ["f"], {}),
+    "os.posix_spawnp": lambda at: os.posix_spawnp(f"{at}/f", ["f"], {}),
+    "os.system": in_folder(lambda at: os.system("true")),
+    "subprocess.Popen": lambda at: subprocess.run(["true"], cwd=at),
+    "os.lockf": with_descriptor(lambda number: os.lockf(number, os.F_TEST, 0)),
+    "os.ttyname": with_descriptor(lambda number: os.ttyname(number)),
+    "os.splice": lambda at: with_descriptor(lambda number: os.splice(number, 1, 1))(at),
+    "os.dup2": with_descriptor(lambda number: os.dup2(number, 1)),
+    "fcntl.flock": with_descriptor(lambda number: fcntl.flock(number, fcntl.LOCK_EX)),
+    "fcntl.lockf": lambda at: fcntl.lockf(open(f"{at}/f", "r+"), fcntl.LOCK_EX),
+    "fcntl.fcntl": with_descriptor(lambda number: fcntl.fcntl(number, fcntl.F_GETFL)),
+    "fcntl.ioctl": with_descriptor(lambda number: fcntl.ioctl(number, 1)),
+    "mmap.mmap": with_descriptor(lambda number: mmap.mmap(number, 0)),
+    "sqlite3.connect": lambda at: sqlite3.connect(f"file://{at}/base?mode=rwc", uri=True),
+    "sqlite3.Connection": lambda at: sqlite3.Connection(f"{at}/base"),
+    "io.FileIO": lambda at: io.FileIO(f"{at}/f"),
+}
+
+
+def filled(at):
+    os.makedirs(f"{at}/d/e")
+    written(f"{at}/f", "hello")
+    written(f"{at}/d/g", "in d")
+
+
+class OfPatch(unittest.TestCase):
+    def setUp(self):
+        self.tree = atomfs.Tree()
+        self.addCleanup(self.tree.close)
+        self.assertFalse(os.path.lexists(AT))
+
+    def tearDown(self):
+        self.assertFalse(os.path.lexists(AT))
+        self.assertEqual(self.tree.check(), "lawful")
+
+    def outcome(self, row, at):
+        """What a row answers, or raises, without the path of the place and the names that are drawn."""
+        filled(at)
+        try:
+            found = repr(row(at))
+        except OSError as error:
+            found = repr((type(error), error.errno, error.filename, error.filename2))
+        return re.sub(r"\btmp[a-z0-9_]{8}\b", "TMP", found.replace(at, "AT"))
+
+    def compare(self, row):
+        with tempfile.TemporaryDirectory() as at:
+            wanted = self.outcome(row, at)
+        self.tree.rmtree("/")
+        with atomfs.patch(self.tree, at=AT):
+            found = self.outcome(row, AT)
+        self.assertEqual(found, wanted)
+
+
+def there_here(name):
+    """Whether this Python has what the table names."""
+    module, _, rest = name.partition(".")
+    found = sys.modules.get(module) or _table.found(name)
+    for part in rest.split("."):
+        found = getattr(found, part, None)
+    return found is not None
+
+
+class Table(OfPatch):
+    def test_rows(self):
+        """Each name that is covered has a row here, and each that is refused."""
+        self.assertEqual(set(ROWS), {name for name in atomfs.patch.covered if there_here(name)})
+        self.assertEqual(len(set(atomfs.patch.covered)), len(atomfs.patch.covered))
+        self.assertEqual(set(REFUSALS), {name for name in atomfs.patch.refused if there_here(name)})
+
+    def test_covered(self):
+        for name, row in ROWS.items():
+            with self.subTest(name):
+                self.compare(row)
+
+    def test_refused(self):
+        for name, call in REFUSALS.items():
+            with self.subTest(name), atomfs.patch(self.tree, at=AT):
+                self.tree.rmtree("/")
+                filled(AT)
+                before = self.tree.tree()
+                with self.assertRaises(OSError) as raised:
+                    call(AT)
+                self.assertEqual((raised.exception.errno, self.tree.tree()), (errno.ENOTSUP, before))
+                self.assertIn(f": a tree {atomfs.patch.refused[name]}", str(raised.exception))
+
+    def test_all_of_os(self):
+        """Each function of `os` that takes a path or a descriptor is in the table, or is made of those that are."""
+        made = {"fdopen", "fwalk", "makedirs", "removedirs", "renames", "walk", "popen", "get_exec_path", "fspath", "fsencode", "fsdecode"}
+        # Of terminals, other processes, and numbers that no descriptor is.
+        others = {"get_terminal_size", "device_encoding", "openpty", "tcgetpgrp", "tcsetpgrp", "major", "minor", "makedev", "eventfd_read"}
+        others |= {"eventfd_write", "waitid", "login_tty", "ptsname", "grantpt", "unlockpt", "setns", "pidfd_open"}
+        words = {"path", "src", "dst", "fd", "fd2", "fd_low", "in_fd", "out_fd", "source", "target"}
+        for name in sorted(set(os.__all__) - made - others):
+            function = getattr(os, name)
+            if not callable(function) or isinstance(function, type) or name.startswith(("exec", "spawn", "_")):
+                continue
+            text = getattr(function, "__text_signature__", None) or ""
+            if words & set(text.strip("()").replace("$", "").replace("=", " ").replace(",", " ").split()):
+                with self.subTest(name):
+                    self.assertIn(f"os.{name}", _table.REPLACED)
+
+
+class Errors(OfPatch):
+    def test_errors(self):
+        """Each raises what it raises on the disk, with the paths as they were given."""
+        for at, row in enumerate((
+            lambda at: open(f"{at}/none"),
+            lambda at: open(f"{at}/d"),
+            lambda at: open(f"{at}/d", "w"),
+            lambda at: open(f"{at}/f/x", "w"),
+            lambda at: open(f"{at}/none/x", "w"),
+            lambda at: open(f"{at}/new/", "w"),
+            lambda at: open(f"{at}/f", "x"),
+            lambda at: os.open(f"{at}/d", os.O_WRONLY),
+            lambda at: os.open(f"{at}/f", os.O_DIRECTORY),
+            lambda at: os.open(f"{at}/f", os.O_CREAT | os.O_EXCL),
+            lambda at: os.stat(f"{at}/none"),
+            lambda at: os.stat(f"{at}/f/"),
+            lambda at: os.stat(f"{at}/f/."),
+            lambda at: os.stat(f"{at}/none/../f"),
+            lambda at: os.stat(f"{at}/f/../f"),
+            lambda at: os.listdir(f"{at}/f"),
+            lambda at: os.listdir(os.fsencode(f"{at}/none")),
+            lambda at: os.scandir(f"{at}/none"),
+            lambda at: os.mkdir(f"{at}/d"),
+            lambda at: os.mkdir(f"{at}/f"),
+            lambda at: os.mkdir(at),
+            lambda at: os.rmdir(f"{at}/d"),
+            lambda at: os.rmdir(f"{at}/f"),
+            lambda at: os.unlink(f"{at}/d"),
+            lambda at: os.unlink(f"{at}/none"),
+            lambda at: os.remove(pathlib.Path(at, "none")),
+            lambda at: os.rename(f"{at}/none", f"{at}/x"),
+            lambda at: os.rename(f"{at}/d", f"{at}/d/e/x"),
+            lambda at: os.rename(f"{at}/f", f"{at}/d"),
+            lambda at: os.rename(f"{at}/d", f"{at}/f"),
+            lambda at: os.rename(f"{at}/f", f"{at}/x/"),
+            lambda at: os.replace(f"{at}/d/e", f"{at}/d"),
+            lambda at: os.rename(f"{at}/f", "/proc/none"),
+            lambda at: os.rename("/proc/version", f"{at}/f"),
+            lambda at: os.truncate(f"{at}/d", 0),
+            lambda at: os.truncate(f"{at}/f", -1),
+            lambda at: os.chdir(f"{at}/f"),
+            lambda at: os.chdir(f"{at}/none"),
+            lambda at: os.makedirs(f"{at}/f/x"),
+            lambda at: os.makedirs(f"{at}/d"),
+            lambda at: shutil.rmtree(f"{at}/none"),
+            lambda at: shutil.copyfile(f"{at}/f", f"{at}/f"),
+            lambda at: shutil.copytree(f"{at}/d", f"{at}/d/e"),
+            lambda at: pathlib.Path(at, "none").read_text(),
+            lambda at: pathlib.Path(at, "x").resolve(strict=True),
+            lambda at: tempfile.TemporaryFile(dir=f"{at}/none"),
+            with_descriptor(lambda number: os.read(number, 1), os.O_WRONLY),
+            with_descriptor(lambda number: os.write(number, b"x"), os.O_RDONLY),
+            with_descriptor(lambda number: os.read(number, 1), os.O_RDONLY, "d"),
+            with_descriptor(lambda number: os.lseek(number, -1, os.SEEK_SET)),
+            with_descriptor(lambda number: os.ftruncate(number, -1)),
+            with_descriptor(lambda number: os.stat("x", dir_fd=number)),
+            with_descriptor(lambda number: os.pread(number, 1, -1)),
+        )):
+            with self.subTest(at):
+                self.compare(row)
+
+    def test_other_errors(self):
+        """What is no path, no mode, no buffer: the class of the error is that of the disk."""
+        for call in (
+            lambda at: open(f"{at}/f", "q"),
+            lambda at: open(f"{at}/f", "rw"),
+            lambda at: open(f"{at}/f", "b"),
+            lambda at: open(f"{at}/f", "rb", encoding="utf-8"),
+            lambda at: open(f"{at}/f", encoding="none"),
+            lambda at: open(f"{at}/f", buffering=0),
+            lambda at: open(f"{at}/f", closefd=False),
+            lambda at: open(f"{at}/f", 7),
+            lambda at: open(1.5),
+            lambda at: open(None),
+            lambda at: open(f"{at}/a\0b"),
+            lambda at: os.stat(f"{at}/a\0b"),
+            lambda at: os.stat(None),
+            lambda at: os.stat(),
+            lambda at: os.rename(f"{at}/f"),
+            lambda at: os.rename(1.5, f"{at}/f"),
+            lambda at: os.listdir(1.5),
+            lambda at: open(f"{at}/f").write("x"),
+            lambda at: open(f"{at}/f", "wb").read(),
+            lambda at: open(f"{at}/f", "wb").write("x"),
+            lambda at: os.write(os.open(f"{at}/f", os.O_WRONLY), "x"),
+            lambda at: os.mkdir(f"{at}/x", no=1) if sys.flags.optimize else os.mkdir(),
+        ):
+            kinds = []
+            with tempfile.TemporaryDirectory() as at:
+                filled(at)
+                with self.assertRaises(Exception) as raised:
+                    call(at)
+                kinds.append(type(raised.exception))
+            self.tree.rmtree("/")
+            with atomfs.patch(self.tree, at=AT):
+                filled(AT)
+                before = self.tree.tree()
+                with self.assertRaises(Exception) as raised:
+                    call(AT)
+                kinds.append(type(raised.exception))
+            with self.subTest(kinds[0]):
+                self.assertEqual(kinds[1], kinds[0])
+                self.assertIn(self.tree.tree(), (before, before.replace("f 68656c6c6f", "f -")))
+
+    def test_limits(self):
+        """The error has the path as it was given, and the limit."""
+        with atomfs.patch(self.tree, at=AT):
+            with self.assertRaisesRegex(OSError, f"more than 1,048,576 bytes: '{AT}/f'") as raised:
+                with open(f"{AT}/f", "wb", 0) as file:
+                    file.write(bytes(5_505_024))
+            self.assertEqual((raised.exception.errno, os.path.getsize(f"{AT}/f")), (errno.EFBIG, 0))
+            with self.assertRaisesRegex(OSError, f"more than 64 bytes: '{AT}/{'n' * 65}'"):
+                os.mkdir(f"{AT}/{'n' * 65}")
+            with tempfile.TemporaryFile(dir=AT) as file, self.assertRaisesRegex(OSError, "more than 1,048,576 bytes"):
+                file.truncate(1_048_577)
+
+    def test_patches(self):
+        for at in ("/", "//", "/."):
+            with self.subTest(at):
+                self.assertRaises(ValueError, atomfs.patch, self.tree, at)
+        self.assertRaises(TypeError, atomfs.patch, self.tree, 7)
+        with atomfs.patch(self.tree, at=AT) as patch:
+            self.assertRaises(RuntimeError, patch.__enter__)
+            self.assertTrue(os.path.isdir(AT))
+        with atomfs.Tree() as closed:
+            pass
+        before = os.stat
+        self.assertRaises(atomfs.ClosedError, atomfs.patch(closed, at=AT).__enter__)
+        self.assertIs(os.stat, before)
+
+
+class Outside(OfPatch):
+    def test_the_disk(self):
+        """What is not below the directory is on the disk, and nothing of it is in the tree."""
+        with tempfile.TemporaryDirectory() as at, atomfs.patch(self.tree, at=AT):
+            filled(at)
+            self.assertEqual(sorted(os.listdir(at)), ["d", "f"])
+            with descriptor(f"{at}/f") as number:
+                self.assertEqual((os.read(number, 2), os.fstat(number).st_size, number < 1 << 20), (b"he", 5, True))
+                with mmap.mmap(number, 0) as mapped:
+                    self.assertEqual((mapped[:], isinstance(mapped, mmap.mmap)), (b"hello", True))
+            with open(f"{at}/f", "rb", 0) as file:
+                self.assertIsInstance(file, io.FileIO)
+            os.chmod(f"{at}/f", 0o600)
+            os.symlink("f", f"{at}/l")
+            self.assertEqual((os.readlink(f"{at}/l"), subprocess.run(["cat", "l"], cwd=at, capture_output=True).stdout), ("f", b"hello"))
+            with contextlib.closing(sqlite3.connect(f"{at}/base")) as base, contextlib.closing(sqlite3.connect(":memory:")):
+                base.execute("create table t (x)")
+            self.assertEqual(os.path.exists(f"{AT}x/{AT}"), False)
+            shutil.copytree(at, f"{AT}/copy")
+            self.assertEqual(self.tree.read("/copy/f"), b"hello")
+            shutil.rmtree(f"{at}/d")
+            shutil.move(f"{AT}/copy/d", at)
+            self.assertEqual((text_of(f"{at}/d/g"), self.tree.readdir("/copy")), ("in d", ["base", "f", "l"]))
+
+    def test_border(self):
+        """A path that leads over the border by dots, and from a working directory."""
+        before = os.getcwd()
+        with tempfile.TemporaryDirectory() as at:
+            place = os.path.join(os.path.realpath(at), "place")
+            written(f"{at}/real", "real")
+            with atomfs.patch(self.tree, at=place):
+                os.makedirs(f"{place}/d")
+                written(f"{at}/place/f", "tree")
+                self.assertEqual((text_of(f"{place}/../real"), text_of(f"{place}/d/../../real"), text_of(f"{at}/./place//d/../f")), ("real", "real", "tree"))
+                os.chdir(at)
+                self.assertEqual((text_of("place/f"), text_of("real"), sorted(os.listdir())), ("tree", "real", ["real"]))
+                os.chdir("place/d")
+                self.assertEqual((os.getcwd(), text_of("../f"), text_of("../../real")), (f"{place}/d", "tree", "real"))
+                os.rename(f"{place}/d", f"{place}/moved")
+                self.assertEqual(os.getcwd(), f"{place}/moved")
+                with self.assertRaises(OSError) as raised:
+                    os.rename("../f", "../../f")
+                self.assertEqual((raised.exception.errno, raised.exception.filename, raised.exception.filename2), (errno.EXDEV, "../f", "../../f"))
+                os.rmdir(f"{place}/moved")
+                self.assertRaises(FileNotFoundError, os.getcwd)
+                self.assertRaises(FileNotFoundError, os.stat, "x")
+                os.chdir("/")
+                os.chdir(place)
+            self.assertEqual((os.getcwd(), os.path.lexists(place)), ("/", False))
+            os.chdir(before)
+
+    def test_links_of_the_disk(self):
+        """Over a directory of the disk the tree hides what is there, by whatever link it is reached."""
+        with tempfile.TemporaryDirectory() as at:
+            os.mkdir(f"{at}/place")
+            written(f"{at}/place/hidden")
+            os.symlink("place", f"{at}/link")
+            with atomfs.patch(self.tree, at=f"{at}/place"):
+                self.assertEqual((os.listdir(f"{at}/place"), os.listdir(f"{at}/link"), os.path.islink(f"{at}/link")), ([], [], True))
+                written(f"{at}/link/f", "tree")
+                self.assertEqual((self.tree.read("/f"), text_of(f"{at}/link/../place/f")), (b"tree", "tree"))
+                os.unlink(f"{at}/link")
+            self.assertEqual(sorted(os.listdir(f"{at}/place")), ["hidden"])
+
+    def test_restored(self):
+        """All is as it was after the end, whatever happens, and what a module has taken meanwhile goes to the disk."""
+        names = [name for name in _table.REPLACED if _table.found(name) is not None]
+        before = [_table.found(name) for name in names] + [io.open, os.supports_dir_fd, tempfile._TemporaryFileCloser.__dict__]
+        taken = []
+        with self.assertRaises(KeyError), atomfs.patch(self.tree, at=AT):
+            taken += [os.stat, open, io.FileIO]
+            self.assertEqual(captured(AT), [])
+            self.assertIn(os.stat, os.supports_dir_fd)
+            raise KeyError
+        after = [_table.found(name) for name in names] + [io.open, os.supports_dir_fd, tempfile._TemporaryFileCloser.__dict__]
+        self.assertEqual([name for name, one, other in zip(names, before, after) if one is not other], [])
+        self.assertEqual(before[-3:], after[-3:])
+        for call in (*taken, captured):
+            self.assertRaises(FileNotFoundError, call, AT)
+
+    def test_two_trees(self):
+        with atomfs.Tree() as other, atomfs.patch(self.tree, at=AT), atomfs.patch(other, at=f"{AT}2"):
+            written(f"{AT}/f", "one")
+            written(f"{AT}2/f", "other")
+            with descriptor(f"{AT}/f") as number, descriptor(f"{AT}2/f") as another:
+                self.assertEqual((os.read(number, 9), os.read(another, 9)), (b"one", b"other"))
+            with self.assertRaises(OSError) as raised:
+                os.rename(f"{AT}/f", f"{AT}2/g")
+            self.assertEqual(raised.exception.errno, errno.EXDEV)
+            shutil.move(f"{AT}/f", f"{AT}2/g")
+            self.assertEqual((other.read("/g"), self.tree.readdir("/")), (b"one", []))
+
+    def test_decorator(self):
+        @atomfs.patch(self.tree, at=AT)
+        def work():
+            return written(f"{AT}/f")
+
+        self.assertEqual([work(), work(), self.tree.read("/f")], [f"{AT}/f", f"{AT}/f", b"text"])
+
+
+class Open(OfPatch):
+    def test_a_moved_and_a_removed_file(self):
+        """A descriptor goes with its file, and has it after it was removed or replaced."""
+
+        def row(at):
+            with open(f"{at}/f", "r+") as file, open(f"{at}/d/g", "rb+", 0) as other, descriptor(f"{at}/d", 0) as folder:
+                os.rename(f"{at}/d", f"{at}/k")
+                os.rename(f"{at}/f", f"{at}/k/f")
+                file.write("J")
+                file.flush()
+                found = [text_of(f"{at}/k/f"), sorted(os.listdir(folder)), of_stat(os.stat("f", dir_fd=folder))]
+                os.replace(f"{at}/k/f", f"{at}/k/g")
+                found += [other.read(), other.write(b"!"), os.fstat(other.fileno()).st_size, text_of(f"{at}/k/g")]
+                os.unlink(f"{at}/k/g")
+                file.seek(0)
+                found += [file.read(), file.write("more"), file.truncate(7), file.seek(0), file.read()]
+                return found, all_of(at)
+
+        self.compare(row)
+
+    def test_threads(self):
+        def work(thread):
+            for at in range(20):
+                path = f"{AT}/{thread}/{at}"
+                os.makedirs(os.path.dirname(path), exist_ok=True)
+                written(path, str(at))
+                os.replace(path, f"{AT}/{thread}/last")
+
+        with atomfs.patch(self.tree, at=AT):
+            threads = [threading.Thread(target=work, args=(thread,)) for thread in range(4)]
+            for thread in threads:
+                thread.start()
+            for thread in threads:
+                thread.join()
+            self.assertEqual([text_of(f"{AT}/{thread}/last") for thread in range(4)], ["19"] * 4)
+
+
+if __name__ == "__main__":
+    unittest.main()
