@@ -452,6 +452,7 @@ class Seats(OfTree):
             (seat.begin.stat, ("/a/f",), Stat(False, 2)),
             (seat.begin.readdir, ("/a",), ["f"]),
             (seat.begin.readdir, (b"/a",), [b"f"]),
+            (seat.begin.readdir, (pathlib.PurePosixPath("/a"),), ["f"]),
             (seat.begin.mkdir, ("/b",), None),
             (seat.begin.rename, ("/a/f", "/b/g"), None),
             (seat.begin.exchange, ("/a", "/b"), None),

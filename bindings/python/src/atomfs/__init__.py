@@ -11,6 +11,7 @@
 `atomfs.fs` is the same as a file system of PyFilesystem2, `atomfs.fsspec` as one of fsspec.
 """
 from ._errors import ClosedError, Error, UnderWayError, WaitsError
+from ._explore import ScheduleError, explore, simulate
 from ._journal import ALL, LAST, NONE, Journal
 from ._library import NODE_LIMIT, PATH_LIMIT, Did, Limits, Status
 from ._library import library as _shared_object
@@ -40,6 +41,7 @@ __all__ = [
     "NONE",
     "PATH_LIMIT",
     "Path",
+    "ScheduleError",
     "Seat",
     "Snapshot",
     "Stat",
@@ -50,7 +52,9 @@ __all__ = [
     "WaitsError",
     "check",
     "diff",
+    "explore",
     "library_version",
     "patch",
     "run",
+    "simulate",
 ]

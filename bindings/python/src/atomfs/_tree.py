@@ -134,11 +134,11 @@ class Tree:
         self._stat, self._number, self._wrote = CStat(), ctypes.c_uint64(), ctypes.c_uint64()
         self._at, self._at_stat = ctypes.addressof(self._handle), ctypes.addressof(self._stat)
         self._at_number, self._at_wrote = ctypes.addressof(self._number), ctypes.addressof(self._wrote)
-        self._room = _Room(_number(room, "room"))
+        self._room = _Room(number_of(room, "room"))
         #: The bounds of names and files.
         self.limits = Limits(limits)
         #: The most nodes, the root included.
-        self.limit = _number(limit, "limit")
+        self.limit = number_of(limit, "limit")
         # The class of this tree's paths.
         self._paths: Optional[weakref.ref[Type[Path]]] = None
         #: How many calls the journal keeps, as `keep` has said it last.
@@ -336,10 +336,10 @@ class Tree:
 
     def read(self, path: AnyPath, offset: int = 0, count: Optional[int] = None) -> bytes:
         """At most `count` bytes of a file from an offset on, or all from there on: what one call reads."""
-        raw, offset = encoded(path), _number(offset, "offset")
+        raw, offset = encoded(path), number_of(offset, "offset")
         with self.lock:
             if count is not None:
-                return self._read(path, raw, offset, _number(count, "count"))
+                return self._read(path, raw, offset, number_of(count, "count"))
             size = _ROOM
             while len(data := self._read(path, raw, offset, size)) == size:
                 size = 2 * max(size, self.stat(path).size)
@@ -362,7 +362,7 @@ class Tree:
 
     def write(self, path: AnyPath, offset: int, data: Data) -> int:
         """Writes bytes into a file at an offset: all of them or none. A gap before them reads as zeros."""
-        raw, offset, data = encoded(path), _number(offset, "offset"), _bytes_of(data)
+        raw, offset, data = encoded(path), number_of(offset, "offset"), bytes_of(data)
         with self.lock:
             status = self._library.write(
                 self._at, self._mine.number, raw, len(raw), offset, data, len(data), self._at_wrote, self._at_number
@@ -373,7 +373,7 @@ class Tree:
 
     def truncate(self, path: AnyPath, size: int) -> None:
         """Cuts a file to a size, or adds zeros up to it."""
-        raw, size = encoded(path), _number(size, "size")
+        raw, size = encoded(path), number_of(size, "size")
         with self.lock:
             if status := self._library.truncate(self._at, self._mine.number, raw, len(raw), size, self._at_number):
                 raise self._error(status, Call.TRUNCATE, path)
@@ -492,7 +492,7 @@ class Tree:
 
         Where it fails, the file is as it was.
         """
-        return _walk.write_bytes(self, path, _bytes_of(data, "write_bytes"))
+        return _walk.write_bytes(self, path, bytes_of(data, "write_bytes"))
 
     def write_text(
         self, path: AnyPath, text: str, encoding: str = "utf-8", errors: str = "strict", newline: Optional[str] = None
@@ -632,7 +632,7 @@ class Tree:
         return (seat.value, Step(Did(did.value), about.value)) if did.value else None
 
 
-def _number(value: int, what: str) -> int:
+def number_of(value: int, what: str) -> int:
     """An offset, a count or a size as the library takes it: what is greater than any is as great as the greatest."""
     try:
         number = operator.index(value)
@@ -648,7 +648,7 @@ def _cut(words: str) -> str:
     return words if len(words) <= 100 else f"{words[:100]}.."
 
 
-def _bytes_of(data: Any, what: str = "write") -> bytes:
+def bytes_of(data: Any, what: str = "write") -> bytes:
     """The bytes of what is to be written."""
     if isinstance(data, bytes):
         return data
@@ -724,7 +724,7 @@ class Seat:
                 return _stat_of(tree._stat)
             if self._call == Call.READDIR:
                 names = tree._told_names(self._call_number, self._paths)
-                return _decoded(names) if isinstance(self._paths[0], str) else names  # type: ignore[return-value]
+                return names if isinstance(os.fspath(self._paths[0]), bytes) else _decoded(names)  # type: ignore[return-value]
             if self._call == Call.READ:
                 return self._told_bytes()
             if self._call == Call.WRITE:
@@ -788,15 +788,15 @@ class Begin:
 
     def read(self, path: AnyPath, offset: int, count: int) -> int:
         """Reads at most `count` bytes from an offset on."""
-        return self._seat._begin(Call.READ, path, offset=_number(offset, "offset"), size=_number(count, "count"))
+        return self._seat._begin(Call.READ, path, offset=number_of(offset, "offset"), size=number_of(count, "count"))
 
     def write(self, path: AnyPath, offset: int, data: Data) -> int:
         """Writes bytes into a file at an offset."""
-        return self._seat._begin(Call.WRITE, path, offset=_number(offset, "offset"), data=_bytes_of(data))
+        return self._seat._begin(Call.WRITE, path, offset=number_of(offset, "offset"), data=bytes_of(data))
 
     def truncate(self, path: AnyPath, size: int) -> int:
         """Cuts a file to a size, or adds zeros up to it."""
-        return self._seat._begin(Call.TRUNCATE, path, size=_number(size, "size"))
+        return self._seat._begin(Call.TRUNCATE, path, size=number_of(size, "size"))
 
 
 def check(journal: Union[str, bytes]) -> str:

@@ -1,0 +1,200 @@
+"""Interleavings that are drawn, and a check behind each."""
+import errno
+import importlib.util
+import pathlib
+import subprocess
+import sys
+import tempfile
+import unittest
+
+import atomfs
+from atomfs import Limits, ScheduleError, Stat, explore
+
+MOVED = {"m": ["mkdir /a/d/x", ("stat", "/a/d/x")], "r": [("rename", "/a", "/b")]}
+BEFORE = ["mkdir /a", "mkdir /a/d"]
+# Each call as a line and as what is the same.
+SAME = (
+    ("mkdir /d", ("mkdir", b"/d")),
+    ("mknod /d/%FF%20%25", ("mknod", "/d/\udcff %")),
+    ("write /d/%FF%20%25 2 68690a", ("write", b"/d/\xff %", 2, b"hi\n")),
+    ("read /d/%FF%20%25 1 9", ("read", b"/d/\xff %", 1, 9)),
+    ("truncate /d/%FF%20%25 3", ("truncate", b"/d/\xff %", 3)),
+    ("stat /d/%FF%20%25", ("stat", b"/d/\xff %")),
+    ("readdir /d", ("readdir", pathlib.PurePosixPath("/d"))),
+    ("rename /d/%FF%20%25 /f", ("rename", b"/d/\xff %", "/f")),
+    ("exchange /d /f", ("exchange", "/d", "/f")),
+    ("write /d 0 -", ("write", "/d", 0, bytearray())),
+    ("unlink /d", ("unlink", "/d")),
+    ("rmdir /f", ("rmdir", "/f")),
+    ("stat /", ("stat", "/")),
+)
+REPLIES = [None, None, 3, b"\0hi\n", None, Stat(False, 3), ["\udcff %"], None, None, 0, None, None, Stat(True, 0)]
+
+
+def failed(case, *given, **named):
+    """The error of a check that fails behind the first run."""
+    with case.assertRaises(ScheduleError) as raised:
+        explore(*given, lambda tree, replies: False, runs=1, **named)
+    return raised.exception
+
+
+class Runs(unittest.TestCase):
+    def seen(self, threads, **named):
+        """The replies and the journal of each run."""
+        found = []
+        explore(threads, lambda tree, replies: found.append((repr(replies), tree.journal())), **named)
+        return found
+
+    def test_seeds(self):
+        """The same seed gives the same runs, and a later run is the first one of its own seed."""
+        first = self.seen(MOVED, runs=50, seed=7, before=BEFORE)
+        self.assertEqual(first, self.seen(MOVED, runs=50, seed=7, before=BEFORE))
+        self.assertEqual(first[20:30], self.seen(MOVED, runs=10, seed=27, before=BEFORE))
+        self.assertNotEqual(first, self.seen(MOVED, runs=50, seed=57, before=BEFORE))
+        self.assertGreater(len(set(first)), 10)
+        self.assertEqual({atomfs.check(journal) for _, journal in first}, {"lawful"})
+
+    def test_each_outcome(self):
+        """Either call is the first, or the rename helps the mkdir that is half-way."""
+        found = self.seen(MOVED, runs=300, before=BEFORE)
+        self.assertEqual(len({replies for replies, _ in found}), 3)
+        helped = [journal for _, journal in found if "commit 4\nreturn 4 ok\nreturn 3 ok\n" in journal and "commit 3\ncommit 4\n" in journal]
+        self.assertTrue(helped)
+
+    def test_replies(self):
+        """Each call, as a line and as words, with its reply; of one that failed, its error."""
+        for at in (0, 1):
+            with self.subTest(at):
+                error = failed(self, {"t": [both[at] for both in SAME]})
+                self.assertEqual(error.replies, {"t": REPLIES})
+                self.assertEqual(error.script.splitlines()[3:-2], [line for line, _ in SAME])
+        (missing,) = failed(self, {"t": [("rename", "/a", "/b")]}).replies["t"]
+        self.assertEqual((type(missing), missing.errno, missing.filename, missing.filename2), (FileNotFoundError, errno.ENOENT, "/a", "/b"))
+
+    def test_scripts(self):
+        """The script of a run has its journal, and names its seed."""
+        threads = {**MOVED, "w": ["mknod /b/f", "write /a/f 3 00ff", "exchange /a/d /b/f"], "s": ["readdir /a", "rmdir /b/d", "readdir /"]}
+        for limits in Limits:
+            for seed in range(200):
+                error = failed(self, threads, seed=seed, before=BEFORE, limits=limits)
+                self.assertEqual(error.seed, seed)
+                told = atomfs.run(error.script)
+                self.assertEqual(told[: told.index("tree\n")], error.journal)
+                self.assertIn(f"# seed {seed}\n", error.script)
+                self.assertLessEqual(max(map(len, error.script.splitlines())), 72)
+
+    def test_calls_of_the_check(self):
+        """The check may call the tree; the journal of the error ends before that."""
+
+        def check(tree, replies):
+            tree.rename("/a", "/c")
+            self.assertEqual(tree.check(), "lawful")
+            raise KeyError("none")
+
+        with self.assertRaises(ScheduleError) as raised:
+            explore({"t": ["mkdir /a"]}, check)
+        error = raised.exception
+        self.assertEqual((type(error.__cause__), error.journal.count("\n"), atomfs.check(error.journal)), (KeyError, 7, "lawful"))
+        for part in ("seed 1: KeyError: 'none'", error.script, error.journal):
+            self.assertIn(part, str(error))
+
+    def test_no_failure(self):
+        """It tells how many runs there were; what a check answers is looked at for False alone."""
+        self.assertEqual(explore({"t": ["mkdir /a"]}, lambda tree, replies: 0, runs=3), 3)
+        self.assertEqual(explore({"t": []}, lambda tree, replies: replies == {"t": []}, runs=2), 2)
+        self.assertEqual(explore({"t": []}, lambda tree, replies: False, runs=0), 0)
+        self.assertEqual(failed(self, {"t": []}).journal, "atomfs-journal 3\nstart\ndir /\nentries\n")
+
+    def test_interrupted(self):
+        def check(tree, replies):
+            raise KeyboardInterrupt
+
+        self.assertRaises(KeyboardInterrupt, explore, {"t": []}, check)
+
+
+class BadInput(unittest.TestCase):
+    def test_calls(self):
+        """What is no call raises the error of what it is, before any run."""
+        for kind, words, call in (
+            (ValueError, "'mkdr' is none of the eleven calls", "mkdr /a"),
+            (ValueError, "'' is none of the eleven calls", ""),
+            (ValueError, "7 is none of the eleven calls", (7,)),
+            (TypeError, "mkdir takes path: 'mkdir /a /b'", "mkdir /a /b"),
+            (TypeError, "read takes path, offset, count", ("read", "/a", 0)),
+            (OSError, "Path does not begin with a slash: 'a'", "mkdir a"),
+            (OSError, "more than 64 bytes", ("rename", "/a", "/" + "n" * 65)),
+            (TypeError, "offset is a whole number, and this is str", ("read", "/a", "0", 0)),
+            (ValueError, "a negative size", ("truncate", "/a", -1)),
+            (TypeError, "write takes bytes, and this is str", ("write", "/a", 0, "text")),
+            (ValueError, "non-hexadecimal", "write /a 0 xy"),
+            (ValueError, "invalid literal", "truncate /a x"),
+        ):
+            with self.subTest(call):
+                self.assertRaisesRegex(kind, words, explore, {"t": [call]}, self.fail)
+                self.assertRaisesRegex(kind, words, explore, {"t": []}, self.fail, before=[call])
+
+    def test_threads(self):
+        for kind, threads in (
+            (ValueError, {}),
+            (ValueError, {"T": []}),
+            (ValueError, {"finish": []}),
+            (ValueError, {7: []}),
+            (TypeError, {"t": "mkdir /a"}),
+            (TypeError, {"t": [7]}),
+            (ValueError, {f"t{at}": [] for at in range(257)}),
+            (ValueError, {"t": ["stat /"] * 65_537}),
+        ):
+            self.assertRaises(kind, explore, threads, self.fail)
+        self.assertRaisesRegex(ValueError, "thread before", explore, {"before": []}, self.fail, before=["mkdir /a"])
+        self.assertRaises(ValueError, explore, {"t": []}, self.fail, runs=-1)
+        self.assertRaises(TypeError, explore, {"t": []}, self.fail, seed="1")
+        with self.assertRaisesRegex(OSError, "All 1 nodes of the tree are in use: '/a'"):
+            explore({"t": ["mkdir /a"]}, self.fail, limit=1)
+
+
+class Simulate(unittest.TestCase):
+    @atomfs.simulate({"m": ["mkdir /a"], "r": ["rmdir /a"]}, runs=200)
+    def test_one_is_first(tree, replies):  # noqa: N805
+        """A method without self is a test, too."""
+        assert ("/a" in tree) == isinstance(replies["r"][0], FileNotFoundError)
+
+    test_one_is_first = staticmethod(test_one_is_first)
+
+    def test_function(self):
+        @atomfs.simulate({"m": ["mkdir /a"]}, runs=3, seed=5, before=["mkdir /b"])
+        def check(tree, replies):
+            """Both are there."""
+            seen.append(list(tree))
+            assert len(seen) < 3
+
+        seen = []
+        self.assertEqual((check.__name__, check.__doc__), ("check", "Both are there."))
+        with self.assertRaises(ScheduleError) as raised:
+            check()
+        self.assertEqual((raised.exception.seed, seen[0]), (7, ["/", "/a", "/b"]))
+
+    @unittest.skipUnless(importlib.util.find_spec("pytest"), "there is no pytest: apt-get install python3-pytest")
+    def test_pytest(self):
+        """pytest finds the tests, gives them no fixtures, and shows seed and script of one that fails, also by pytest.fail."""
+        text = """
+import atomfs, pytest
+
+@atomfs.simulate({"m": ["mkdir /a"], "r": ["rmdir /a"]}, runs=50)
+def test_passes(tree, replies):
+    assert replies["m"] == [None]
+
+@atomfs.simulate({"m": ["mkdir /a"], "r": ["rmdir /a"]}, runs=50)
+def test_fails(tree, replies):
+    if "/a" not in tree:
+        pytest.fail("it is gone")
+"""
+        with tempfile.TemporaryDirectory() as folder:
+            pathlib.Path(folder, "test_it.py").write_text(text)
+            words = sys.executable, "-m", "pytest", "-q", "-p", "no:cacheprovider", "test_it.py"
+            ran = subprocess.run(words, cwd=folder, capture_output=True, text=True)
+        self.assertRegex(ran.stdout, "(?m)^1 failed, 1 passed")
+        self.assertRegex(ran.stdout, r"ScheduleError: seed \d+: Failed: it is gone\n(.*\n)+E +schedule\n")
+
+
+if __name__ == "__main__":
+    unittest.main()
