@@ -30,7 +30,7 @@ MODULES = {
     **{"pip": "python3-pip", "setuptools": "python3-setuptools", "wheel": "python3-wheel"},
 }
 # What is set here for another Python or another crate is none of the packages'.
-ELSEWHERE = ("ATOMFS_LIBRARY", "ATOMFS_LIB_DIR", "PYTHONPATH", "PYTHONHOME", "VIRTUAL_ENV", "RUSTFLAGS", "CARGO_TARGET_DIR")
+ELSEWHERE = ("ATOMFS_LIBRARY", "ATOMFS_PROGRAM", "ATOMFS_LIB_DIR", "PYTHONPATH", "PYTHONHOME", "VIRTUAL_ENV", "RUSTFLAGS", "CARGO_TARGET_DIR")
 
 
 def done(words, folder, **more):
@@ -183,6 +183,8 @@ class ForPython(Installed):
         (wheel,) = (self.prefix / "share" / "atomfs").glob("*.whl")
         installed = self.installed(found, "by_wheel", wheel)
         self.ends([installed, "-c", f"import atomfs; assert atomfs.__version__ == {VERSION!r}; assert atomfs.library_version() == {VERSION!r}"])
+        for words in ([installed, "-m", "atomfs"], [installed.with_name("atomfs")]):
+            self.same("the program of the wheel", done([*words, "--version"], self.folder), (0, f"atomfs {VERSION}\n"))
         (example,) = blocks(PACKAGES["python"], "python")
         self.same("the example of its page", done([installed, "-c", example], self.folder), (0, "hello\nlawful\n"))
         told = self.passes(installed)
@@ -191,16 +193,17 @@ class ForPython(Installed):
         self.same("the tests that its page lists as left out", sorted(listed), sorted(skipped))
 
     def test_platform(self):
-        """The wheel is for every Linux whose C library has the symbols of the shared object, as `objdump` tells them."""
+        """The wheel is for every Linux whose C library has the symbols of the shared object and the program, as `objdump` tells them."""
         (wheel,) = (self.prefix / "share" / "atomfs").glob("*.whl")
-        self.same("the wheel", wheel.name, f"atomfs-{VERSION}-py3-none-{self.platform(self.prefix / 'lib' / 'libatomfs.so')}.whl")
+        wanted = self.platform(self.prefix / "lib" / "libatomfs.so", self.prefix / "bin" / "atomfs")
+        self.same("the wheel", wheel.name, f"atomfs-{VERSION}-py3-none-{wanted}.whl")
         with zipfile.ZipFile(wheel) as files:
             (told,) = (files.read(name).decode() for name in files.namelist() if name.endswith("/WHEEL"))
         self.assertIn(f"Tag: py3-none-{wheel.stem.split('-none-')[1]}\n", told)
 
     @staticmethod
-    def platform(path):
-        symbols = subprocess.run(["objdump", "-T", path], capture_output=True, text=True, check=True).stdout
+    def platform(*paths):
+        symbols = subprocess.run(["objdump", "-T", *paths], capture_output=True, text=True, check=True).stdout
         major, minor = max((int(major), int(minor)) for major, minor in re.findall(r"\(GLIBC_(\d+)\.(\d+)[.\d]*\)", symbols))
         return f"manylinux_{major}_{minor}_{os.uname().machine}"
 

@@ -1,4 +1,7 @@
-"""Puts the shared object into the package: the one that ATOMFS_LIBRARY names, or the one of dist/, which embed/build makes."""
+"""Puts the shared object into the package: the one that ATOMFS_LIBRARY names, or the one of dist/, which embed/build makes.
+
+The program beside it comes too, or the one that ATOMFS_PROGRAM names; without one, the package has none.
+"""
 import os
 import pathlib
 import re
@@ -24,15 +27,24 @@ def shared_object():
     return found[0]
 
 
+def program():
+    """The paths of the program: one, or none."""
+    given = os.environ.get("ATOMFS_PROGRAM")
+    found = pathlib.Path(given) if given else shared_object().parent.with_name("bin") / "atomfs"
+    if given and not found.is_file():
+        sys.exit(f"atomfs: there is no {given}, which ATOMFS_PROGRAM names")
+    return [found] if found.is_file() else []
+
+
 class Elf:
-    """What a shared object of 64 bits asks of the system that loads it."""
+    """What a shared object or a program of 64 bits asks of the system that loads it."""
 
     STRINGS, DYNAMIC, VERSIONS, NEEDED = 3, 6, 0x6FFFFFFE, 1
 
     def __init__(self, path):
         self.data = path.read_bytes()
         if self.data[:6] != b"\x7fELF\x02\x01":
-            sys.exit(f"atomfs: {path} is no shared object of 64 bits, with the low byte first")
+            sys.exit(f"atomfs: {path} is no shared object or program of 64 bits, with the low byte first")
         (start,), (size, count) = self.at("<Q", 0x28), self.at("<HH", 0x3A)
         # Of each section the kind, the place, the size, and the section of its strings.
         self.sections = [(kind, offset, length, link) for _, kind, _, _, offset, length, link in (self.at("<IIQQQQI", start + size * at) for at in range(count))]
@@ -70,11 +82,11 @@ class Elf:
 OF_THE_SYSTEM = {"libc.so.6", "libm.so.6", "libpthread.so.0", "libdl.so.2", "librt.so.1", "libgcc_s.so.1", "ld-linux-x86-64.so.2", "ld-linux-aarch64.so.1"}
 
 
-def platform(found, of_build):
-    """The platform of a wheel with a shared object: where it needs the GNU C library alone, its least version that has all symbols; else the one of the build."""
-    elf = Elf(found)
-    versions = [re.fullmatch(r"GLIBC_(\d+)\.(\d+)(?:\.\d+)?", name) for name in elf.versions()]
-    if not set(elf.needed()) <= OF_THE_SYSTEM or not all(versions) or not of_build.startswith("linux_"):
+def platform(found, of_build, *more):
+    """The platform of a wheel with a shared object, and what is beside it: where these need the GNU C library alone, its least version that has all symbols; else the one of the build."""
+    elves = [Elf(path) for path in (found, *more)]
+    versions = [re.fullmatch(r"GLIBC_(\d+)\.(\d+)(?:\.\d+)?", name) for elf in elves for name in elf.versions()]
+    if not {name for elf in elves for name in elf.needed()} <= OF_THE_SYSTEM or not all(versions) or not of_build.startswith("linux_"):
         return of_build
     # Before 2.5 no wheel has a platform.
     major, minor = max([(2, 5), *(tuple(map(int, version.groups())) for version in versions)])
@@ -84,14 +96,19 @@ def platform(found, of_build):
 class BuildPy(build_py):
     def run(self):
         super().run()
-        shutil.copyfile(shared_object(), pathlib.Path(self.build_lib) / "atomfs" / NAME)
+        made = pathlib.Path(self.build_lib) / "atomfs"
+        shutil.copyfile(shared_object(), made / NAME)
+        for found in program():
+            (made / "bin").mkdir(exist_ok=True)
+            shutil.copyfile(found, made / "bin" / "atomfs")
+            (made / "bin" / "atomfs").chmod(0o755)
 
 
 class Wheel(bdist_wheel):
     """A wheel for any Python 3 on this machine's kind: the shared object knows nothing of Python, and asks only for some version of the C library."""
 
     def get_tag(self):
-        return "py3", "none", platform(shared_object(), super().get_tag()[2])
+        return "py3", "none", platform(shared_object(), super().get_tag()[2], *program())
 
 
 class WithSharedObject(Distribution):
