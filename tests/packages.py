@@ -301,7 +301,7 @@ class Numbers(Case):
         header = {name: int(value) for name, value in re.findall(r"^    ATOMFS_(\w+) = (\d+)", HEADER, re.M)}
         library, ffi = self.source("python", "src", "atomfs", "_library.py"), self.source("rust", "src", "ffi.rs")
         of_python = {"FAILED": int(re.search(r"^FAILED = (\d+)", library, re.M)[1])}
-        for enum, prefix in (("Limits", ""), ("Status", ""), ("Did", "DID_"), ("Call", "CALL_")):
+        for enum, prefix in (("Limits", ""), ("Status", ""), ("Did", "DID_"), ("Fault", "FAULT_"), ("Call", "CALL_")):
             body = re.search(rf"class {enum}\(enum.\w+\):(.*?)\n\n\n", library, re.S)[1]
             of_python |= {prefix + name: int(value) for name, value in re.findall(r"^    (\w+) = (\d+)", body, re.M)}
         self.same("_library.py", of_python, header)
@@ -348,13 +348,11 @@ class Numbers(Case):
         sys.path.pop(0)
         of_python = [getattr(limits, what) for what in ("name_bytes", "file_bytes") for limits in Limits]
         self.same("the two sets of _library.py", of_python, wanted)
-        limits["TEXT_LIMIT"] = re.search(r"TEXT_LIMIT: usize = ([\d_]+)", (CRATES / "fs_words" / "src" / "limits.rt").read_text())[1]
-        for name in ("NODE_LIMIT", "PATH_LIMIT", "ENTRY_LIMIT", "TEXT_LIMIT"):
+        for name in ("NODE_LIMIT", "PATH_LIMIT", "ENTRY_LIMIT"):
             found = re.search(rf"^{name} = ([\d_]+)", library, re.M)[1]
             self.same(f"{name} of _library.py", int(found), int(limits[name]))
-        for name in ("ENTRY_LIMIT", "TEXT_LIMIT"):
-            found = re.search(rf"const {name}: usize = ([\d_]+)", self.source("rust", "src", "limits.rs"))[1]
-            self.same(f"{name} of limits.rs", int(found), int(limits[name]))
+        found = re.search(r"const ENTRY_LIMIT: usize = ([\d_]+)", self.source("rust", "src", "limits.rs"))[1]
+        self.same("ENTRY_LIMIT of limits.rs", int(found), int(limits["ENTRY_LIMIT"]))
         found = re.search(r"NODE_LIMIT: usize = ([\d_]+)", self.source("rust", "src", "lib.rs"))[1]
         self.same("NODE_LIMIT of lib.rs", int(found), int(limits["NODE_LIMIT"]))
 

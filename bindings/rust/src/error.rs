@@ -8,7 +8,7 @@ use std::path::{Path, PathBuf};
 
 use crate::call::{Call, Seat};
 use crate::ffi;
-use crate::limits::{Limits, ENTRY_LIMIT, TEXT_LIMIT};
+use crate::limits::{Limits, ENTRY_LIMIT};
 
 /// The error of a call, with Linux's number.
 #[derive(Clone, Copy, Debug, PartialEq, Eq, Hash)]
@@ -238,9 +238,6 @@ pub enum ErrorKind {
     NoReply,
     /// A script or a journal is none: the status and the line.
     BadText(u8, usize),
-    /// The tree's journal has more bytes than a text may have: `Tree::checkpoint` hands it out in pieces, each of which can be
-    /// checked.
-    JournalTooLarge,
     /// The options to open a file by contradict each other, or ask for no access.
     BadOptions,
     /// Another status of the library.
@@ -286,7 +283,6 @@ impl ErrorKind {
             ErrorKind::NoReply => ffi::NO_REPLY,
             ErrorKind::UnderWay(_) => ffi::UNDER_WAY,
             ErrorKind::BadPath(fault) => fault.status(),
-            ErrorKind::JournalTooLarge => ffi::TOO_LARGE,
             // The library has no status for these.
             ErrorKind::BadOptions | ErrorKind::ForeignSeat => ffi::OK,
             ErrorKind::BadText(status, _) | ErrorKind::Other(status) => status,
@@ -306,10 +302,6 @@ impl fmt::Display for ErrorKind {
                 Some(kind) => write!(f, "line {line}: {kind}: {words}"),
                 None => write!(f, "line {line}: {words}"),
             },
-            ErrorKind::JournalTooLarge => write!(
-                f,
-                "the journal has more than {TEXT_LIMIT} bytes: checkpoint, and check the pieces"
-            ),
             ErrorKind::BadOptions => f.write_str(
                 "the options to open a file by contradict each other, or ask for no access",
             ),
@@ -364,7 +356,6 @@ impl From<Error> for io::Error {
             ErrorKind::BadPath(_)
             | ErrorKind::BadLimit
             | ErrorKind::BadText(..)
-            | ErrorKind::JournalTooLarge
             | ErrorKind::BadOptions => io::Error::new(io::ErrorKind::InvalidInput, error),
             ErrorKind::OutOfMemory | ErrorKind::Untold(_) => {
                 io::Error::new(io::ErrorKind::OutOfMemory, error)

@@ -43,7 +43,6 @@ pub const NO_REPLY: u8 = 11;
 pub const UNDER_WAY: u8 = 12;
 pub const BAD_HEADER: u8 = 16;
 pub const BAD_PATH: u8 = 20;
-pub const TOO_LARGE: u8 = 25;
 pub const PATH_NOT_ABSOLUTE: u8 = 28;
 pub const PATH_NUL: u8 = 29;
 pub const PATH_NAME_TOO_LONG: u8 = 30;
@@ -208,6 +207,9 @@ extern "C" {
         count: *mut usize,
         number: *mut u64,
     ) -> u8;
+    pub fn atomfs_forget(fs: *mut Handle, number: *mut u64) -> u8;
+    pub fn atomfs_keep(fs: *mut Handle, most: u32) -> u8;
+    pub fn atomfs_verdict(fs: *mut Handle, place: *mut u64, kind: *mut u8) -> u8;
     pub fn atomfs_tree(fs: *mut Handle, out: *mut u8, room: usize, count: *mut usize) -> u8;
 
     pub fn atomfs_run(

@@ -51,7 +51,7 @@ mod whole;
 pub use call::{Call, Did, Reply, Seat, Stat};
 pub use error::{Errno, Error, ErrorKind, PathFault};
 pub use file::{File, OpenOptions};
-pub use limits::Limits;
+pub use limits::{Journal, Limits};
 pub use path::AsPath;
 pub use session::Session;
 pub use shared::SharedTree;

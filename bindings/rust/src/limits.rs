@@ -2,8 +2,19 @@
 
 /// The most entries of a directory.
 pub(crate) const ENTRY_LIMIT: usize = 256;
-/// The most bytes of a script or a journal as a text.
-pub(crate) const TEXT_LIMIT: usize = 16_777_216;
+
+/// The number by which a tree keeps all calls.
+pub(crate) const KEEP_ALL: u32 = u32::MAX;
+
+/// How many calls a tree keeps in its journal.
+#[derive(Clone, Copy, Debug, Default, PartialEq, Eq, Hash)]
+pub enum Journal {
+    /// All, until a checkpoint: each takes some 500 bytes, and what it wrote or read.
+    #[default]
+    All,
+    /// Where more than so many stand and none is under way, all are forgotten before the next begins.
+    Last(u32),
+}
 
 /// How long names and files of a tree may be.
 #[derive(Clone, Copy, Debug, Default, PartialEq, Eq, Hash)]

@@ -9,7 +9,7 @@ use std::sync::{Arc, Condvar};
 use crate::call::{Call, Did, Kind, Reply, Seat, Stat};
 use crate::error::{Error, ErrorKind};
 use crate::ffi::{self, Handle, OnPath, OnPaths, RawStat, OK, TOO_SMALL, UNTOLD, WAITS};
-use crate::limits::{Limits, TEXT_LIMIT};
+use crate::limits::{Journal, Limits, KEEP_ALL};
 use crate::path::AsPath;
 use crate::NODE_LIMIT;
 
@@ -18,6 +18,18 @@ const ROOM: usize = 65_536;
 
 /// How many trees have been opened.
 static TREES: AtomicU64 = AtomicU64::new(0);
+
+/// What is wrong with an entry, by the number of the library and the word of the program.
+const FAULTS: [&str; 8] = [
+    "",
+    "BeginTwice",
+    "SeatBusy",
+    "CommitUnbegun",
+    "CommitTwice",
+    "ReturnUncommitted",
+    "ReturnTwice",
+    "WrongReply",
+];
 
 /// A tree with the journal of its calls. It is closed when it is dropped.
 ///
@@ -29,8 +41,10 @@ pub struct Tree {
     id: u64,
     limit: usize,
     limits: Limits,
-    /// How many calls have begun since the last checkpoint.
+    /// How many calls stand in the journal.
     calls: u64,
+    /// How many there were before these.
+    before: u64,
     room: Vec<u8>,
     /// The seat of the tree's own calls; none where the last of them waits on it.
     own: Option<Seat>,
@@ -96,7 +110,7 @@ impl Tree {
     pub fn with_limits(limit: usize, limits: Limits) -> Result<Tree, Error> {
         let handle = Box::new(Handle {
             is_open: 0,
-            most: 0,
+            most: KEEP_ALL,
             at: ptr::null_mut(),
         });
         let mut tree = Tree {
@@ -105,6 +119,7 @@ impl Tree {
             limit,
             limits,
             calls: 0,
+            before: 0,
             room: vec![0; ROOM],
             own: None,
             last: Vec::new(),
@@ -182,7 +197,7 @@ impl Tree {
             )
         };
         if status == TOO_SMALL || status == UNTOLD {
-            self.calls = number;
+            self.noted(number);
             return self.told_names(number);
         }
         self.called(status, number, &Call::Readdir(path))?;
@@ -340,7 +355,9 @@ impl Tree {
 
     /// What came of a call of the tree's own. One that waits keeps its seat, and the tree takes another.
     fn called(&mut self, status: u8, number: u64, call: &Call) -> Result<(), Error> {
-        self.calls = self.calls.max(number);
+        if number > 0 {
+            self.noted(number);
+        }
         match status {
             OK => Ok(()),
             WAITS => {
@@ -409,6 +426,7 @@ impl Tree {
         let (request, mut number) = (call.request(), 0);
         match unsafe { ffi::atomfs_begin_call(self.handle, seat.number, &request, &mut number) } {
             OK => {
+                self.noted(number);
                 self.began(seat, number, call);
                 Ok(number)
             }
@@ -417,7 +435,6 @@ impl Tree {
     }
 
     fn began(&mut self, seat: Seat, number: u64, call: &Call) {
-        self.calls = number;
         let at = usize::try_from(seat.number).expect("a seat is in memory");
         if at >= self.last.len() {
             self.last.resize_with(at + 1, Last::default);
@@ -425,7 +442,22 @@ impl Tree {
         self.last[at].begins(number, call);
     }
 
-    /// The last call that was begun on a seat since the last checkpoint.
+    /// Notes a call that has begun: the tree has forgotten those before it where its number is no greater than theirs.
+    fn noted(&mut self, number: u64) {
+        if number <= self.calls {
+            self.begin_again();
+        }
+        self.calls = number;
+    }
+
+    /// The journal has begun again, and call numbers at 1.
+    fn begin_again(&mut self) {
+        self.before += self.calls;
+        self.calls = 0;
+        self.last.clear();
+    }
+
+    /// The last call that was begun on a seat and stands in the journal.
     fn last(&mut self, seat: Seat) -> Option<&mut Last> {
         self.last.get_mut(usize::try_from(seat.number).ok()?)
     }
@@ -583,7 +615,44 @@ impl Tree {
         Ok(self.room[..count].to_vec())
     }
 
-    /// The journal since the tree was opened, or since its last checkpoint: what [`check`] reads.
+    /// How many calls there were before those of the journal: handed out by checkpoints, or forgotten.
+    pub fn calls_before(&self) -> u64 {
+        self.before
+    }
+
+    /// Says how many calls the journal keeps from now on.
+    ///
+    /// ```
+    /// let mut tree = atomfs::Tree::new()?;
+    /// tree.keep(atomfs::Journal::Last(1_000))?;
+    /// for _ in 0..2_500 {
+    ///     tree.stat("/")?;
+    /// }
+    /// assert_eq!(tree.calls_before(), 2_002);
+    /// # Ok::<(), atomfs::Error>(())
+    /// ```
+    pub fn keep(&mut self, journal: Journal) -> Result<(), Error> {
+        let most = match journal {
+            Journal::All => KEEP_ALL,
+            Journal::Last(most) => most.min(KEEP_ALL - 1),
+        };
+        done(unsafe { ffi::atomfs_keep(self.handle, most) })
+    }
+
+    /// Lets the journal begin again at the tree as it stands, and answers how many calls are forgotten.
+    /// `ErrorKind::UnderWay` tells the number of a call that is under way.
+    pub fn forget(&mut self) -> Result<u64, Error> {
+        let mut number = 0;
+        match unsafe { ffi::atomfs_forget(self.handle, &mut number) } {
+            OK => {
+                self.begin_again();
+                Ok(number)
+            }
+            status => Err(Error::of(status, number)),
+        }
+    }
+
+    /// The journal: what [`check`] reads. Its first call is the one behind [`calls_before`](Tree::calls_before) others.
     pub fn journal(&mut self) -> Result<String, Error> {
         let mut journal = self.text(|handle, out, room, count| unsafe {
             ffi::atomfs_opening(handle, out, room, count)
@@ -595,15 +664,15 @@ impl Tree {
         Ok(journal)
     }
 
-    /// The verdict on the journal: `lawful`, or the first entry at fault.
-    ///
-    /// `ErrorKind::JournalTooLarge` where it has more than 16,777,216 bytes as a text: checkpoint, and check the pieces.
+    /// The verdict on the journal as it stands, without a text: `lawful`, as it always is by the proof, or the first entry at
+    /// fault. What was forgotten, or handed out by a checkpoint, is not looked at.
     pub fn check(&mut self) -> Result<String, Error> {
-        let journal = self.journal()?;
-        if journal.len() > TEXT_LIMIT {
-            return Err(ErrorKind::JournalTooLarge.into());
-        }
-        check(journal)
+        let (mut place, mut kind) = (0, 0);
+        done(unsafe { ffi::atomfs_verdict(self.handle, &mut place, &mut kind) })?;
+        Ok(match FAULTS.get(usize::from(kind)) {
+            None | Some(&"") => "lawful".to_owned(),
+            Some(word) => format!("fault {place} {word}"),
+        })
     }
 
     /// Hands the journal out, and lets it begin again at the tree as it stands, which gives its memory back.
@@ -618,8 +687,7 @@ impl Tree {
                 Err(ErrorKind::UnderWay(number).into())
             }
             Ok(_) => {
-                self.last.clear();
-                self.calls = 0;
+                self.begin_again();
                 told
             }
             _ => told,
@@ -695,8 +763,7 @@ impl Drop for Tree {
     }
 }
 
-/// It shows how many nodes there are, for which it asks for the text of the tree, and how many calls have begun since the last
-/// checkpoint.
+/// It shows how many nodes there are, for which it asks for the text of the tree, and how many calls stand in the journal.
 impl fmt::Debug for Tree {
     fn fmt(&self, f: &mut fmt::Formatter<'_>) -> fmt::Result {
         f.debug_struct("Tree")

@@ -9,8 +9,8 @@ use std::rc::Rc;
 use std::sync::Arc;
 
 use atomfs::{
-    check, run, AsPath, Call, Did, Errno, Error, ErrorKind, Limits, PathFault, Reply, Stat, Tree,
-    NODE_LIMIT,
+    check, run, AsPath, Call, Did, Errno, Error, ErrorKind, Journal, Limits, PathFault, Reply,
+    Stat, Tree, NODE_LIMIT,
 };
 
 /// What came of a call, of an error its kind.
@@ -216,7 +216,7 @@ fn words_of_texts() {
     );
 }
 
-/// A journal that is too large to be checked says what to do, and its pieces are checked.
+/// A journal that no text could hold is checked as it stands.
 #[test]
 fn a_large_journal() {
     let mut tree = Tree::new().unwrap();
@@ -224,13 +224,37 @@ fn a_large_journal() {
     for _ in 0..9 {
         tree.write("/f", 0, [0; 1 << 20]).unwrap();
     }
-    assert_eq!(kind(tree.check()), Err(ErrorKind::JournalTooLarge));
-    assert_eq!(
-        ErrorKind::JournalTooLarge.to_string(),
-        "the journal has more than 16777216 bytes: checkpoint, and check the pieces"
-    );
-    tree.checkpoint().unwrap();
+    assert!(tree.journal().unwrap().len() > 16_777_216);
     assert_eq!(tree.check().unwrap(), "lawful");
+}
+
+/// Calls are forgotten by themselves where none is under way, and by hand; the reply of none becomes another's.
+#[test]
+fn forgets() {
+    let mut tree = Tree::new().unwrap();
+    tree.mkdir("/a").unwrap();
+    tree.keep(Journal::Last(0)).unwrap();
+    let seat = tree.seat().unwrap();
+    tree.begin(seat, &Call::stat("/a")).unwrap();
+    assert_eq!(tree.calls_before(), 1);
+    for _ in 0..5 {
+        tree.stat("/").unwrap();
+    }
+    assert_eq!(
+        kind(tree.forget().map(|_| String::new())),
+        Err(ErrorKind::UnderWay(1))
+    );
+    tree.finish(seat).unwrap();
+    tree.stat("/").unwrap();
+    assert_eq!(tree.calls_before(), 7);
+    assert!(tree.reply(seat).is_err());
+    tree.keep(Journal::All).unwrap();
+    for _ in 0..5 {
+        tree.stat("/").unwrap();
+    }
+    assert_eq!((tree.forget().unwrap(), tree.calls_before()), (6, 13));
+    assert_eq!(tree.check().unwrap(), "lawful");
+    assert_eq!(tree.readdir("/").unwrap(), [b"a"]);
 }
 
 #[test]

@@ -11,8 +11,6 @@ from typing import Any, Callable, Dict, List
 NODE_LIMIT = 1_048_576
 PATH_LIMIT = 64
 ENTRY_LIMIT = 256
-# The most bytes of a script or a journal as a text.
-TEXT_LIMIT = 16_777_216
 # The number by which a tree keeps all calls.
 KEEP_ALL = 2**32 - 1
 # From this status on a call has failed, and the rest is the number of its error.
@@ -34,6 +32,10 @@ class Limits(enum.Enum):
     def file_bytes(self) -> int:
         """The most bytes of a file."""
         return 65_536 if self is Limits.V1 else 1_048_576
+
+
+def _word(name: str) -> str:
+    return "".join(part.title() for part in name.split("_"))
 
 
 class Status(enum.IntEnum):
@@ -77,19 +79,25 @@ class Status(enum.IntEnum):
     @property
     def kind(self) -> str:
         """The word that the program `atomfs` has for it: `BadLine` for `BAD_LINE`."""
-        return "".join(part.title() for part in self.name.split("_"))
+        return _word(self.name)
 
 
 class Fault(enum.IntEnum):
-    """What is wrong with an entry of a journal, by the words of the program `atomfs`."""
+    """What is wrong with an entry of a journal."""
 
-    BeginTwice = 1
-    SeatBusy = 2
-    CommitUnbegun = 3
-    CommitTwice = 4
-    ReturnUncommitted = 5
-    ReturnTwice = 6
-    WrongReply = 7
+    NONE = 0
+    BEGIN_TWICE = 1
+    SEAT_BUSY = 2
+    COMMIT_UNBEGUN = 3
+    COMMIT_TWICE = 4
+    RETURN_UNCOMMITTED = 5
+    RETURN_TWICE = 6
+    WRONG_REPLY = 7
+
+    @property
+    def kind(self) -> str:
+        """The word that the program `atomfs` has for it."""
+        return _word(self.name)
 
 
 class Did(enum.IntEnum):

@@ -584,7 +584,7 @@ class Tree:
         with self.lock:
             if status := self._library.verdict(self._at, ctypes.addressof(place), ctypes.addressof(kind)):
                 raise error_of(self._library, status)
-        return f"fault {place.value} {Fault(kind.value).name}" if kind.value else "lawful"
+        return f"fault {place.value} {Fault(kind.value).kind}" if kind.value else "lawful"
 
     def checkpoint(self) -> str:
         """Hands the journal out, and lets it begin again at the tree as it stands, which frees its memory.
