@@ -155,8 +155,8 @@ fn count(rt: &impl Print, twins: &mut Twins) -> Result<()> {
     let (a, b) = (twins.node(1), twins.node(2));
     let (entries, others) = (twins.entries(&a), twins.entries(&b));
     println!(rt; "full directories: {entries} and {others} entries")?;
-    looks.write(rt, "drawn names")?;
-    draw(&mut random, Names::Colliding, twins).write(rt, "names that collide")?;
+    looks.write(rt, "find_steps", "drawn names")?;
+    draw(&mut random, Names::Colliding, twins).write(rt, "find_steps", "names that collide")?;
     twins.read(&a);
     twins.read(&b);
     println!(rt; "answers that differ: {}", twins.others)?;

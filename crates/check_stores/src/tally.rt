@@ -111,7 +111,7 @@ impl Looks {
     }
 
     /// Writes the mean and the greatest of these numbers.
-    pub fn write(&self, rt: &impl Print, what: &str) -> io::Result<()> {
+    pub fn write(&self, rt: &impl Print, call: &str, what: &str) -> io::Result<()> {
         let hundredths = self
             .all
             .wrapping_mul(100)
@@ -120,7 +120,7 @@ impl Looks {
         let (whole, rest) = (hundredths / 100, hundredths % 100);
         let most = self.most;
         println!(rt;
-            "find_steps, {what}: {} look-ups, a mean of {whole}.{rest:02} places, at most {most}",
+            "{call}, {what}: {} look-ups, a mean of {whole}.{rest:02} places, at most {most}",
             self.finds
         )
     }

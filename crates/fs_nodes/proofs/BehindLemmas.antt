@@ -15,7 +15,7 @@ use Rattle.fs_graph.specs.Graphs.{Graph}
 use Rattle.fs_plain.specs.Stores.{link_of, is_in, is_above, names_above}
 use Rattle.fs_places.specs.Plains.{link_with, plain_with, plain, plains}
 use Rattle.fs_nodes.specs.code.Linked.{graph_of_places, next_child, IsPrev, IsBeside, IsPlaces, IsPassed, IsEntry, IsLesser, is_lesser, names_past, rank}
-use Rattle.fs_places.specs.code.Spots.{number_below}
+use Rattle.fs_places.specs.code.Spots.{number_below, one_of}
 use Rattle.fs_graph.proofs.NameLemmas.{Compared, Below, Same, Above, compare}
 use Rattle.fs_plain.proofs.AscentLemmas.{above_more, above_above, not_itself}
 use Rattle.fs_graph.proofs.EqualLemmas.{eqb_true, both_true}
@@ -210,3 +210,8 @@ asked_passed ps dir x prev next s = record {
   next_is = s.next_is;
   rest = find_past s.low x (names_of ((graph_of_places ps).shape dir)) s.below;
 }
+
+-- there is at most one number
+pub one_most : (o : Option ℕ) → one_of o ≤ 1
+one_most None = omega arith
+one_most (Some n) = omega arith

@@ -105,31 +105,34 @@ fn with_one(looked: (Option<usize>, usize)) -> (Option<usize>, usize)
     (looked.0, looked.1 + 1)
 }
 
-/// The node of an entry, and at how many places was looked: at another entry of the directory first, if one is given, and then
-/// at siblings on the one side of it.
+/// The node of an entry, and at how many places was looked: at another entry of the directory first, and then at siblings on the
+/// one side of it.
 #[inline(never)]
 fn search(
     places: &[Place],
     dir: usize,
-    other: Option<usize>,
+    other: usize,
     first: u64,
     name: &Name,
 ) -> (Option<usize>, usize)
     requires places { IsPlaces places.now }
     requires first { IsHead first name.now }
-    requires other { IfSome other (IsEntry (graph_of_places places.now) dir) }
+    requires other { IsEntry (graph_of_places places.now) dir other }
     ensures child { result.0 ≡ (graph_of_places places.now).child dir name.now }
     ensures steps { result.1 ≤ length (names_of ((graph_of_places places.now).shape dir)) }
     ensures least { IfSome result.0 (λ n. 1 ≤ result.1) }
 {
-    let Some(n) = other else {
-        return walk(places, dir, None, None, first, name);
-    };
-    let place = &places[n];
+    let place = &places[other];
     match place.name.cmp(first, name) {
-        Ordering::Less => with_one(walk(places, dir, Some(n), None, first, name)),
-        Ordering::Equal => (Some(n), 1),
-        Ordering::Greater => with_one(walk(places, dir, None, Some(n), first, name)),
+        Ordering::Less => {
+            let after = lesser_told(places, dir, Some(other), first, name);
+            with_one(walk(places, dir, after, None, first, name))
+        }
+        Ordering::Equal => (Some(other), 1),
+        Ordering::Greater => {
+            let after = lesser_told(places, dir, None, first, name);
+            with_one(walk(places, dir, after, Some(other), first, name))
+        }
     }
 }
 
@@ -157,13 +160,13 @@ fn look(
             if place.name.is_word(first, name) {
                 (Some(n), 1)
             } else {
-                search(places, key.dir, Some(n), first, name)
+                search(places, key.dir, n, first, name)
             }
         }
         Found::Nothing => (None, 0),
         Found::Open => {
-            let other = lesser_told(places, key.dir, first, name);
-            search(places, key.dir, other, first, name)
+            let after = lesser_told(places, key.dir, None, first, name);
+            walk(places, key.dir, after, None, first, name)
         }
     }
 }
@@ -261,14 +264,27 @@ pub fn lesser(places: &[Place], dir: usize, told: Spot, first: u64, name: &Name)
     }
 }
 
-/// An entry of the directory with a lesser name, if the tree beside the siblings tells one.
+/// An entry of the directory with a lesser name, if the tree beside the siblings tells one, and else the one that is given, if
+/// one is.
 #[inline(never)]
-fn lesser_told(places: &[Place], dir: usize, first: u64, name: &Name) -> Option<usize>
+fn lesser_told(
+    places: &[Place],
+    dir: usize,
+    given: Option<usize>,
+    first: u64,
+    name: &Name,
+) -> Option<usize>
     requires places { IsPlaces places.now }
+    requires given { IfSome given (IsLesser (graph_of_places places.now) dir name.now) }
     requires first { IsHead first name.now }
-    ensures { IfSome result (IsLesser (graph_of_places places.now) dir name.now) }
+    ensures lesser { IfSome result (IsLesser (graph_of_places places.now) dir name.now) }
+    ensures some { one_of given ≤ one_of result }
 {
-    lesser(places, dir, low_of(places, dir, first, name).0, first, name)
+    let told = low_of(places, dir, first, name).0;
+    match lesser(places, dir, told, first, name) {
+        Some(n) => Some(n),
+        None => given,
+    }
 }
 
 /// Between which siblings a search for a name begins: behind an entry with a lesser one, or before the first entry.
@@ -483,8 +499,8 @@ pub fn order_steps(places: &[Place], dir: usize, name: &Name) -> usize
 {
     let first = head(name.bytes());
     let (told, steps) = low_of(places, dir, first, name);
-    let other = lesser(places, dir, told, first, name);
-    let looked = search(places, dir, other, first, name);
+    let after = lesser(places, dir, told, first, name);
+    let looked = walk(places, dir, after, None, first, name);
     steps + looked.1
 }
 
@@ -494,7 +510,7 @@ pub fn least_above(places: &[Place], dir: usize, low: Option<&Name>) -> Option<u
     ensures { result ≡ next_child (graph_of_places places.now) dir (option_copied low.entry) }
 {
     let after = match low {
-        Some(name) => lesser_told(places, dir, head(name.bytes()), name),
+        Some(name) => lesser_told(places, dir, None, head(name.bytes()), name),
         None => None,
     };
     let mut next = start(places, dir, after).1.get();

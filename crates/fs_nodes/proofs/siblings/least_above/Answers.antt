@@ -13,13 +13,13 @@ at_some c = sym c.loop-next.invariant.next_is ∙ c.in-Some-next.is
 
 pub start-requires-clause-after : goal.start-requires-clause-after
 start-requires-clause-after c = elim c.match-low.branch [
-  | in-Some w ↦ subst (λ (o : Option ℕ). IfSome o (IsEntry (graph_of_places c.args.places.now) c.args.dir)) (sym w.after-is) (lesser_is_entry (graph_of_places c.args.places.now) c.args.dir w.in-Some.name.now w.lesser_told-after.result w.lesser_told-after.ensures)
+  | in-Some w ↦ subst (λ (o : Option ℕ). IfSome o (IsEntry (graph_of_places c.args.places.now) c.args.dir)) (sym w.after-is) (lesser_is_entry (graph_of_places c.args.places.now) c.args.dir w.in-Some.name.now w.lesser_told-after.result w.lesser_told-after.ensures.lesser)
   | in-None w ↦ subst (λ (o : Option ℕ). IfSome o (IsEntry (graph_of_places c.args.places.now) c.args.dir)) (sym w.after-is) tt
 ]
 
 pub loop-next-init : goal.loop-next-init
 loop-next-init c = elim c.match-low.branch [
-  | in-Some w ↦ subst (λ (o : Option Name). IsAsked c.args.places.now c.args.dir o c.get-next.result) (sym (ap option_copied w.in-Some.is)) (asked_passed c.args.places.now c.args.dir w.in-Some.name.now c.start.result.0 c.get-next.result (subst (IsPassed c.args.places.now c.args.dir w.in-Some.name.now c.start.result.0) (sym c.get-next.ensures) (c.start.ensures.stands w.in-Some.name.now (subst (λ (o : Option ℕ). IfSome o (IsLesser (graph_of_places c.args.places.now) c.args.dir w.in-Some.name.now)) (sym w.after-is) w.lesser_told-after.ensures))))
+  | in-Some w ↦ subst (λ (o : Option Name). IsAsked c.args.places.now c.args.dir o c.get-next.result) (sym (ap option_copied w.in-Some.is)) (asked_passed c.args.places.now c.args.dir w.in-Some.name.now c.start.result.0 c.get-next.result (subst (IsPassed c.args.places.now c.args.dir w.in-Some.name.now c.start.result.0) (sym c.get-next.ensures) (c.start.ensures.stands w.in-Some.name.now (subst (λ (o : Option ℕ). IfSome o (IsLesser (graph_of_places c.args.places.now) c.args.dir w.in-Some.name.now)) (sym w.after-is) w.lesser_told-after.ensures.lesser))))
   | in-None w ↦ asked_first c.args.places.now c.args.dir (option_copied c.args.low) c.get-next.result (c.get-next.ensures ∙ c.start.ensures.first w.after-is)
 ]
 

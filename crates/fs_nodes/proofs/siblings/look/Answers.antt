@@ -1,10 +1,8 @@
 use Rattle.std.proofs.Common.{◌<◌, arith}
 use Rattle.fs_names.specs.declared.limits.TheConstants.{NODE_LIMIT}
-use Rattle.fs_nodes.specs.code.Linked.{graph_of_places}
 use Rattle.fs_places.specs.Plains.{plains}
 use Rattle.fs_places.specs.code.Keys.{keys_of}
 use Rattle.fs_nodes.proofs.KeyLemmas.{entry_key, no_entry}
-use Rattle.fs_nodes.proofs.BehindLemmas.{lesser_is_entry}
 use Rattle.fs_nodes.proofs.WalkLemmas.{entry_place, entry_below, named_child, some_entry}
 use Rattle.fs_nodes.proofs.siblings.look.Goals as goal
 
@@ -25,6 +23,3 @@ returns-then-is_word-clause-steps c = some_entry c.args.places.now c.args.key.di
 
 pub returns-in-Nothing-clause-child : goal.returns-in-Nothing-clause-child
 returns-in-Nothing-clause-child c = no_entry c.args.places.now c.args.key.dir c.args.name.now c.args.key c.requires.key (c.in-Nothing.ensures (keys_of (plains c.args.places.now)) c.requires.slots)
-
-pub search-requires-in-Open-clause-other : goal.search-requires-in-Open-clause-other
-search-requires-in-Open-clause-other c = lesser_is_entry (graph_of_places c.args.places.now) c.args.key.dir c.args.name.now c.lesser_told-other.result c.lesser_told-other.ensures
