@@ -30,7 +30,7 @@ enum Way {
 
 /// How high the entry of a node stands.
 #[inline(always)]
-fn height(node: usize) -> u32 {
+fn priority(node: usize) -> u32 {
     let word = (node & 0xffff_ffff) as u32;
     let word = (word ^ word >> 16).wrapping_mul(0x7feb_352d);
     let word = (word ^ word >> 15).wrapping_mul(0x846c_a68b);
@@ -47,7 +47,7 @@ fn is_below(place: &Place, first: u64, name: &Name) -> bool
 
 /// A way of a place, if there is one of this number, leads elsewhere.
 #[inline(always)]
-fn set(places: &mut [Place], at: usize, way: Way, to: Spot)
+fn set_way(places: &mut [Place], at: usize, way: Way, to: Spot)
     requires { length places.old ≤ NODE_LIMIT }
     ensures { bared places.new ≡ bared places.old }
 {
@@ -75,7 +75,7 @@ fn root_of(places: &[Place], dir: usize) -> Spot
 }
 
 /// The greatest entry that the tree has below a name, or none, and after how many steps.
-pub fn low_of(places: &[Place], dir: usize, first: u64, name: &Name) -> (Spot, usize)
+pub fn greatest_below(places: &[Place], dir: usize, first: u64, name: &Name) -> (Spot, usize)
     requires most { length places.now ≤ NODE_LIMIT }
     requires first { IsHead first name.now }
     ensures { result.1 ≤ MOST }
@@ -99,7 +99,7 @@ pub fn low_of(places: &[Place], dir: usize, first: u64, name: &Name) -> (Spot, u
 
 /// What is below a place is parted by a name: lesser entries go to the left of a node, the others to its right. The greatest of
 /// the lesser ones is answered, or else what was told before.
-fn part(places: &mut [Place], node: usize, from: Spot, first: u64, name: &Name, told: Spot) -> Spot
+fn split(places: &mut [Place], node: usize, from: Spot, first: u64, name: &Name, told: Spot) -> Spot
     requires most { length places.old ≤ NODE_LIMIT }
     requires first { IsHead first name.now }
     ensures { bared places.new ≡ bared places.old }
@@ -115,24 +115,24 @@ fn part(places: &mut [Place], node: usize, from: Spot, first: u64, name: &Name, 
         let place = &places[n];
         if is_below(place, first, name) {
             let next = place.right;
-            set(places, lesser.0, lesser.1, at);
+            set_way(places, lesser.0, lesser.1, at);
             lesser = (n, Way::Right);
             low = at;
             at = next;
         } else {
             let next = place.left;
-            set(places, greater.0, greater.1, at);
+            set_way(places, greater.0, greater.1, at);
             greater = (n, Way::Left);
             at = next;
         }
     }
-    set(places, lesser.0, lesser.1, Spot::none());
-    set(places, greater.0, greater.1, Spot::none());
+    set_way(places, lesser.0, lesser.1, Spot::none());
+    set_way(places, greater.0, greater.1, Spot::none());
     low
 }
 
 /// A node comes into the tree of a directory. The greatest entry of the tree below its name is answered, or none.
-fn grow(places: &mut [Place], dir: usize, node: usize, first: u64, name: &Name) -> Spot
+fn insert(places: &mut [Place], dir: usize, node: usize, first: u64, name: &Name) -> Spot
     requires most { length places.old ≤ NODE_LIMIT }
     requires node { node < NODE_LIMIT }
     requires first { IsHead first name.now }
@@ -141,12 +141,12 @@ fn grow(places: &mut [Place], dir: usize, node: usize, first: u64, name: &Name) 
     let mut low = Spot::none();
     let mut from = (dir, Way::Root);
     let mut at = root_of(places, dir);
-    let own = height(node);
+    let own = priority(node);
     for _ in 0..MOST {
         let Some(n) = at.below(places.len()) else {
             break;
         };
-        if height(n) < own {
+        if priority(n) < own {
             break;
         }
         let place = &places[n];
@@ -159,13 +159,13 @@ fn grow(places: &mut [Place], dir: usize, node: usize, first: u64, name: &Name) 
             at = place.left;
         }
     }
-    set(places, from.0, from.1, Spot::at(node));
-    part(places, node, at, first, name, low)
+    set_way(places, from.0, from.1, Spot::at(node));
+    split(places, node, at, first, name, low)
 }
 
 /// The same where the directory has so many entries; where it has few, the greatest entry of its tree below the name is answered.
 #[inline(never)]
-fn come_in(places: &mut [Place], dir: usize, node: usize, first: u64, name: &Name) -> Spot
+fn insert_or_look(places: &mut [Place], dir: usize, node: usize, first: u64, name: &Name) -> Spot
     requires most { length places.old ≤ NODE_LIMIT }
     requires dir { dir < length places.old }
     requires node { node < NODE_LIMIT }
@@ -174,16 +174,16 @@ fn come_in(places: &mut [Place], dir: usize, node: usize, first: u64, name: &Nam
 {
     let place = &places[dir];
     if place.entries < FEW {
-        low_of(places, dir, first, name).0
+        greatest_below(places, dir, first, name).0
     } else {
-        grow(places, dir, node, first, name)
+        insert(places, dir, node, first, name)
     }
 }
 
 /// A node is to be an entry of a directory under this name. Where the directory has many, it comes into its tree. The greatest
 /// entry of the tree below the name is answered, or none.
 #[inline(always)]
-pub fn come(places: &mut [Place], dir: usize, node: usize, first: u64, name: &Name) -> Spot
+pub fn insert_hint(places: &mut [Place], dir: usize, node: usize, first: u64, name: &Name) -> Spot
     requires most { length places.old ≤ NODE_LIMIT }
     requires dir { dir < length places.old }
     requires node { node < NODE_LIMIT }
@@ -194,12 +194,12 @@ pub fn come(places: &mut [Place], dir: usize, node: usize, first: u64, name: &Na
     if place.entries < FEW && place.root == Spot::none() {
         Spot::none()
     } else {
-        come_in(places, dir, node, first, name)
+        insert_or_look(places, dir, node, first, name)
     }
 }
 
 /// The two sides of a node go together to where it stood.
-fn join(places: &mut [Place], at: usize, way: Way, left: Spot, right: Spot)
+fn merge(places: &mut [Place], at: usize, way: Way, left: Spot, right: Spot)
     requires { length places.old ≤ NODE_LIMIT }
     ensures { bared places.new ≡ bared places.old }
 {
@@ -208,20 +208,20 @@ fn join(places: &mut [Place], at: usize, way: Way, left: Spot, right: Spot)
     let mut greater = right;
     for _ in 0..MOST {
         let Some(low) = lesser.below(places.len()) else {
-            set(places, to.0, to.1, greater);
+            set_way(places, to.0, to.1, greater);
             return;
         };
         let Some(high) = greater.below(places.len()) else {
-            set(places, to.0, to.1, lesser);
+            set_way(places, to.0, to.1, lesser);
             return;
         };
-        if height(low) > height(high) {
-            set(places, to.0, to.1, lesser);
+        if priority(low) > priority(high) {
+            set_way(places, to.0, to.1, lesser);
             to = (low, Way::Right);
             let place = &places[low];
             lesser = place.right;
         } else {
-            set(places, to.0, to.1, greater);
+            set_way(places, to.0, to.1, greater);
             to = (high, Way::Left);
             let place = &places[high];
             greater = place.left;
@@ -231,14 +231,14 @@ fn join(places: &mut [Place], at: usize, way: Way, left: Spot, right: Spot)
 
 /// A node leaves the tree of a directory, if it is found there under this name.
 #[inline(never)]
-fn go_out(places: &mut [Place], dir: usize, node: usize, first: u64, name: &Name)
+fn remove(places: &mut [Place], dir: usize, node: usize, first: u64, name: &Name)
     requires most { length places.old ≤ NODE_LIMIT }
     requires first { IsHead first name.now }
     ensures { bared places.new ≡ bared places.old }
 {
     let mut from = (dir, Way::Root);
     let mut at = root_of(places, dir);
-    let own = height(node);
+    let own = priority(node);
     for _ in 0..MOST {
         let Some(n) = at.below(places.len()) else {
             return;
@@ -247,10 +247,10 @@ fn go_out(places: &mut [Place], dir: usize, node: usize, first: u64, name: &Name
         let left = place.left;
         let right = place.right;
         if n == node {
-            join(places, from.0, from.1, left, right);
+            merge(places, from.0, from.1, left, right);
             return;
         }
-        if height(n) < own {
+        if priority(n) < own {
             return;
         }
         if is_below(place, first, name) {
@@ -265,12 +265,12 @@ fn go_out(places: &mut [Place], dir: usize, node: usize, first: u64, name: &Name
 
 /// A node is an entry of a directory under this name no more.
 #[inline(always)]
-pub fn go(places: &mut [Place], dir: usize, node: usize, first: u64, name: &Name)
+pub fn remove_hint(places: &mut [Place], dir: usize, node: usize, first: u64, name: &Name)
     requires most { length places.old ≤ NODE_LIMIT }
     requires first { IsHead first name.now }
     ensures { bared places.new ≡ bared places.old }
 {
     if root_of(places, dir) != Spot::none() {
-        go_out(places, dir, node, first, name);
+        remove(places, dir, node, first, name);
     }
 }

@@ -14,7 +14,7 @@ ghost use Rattle.fs_nodes.specs.declared.hints.TheConstants.{MOST};
 ghost use Rattle.fs_places.specs.code.Edits.{edited};
 ghost use Rattle.fs_nodes.specs.code.Linked.{graph_of_places, next_child, IsPlaces, IsGap, IsNextSibling, IsEntry, IsLesser, IsGreater, is_lesser, IsPassed, with_entries, entered, led, followed, put_between, taken_out};
 
-use crate::hints::{MOST, low_of};
+use crate::hints::{MOST, greatest_below};
 use crate::index::{Found, Slot, seek};
 use fs_names::{NODE_LIMIT, Name};
 use fs_places::label::{head, is_short};
@@ -280,7 +280,7 @@ fn lesser_told(
     ensures lesser { IfSome result (IsLesser (graph_of_places places.now) dir name.now) }
     ensures some { one_of given ≤ one_of result }
 {
-    let told = low_of(places, dir, first, name).0;
+    let told = greatest_below(places, dir, first, name).0;
     match lesser(places, dir, told, first, name) {
         Some(n) => Some(n),
         None => given,
@@ -498,7 +498,7 @@ pub fn order_steps(places: &[Place], dir: usize, name: &Name) -> usize
     ensures { result ≤ MOST + length (names_of ((graph_of_places places.now).shape dir)) }
 {
     let first = head(name.bytes());
-    let (told, steps) = low_of(places, dir, first, name);
+    let (told, steps) = greatest_below(places, dir, first, name);
     let after = lesser(places, dir, told, first, name);
     let looked = walk(places, dir, after, None, first, name);
     steps + looked.1

@@ -3,8 +3,8 @@ use Rattle.fs_nodes.specs.code.Linked.{graph_of_places, IsLesser}
 use Rattle.fs_nodes.proofs.BehindLemmas.{places_few, one_most}
 use Rattle.fs_nodes.proofs.siblings.lesser_told.Goals as goal
 
-pub low_of-told-requires-clause-most : goal.low_of-told-requires-clause-most
-low_of-told-requires-clause-most c = places_few c.args.places.now c.requires.places
+pub greatest_below-told-requires-clause-most : goal.greatest_below-told-requires-clause-most
+greatest_below-told-requires-clause-most c = places_few c.args.places.now c.requires.places
 
 pub returns-in-Some-clause-lesser : goal.returns-in-Some-clause-lesser
 returns-in-Some-clause-lesser c = subst (λ (o : Option ℕ). IfSome o (IsLesser (graph_of_places c.args.places.now) c.args.dir c.args.name.now)) c.in-Some.is c.lesser.ensures

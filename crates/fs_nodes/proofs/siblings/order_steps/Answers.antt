@@ -6,10 +6,10 @@ use Rattle.fs_nodes.proofs.StepLemmas.{dir_length}
 use Rattle.fs_nodes.proofs.BehindLemmas.{places_few}
 use Rattle.fs_nodes.proofs.siblings.order_steps.Goals as goal
 
-pub low_of-told-requires-clause-most : goal.low_of-told-requires-clause-most
-low_of-told-requires-clause-most c = places_few c.args.places.now c.requires
+pub greatest_below-told-requires-clause-most : goal.greatest_below-told-requires-clause-most
+greatest_below-told-requires-clause-most c = places_few c.args.places.now c.requires
 
 pub overflow_add-result : goal.overflow_add-result
 overflow_add-result c =
     let k : length (names_of ((graph_of_places c.args.places.now).shape c.args.dir)) ≤ NODE_LIMIT = dir_length c.args.places.now c.args.dir c.requires in
-    omega (arith, c.walk-looked.ensures.steps, c.low_of-told.ensures)
+    omega (arith, c.walk-looked.ensures.steps, c.greatest_below-told.ensures)
