@@ -34,12 +34,12 @@ enum Order {
     Ascending,
     Descending,
     Drawn,
-    /// Each is greater than those that stand lower in the tree beside the entries, so that it is as deep as it has entries.
+    /// In the order of their priorities in the tree beside the entries, so that it is as deep as it has entries.
     Against,
 }
 
-/// How high the entry of a node stands in that tree.
-fn height(node: u32) -> u32 {
+/// The priority of a node's entry in that tree.
+fn priority(node: u32) -> u32 {
     let word = (node ^ node >> 16).wrapping_mul(0x7feb_352d);
     let word = (word ^ word >> 15).wrapping_mul(0x846c_a68b);
     word ^ word >> 16
@@ -62,7 +62,7 @@ fn name(order: Order, random: &mut Pcg32, node: u32) -> Option<Name> {
         Order::Ascending => node,
         Order::Descending => u32::MAX - node,
         Order::Drawn => random.next_u32(),
-        Order::Against => height(node),
+        Order::Against => priority(node),
     })
 }
 

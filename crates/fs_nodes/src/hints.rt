@@ -2,8 +2,8 @@
 //!
 //! Nothing is known of it: of each place that it tells is asked whether it is that of an entry of the directory with a lesser
 //! name, and a step along it changes nothing else. An entry comes into the tree where its directory has `FEW` others, so at most
-//! so many are not in it, and a search goes past no more of these. The tree is a treap: an entry that stands higher is above, and
-//! how high it stands is the number of its node, mixed.
+//! so many are not in it, and a search goes past no more of these. The tree is a treap: an entry of greater priority is above,
+//! and its priority is the number of its node, mixed.
 
 ghost use Rattle.std.specs.Prelude.{◌≡◌, ◌≤◌, ◌<◌, length};
 ghost use Rattle.fs_places.specs.code.Heads.{IsHead};
@@ -17,7 +17,7 @@ use std::cmp::Ordering;
 /// How many entries a directory has before there is a tree.
 const FEW: u32 = 32;
 
-/// More steps than a way along a tree takes. A way that is longer is left there.
+/// More steps than a way along a tree takes, unless names are made against it. A longer way is left there.
 pub const MOST: usize = 128;
 
 /// A way of a place.
@@ -28,7 +28,7 @@ enum Way {
     Right,
 }
 
-/// How high the entry of a node stands.
+/// The priority of a node's entry.
 #[inline(always)]
 fn priority(node: usize) -> u32 {
     let word = (node & 0xffff_ffff) as u32;
@@ -131,7 +131,7 @@ fn split(places: &mut [Place], node: usize, from: Spot, first: u64, name: &Name,
     low
 }
 
-/// A node comes into the tree of a directory. The greatest entry of the tree below its name is answered, or none.
+/// A node comes into the tree of a directory under a name. The greatest entry of the tree below it is answered, or none.
 fn insert(places: &mut [Place], dir: usize, node: usize, first: u64, name: &Name) -> Spot
     requires most { length places.old ≤ NODE_LIMIT }
     requires node { node < NODE_LIMIT }
