@@ -543,6 +543,36 @@ class Table(OfPatch):
                 self.assertEqual((raised.exception.errno, self.tree.tree()), (errno.ENOTSUP, before))
                 self.assertIn(f": a tree {atomfs.patch.refused[name]}", str(raised.exception))
 
+    def test_refused_by_other_words(self):
+        """By the names of arguments, from descriptors, and as a program or a file of a process."""
+        with atomfs.patch(self.tree, at=AT):
+            filled(AT)
+            before = self.tree.tree()
+            for call in (
+                lambda: io.FileIO(file=f"{AT}/f"),
+                lambda: sqlite3.connect(database=f"{AT}/base"),
+                lambda: sqlite3.connect(f"file://localhost{AT}/base", uri=True),
+                lambda: sqlite3.connect(f"file:{AT.replace('/', '%2F')}/base", uri=True),
+                lambda: sqlite3.Connection(database=pathlib.Path(AT, "base")),
+                with_descriptor(lambda number: mmap.mmap(fileno=number, length=0)),
+                lambda: os.utime(path=f"{AT}/f"),
+                with_descriptor(lambda number: os.chmod(number, 0o600)),
+                lambda: os.chmod("f", 0o600, dir_fd=os.open(AT, os.O_RDONLY)),
+                lambda: os.link("/proc/version", f"{AT}/l"),
+                lambda: os.symlink(f"{AT}/f", "/proc/l"),
+                lambda: os.symlink(src="f", dst=f"{AT}/l"),
+                lambda: subprocess.Popen([f"{AT}/f"]),
+                lambda: subprocess.Popen(one for one in (f"{AT}/f",)),
+                lambda: subprocess.Popen(["true"], executable=f"{AT}/f"),
+                lambda: subprocess.Popen(["true"], stdout=open(f"{AT}/f")),
+                lambda: pathlib.Path(AT, "f").chmod(0o600),
+                lambda: pathlib.Path(AT, "l").symlink_to("f"),
+                in_folder(lambda at: subprocess.Popen(["true"])),
+            ):
+                with self.subTest(call), self.assertRaises(OSError) as raised:
+                    call(AT) if call.__code__.co_argcount else call()
+                self.assertEqual((raised.exception.errno, self.tree.tree()), (errno.ENOTSUP, before))
+
     def test_all_of_os(self):
         """Each function of `os` that takes a path or a descriptor is in the table, or is made of those that are."""
         made = {"fdopen", "fwalk", "makedirs", "removedirs", "renames", "walk", "popen", "get_exec_path", "fspath", "fsencode", "fsdecode"}
@@ -705,7 +735,12 @@ class Outside(OfPatch):
             with open(f"{at}/f", "rb", 0) as file:
                 self.assertIsInstance(file, io.FileIO)
             os.chmod(f"{at}/f", 0o600)
+            os.mkdir(f"{AT}/working")
+            os.chdir(f"{AT}/working")
             os.symlink("f", f"{at}/l")
+            self.assertEqual(subprocess.run(iter(["cat", "f"]), cwd=at, capture_output=True).stdout, b"hello")
+            os.chdir("/")
+            os.rmdir(f"{AT}/working")
             self.assertEqual((os.readlink(f"{at}/l"), subprocess.run(["cat", "l"], cwd=at, capture_output=True).stdout), ("f", b"hello"))
             with contextlib.closing(sqlite3.connect(f"{at}/base")) as base, contextlib.closing(sqlite3.connect(":memory:")):
                 base.execute("create table t (x)")
@@ -811,6 +846,43 @@ class Open(OfPatch):
                 return found, all_of(at)
 
         self.compare(row)
+
+    def test_large_files(self):
+        """Whole files of the greatest length, and longer than what is read at once."""
+
+        def row(at):
+            found = []
+            for size in (65_535, 65_536, 65_537, 1_048_576):
+                data = bytes(range(256)) * (size // 256) + b"x" * (size % 256)
+                pathlib.Path(at, "f").write_bytes(data)
+                with open(f"{at}/f", "rb") as file:
+                    found += [file.read() == data, file.read(), file.seek(3), file.read(9), file.read() == data[12:]]
+                shutil.copyfile(f"{at}/f", f"{at}/g")
+                found.append(pathlib.Path(at, "g").read_bytes() == data)
+            return found
+
+        self.compare(row)
+
+    def test_calls(self):
+        """A function is one call of the tree, where one is enough."""
+        with atomfs.patch(self.tree, at=AT):
+            filled(AT)
+            for calls, function in (
+                (["rename /f /n: ok"], lambda: os.rename(f"{AT}/f", f"{AT}/n")),
+                (["rename /n /f: ok"], lambda: os.replace(f"{AT}/n", f"{AT}/f")),
+                (["stat /f: stat file 5"], lambda: os.path.exists(f"{AT}/f")),
+                (["readdir /d: names e g"], lambda: os.listdir(f"{AT}/d")),
+                (["stat /f: stat file 5", "read /f 0 65536: bytes 68656c6c6f"], lambda: text_of(f"{AT}/f")),
+                (["mknod /m: ok", "write /m 0 74657874: wrote 4"], lambda: written(f"{AT}/m")),
+                (["unlink /m: ok"], lambda: os.unlink(f"{AT}/m")),
+                (["mkdir /m: ok", "rmdir /m: ok"], lambda: (os.mkdir(f"{AT}/m"), os.rmdir(f"{AT}/m/"))),
+                (["truncate /f 2: ok"], lambda: os.truncate(f"{AT}/f", 2)),
+            ):
+                before = self.tree.calls
+                function()
+                count = self.tree.calls - before
+                with self.subTest(calls):
+                    self.assertEqual(self.tree.last_calls(count), calls)
 
     def test_threads(self):
         def work(thread):

@@ -16,6 +16,8 @@ from ._errors import file_too_large
 if TYPE_CHECKING:
     from ._tree import Tree
 
+# How many bytes are read at once at least, where there are so many.
+READ = 65_536
 # No system gives a process so many, so none of these numbers is a descriptor of the disk.
 _NUMBERS = itertools.count(1 << 30)
 
@@ -98,7 +100,12 @@ class Descriptors:
     def kept(self, path: str) -> Optional[bytes]:
         """The bytes of a file that is open and about to lose its entry."""
         node = self._nodes.get(path)
-        return self.tree.read(path) if node is not None and not node.is_dir else None
+        if node is None or node.is_dir:
+            return None
+        # Another may have changed the tree by itself.
+        with contextlib.suppress(OSError):
+            return self.tree.read(path)
+        return None
 
     def removed(self, path: str, data: Optional[bytes]) -> None:
         """The entry of a path went away."""
@@ -272,12 +279,12 @@ class DescribedFile(io.RawIOBase):
         return len(data)
 
     def readall(self) -> bytes:
-        descriptor, pieces = self._check(self._reads, "reading"), [b""]
-        size = self._files.tree.limits.file_bytes
+        descriptor = self._check(self._reads, "reading")
         with self._told():
-            while piece := self._files.read(descriptor, size):
-                pieces.append(piece)
-        return b"".join(pieces)
+            data = self._files.read(descriptor, READ)
+            if len(data) == READ:
+                data += self._files.read(descriptor, self._files.tree.limits.file_bytes)
+        return data
 
     def write(self, data: Any) -> int:
         descriptor = self._check(self._writes, "writing")
@@ -305,7 +312,9 @@ class DescribedFile(io.RawIOBase):
             self._files.close(self._descriptor)
 
 
-def file_object(raw: DescribedFile, mode: str, buffering: int, size: int, *text: Any) -> Any:
+def file_object(
+    raw: DescribedFile, mode: str, buffering: int, size: int, encoding: Optional[str], errors: Optional[str], newline: Optional[str]
+) -> Any:
     """The file object of the builtin `open` over a raw one, with a buffer of so many bytes where no number is given."""
     if buffering == 0:
         return raw
@@ -313,9 +322,9 @@ def file_object(raw: DescribedFile, mode: str, buffering: int, size: int, *text:
     if "+" in mode:
         buffer: Any = io.BufferedRandom(raw, room)
     else:
-        buffer = io.BufferedReader(raw, room) if raw.readable() else io.BufferedWriter(raw, room)
+        buffer = io.BufferedReader(raw, min(room, READ)) if raw.readable() else io.BufferedWriter(raw, room)
     if "b" in mode:
         return buffer
-    made = io.TextIOWrapper(buffer, *text, line_buffering=line)
+    made = io.TextIOWrapper(buffer, encoding, errors, newline, line_buffering=line)
     made.mode = mode  # type: ignore[misc]
     return made

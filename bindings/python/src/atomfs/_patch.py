@@ -1,8 +1,8 @@
 """A tree that stands at a directory of the disk: `open`, `os` and all that is made of them go there for the paths below it.
 
 The functions are replaced wherever a module has them, and each asks where its path leads. What a tree has not is refused below
-the directory by an `OSError` with `ENOTSUP`, so that nothing there comes to the disk. Not covered, and not refused: code in C that opens files
-itself, and the import of modules.
+the directory by an `OSError` with `ENOTSUP`, so that nothing there comes to the disk. Neither covered nor refused are code in C that opens
+files itself, the import of modules, and a function that a class or a default of the program's own has kept.
 """
 from __future__ import annotations
 
@@ -11,11 +11,12 @@ import errno
 import functools
 import os
 import pathlib
-import shutil
+import re
 import subprocess
 import sys
 import types
 from typing import Any, Callable, Dict, List, Optional, Tuple, Union
+from urllib.parse import unquote
 
 from . import _table, _walk
 from ._descriptors import Descriptors, told
@@ -84,8 +85,8 @@ class patch(contextlib.ContextDecorator):
 
     def _replace(self, pairs: List[Tuple[Any, Any]]) -> None:
         """Puts new functions in the place of those that are there, until the end."""
-        news, olds = ({id(one): other for one, other in these} for these in (pairs, [(new, old) for old, new in pairs]))
-        self._undo.append(lambda: _swap(olds))
+        news = {id(old): new for old, new in pairs}
+        self._undo.append(lambda: _swap({id(new): old for old, new in pairs}))
         _swap(news)
         for name in _DEEP:
             module = sys.modules.get(name)
@@ -118,7 +119,7 @@ class patch(contextlib.ContextDecorator):
     def _made(self, name: str, real: Any) -> Any:
         if name in _table.CLASSES:
             check = getattr(self, f"_check_{real.__name__.lower()}")
-            return _guarded(real, lambda *given, **named: self._active and check(*given, **named))
+            return _guarded(real, lambda what: self._active and check(what), _table.CLASSES[name])
         own: Dict[str, Callable[[Function], Function]] = {
             **{"builtins.open": self._open, "io.open_code": self._open_code, "sqlite3.connect": self._connect},
             **{"os.getcwd": self._getcwd, "os.getcwdb": self._getcwdb, "os.closerange": self._closerange, "os.system": self._system},
@@ -212,9 +213,11 @@ class patch(contextlib.ContextDecorator):
             if len(paths) < 2:
                 return real(*paths, **named)
             try:
-                places = [
-                    self._places.of(path, named.get(key, named.get("dir_fd")), False) for path, key in zip(paths, keys)
-                ]
+                with told(*paths):
+                    places = [self._places.of(path, named.get(key, named.get("dir_fd")), False) for path, key in zip(paths, keys)]
+                if name == "os.symlink" and not os.path.isabs(paths[0]):
+                    # The text of a link leads on from where the link is.
+                    places[0] = Place(None, paths[0])
             except TypeError:
                 return real(*paths, *given[2:], **named)
             if all(place.inside is None for place in places):
@@ -341,24 +344,26 @@ class patch(contextlib.ContextDecorator):
         if self._files.working is not None:
             raise _refused(name, _table.REFUSED[name], str(self.at))
 
-    def _check_fileio(self, file: Any, *given: Any, **named: Any) -> None:
+    def _check_fileio(self, file: Any) -> None:
         if self._path_inside(file):
             raise _refused("io.FileIO", _table.REFUSED["io.FileIO"], file if not isinstance(file, int) else None)
 
-    def _check_mmap(self, fileno: int, *given: Any, **named: Any) -> None:
+    def _check_mmap(self, fileno: int) -> None:
         if fileno in self._files:
             raise _refused("mmap.mmap", _table.REFUSED["mmap.mmap"])
 
-    def _check_connection(self, database: Any, *given: Any, **named: Any) -> None:
+    def _check_connection(self, database: Any) -> None:
         text = os.fsdecode(database) if isinstance(database, (str, bytes, os.PathLike)) else ""
-        at = text[5:].partition("?")[0] if text.startswith("file:") else text
-        if at != ":memory:" and self._path_inside(f"/{at.lstrip('/')}" if at.startswith("//") else at):
+        if text.startswith("file:"):
+            text = unquote(re.split("[?#]", text[5:])[0])
+            text = re.sub("^//(localhost)?/", "/", text)
+        if text != ":memory:" and self._path_inside(text):
             raise _refused("sqlite3.connect", _table.REFUSED["sqlite3.connect"], database)
 
     def _connect(self, real: Function) -> Function:
-        def function(database: Any, *given: Any, **named: Any) -> Any:
-            self._check_connection(database)
-            return real(database, *given, **named)
+        def function(*given: Any, **named: Any) -> Any:
+            self._check_connection(given[0] if given else named.get("database"))
+            return real(*given, **named)
 
         return function
 
@@ -370,10 +375,12 @@ class patch(contextlib.ContextDecorator):
             if self._active:
                 words = dict(zip(("bufsize", "executable", "stdin", "stdout", "stderr", "preexec_fn", "close_fds", "shell", "cwd"), given))
                 words.update(named)
-                first = args if isinstance(args, (str, bytes, os.PathLike)) else next(iter(args), None)
+                args = args if isinstance(args, (str, bytes, os.PathLike)) else list(args)
                 if words.get("cwd") is None:
                     self._check_working("subprocess.Popen")
-                for path in (first, words.get("executable"), words.get("cwd")):
+                programs = [*(args[:1] if isinstance(args, list) else [args]), words.get("executable")]
+                # A program without a slash is looked for elsewhere.
+                for path in (words.get("cwd"), *(one for one in programs if one is not None and "/" in os.fsdecode(one))):
                     if self._path_inside(path):
                         raise _refused("subprocess.Popen", _table.REFUSED["subprocess.Popen"], path)
                 for file in ("stdin", "stdout", "stderr"):
@@ -399,20 +406,19 @@ def _number_of(file: Any) -> Optional[int]:
     return number
 
 
-def _guarded(real: type, check: Function) -> type:
-    """A class that looks before it makes what `real` makes, and else is the same."""
+def _guarded(real: type, check: Callable[[Any], object], key: str) -> type:
+    """A class that looks at its first argument before it makes what `real` makes, and else is the same."""
 
     class Guard(type(real)):  # type: ignore[misc]
         def __call__(cls, *given: Any, **named: Any) -> Any:
-            if given:
-                check(*given, **named)
+            check(given[0] if given else named.get(key))
             return real(*given, **named) if cls is made else super().__call__(*given, **named)
 
         def __instancecheck__(cls, one: Any) -> bool:
-            return isinstance(one, real) if cls is made else super().__instancecheck__(one)
+            return isinstance(one, real) if cls is made else bool(super().__instancecheck__(one))
 
         def __subclasscheck__(cls, one: Any) -> bool:
-            return issubclass(one, real) if cls is made else super().__subclasscheck__(one)
+            return issubclass(one, real) if cls is made else bool(super().__subclasscheck__(one))
 
     made: type = Guard(real.__name__, (real,), {"__doc__": real.__doc__, "__module__": real.__module__})
     return made

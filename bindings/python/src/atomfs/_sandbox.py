@@ -16,6 +16,7 @@ from typing import Any, Callable, Dict, Iterable, Iterator, List, Optional, Unio
 
 from . import _walk
 from ._descriptors import DescribedFile, Description, Descriptors, Node, failed, file_object
+from ._errors import encoded
 from ._places import Place, Places
 from ._tree import Stat, Tree
 
@@ -116,7 +117,7 @@ class Sandbox:
     # ---- Looks
 
     def stat(self, place: Place, *given: Any, **named: Any) -> os.stat_result:
-        return result_of(self._looked(place), self._device, _walk.encoded(_at(place)))
+        return result_of(self._looked(place), self._device, encoded(_at(place)))
 
     lstat = stat
 
@@ -161,10 +162,14 @@ class Sandbox:
 
     def unlink(self, place: Place, **named: Any) -> None:
         with self.tree.lock:
-            if self._looked(place).is_dir:
-                failed(errno.EISDIR, place.path)
+            if place.of_directory:
+                self._looked(place)
             data = self._files.kept(_at(place))
-            self.tree.unlink(_at(place))
+            try:
+                self.tree.unlink(_at(place))
+            except PermissionError:
+                # The number that Linux has for it.
+                failed(errno.EISDIR)
             self._files.removed(_at(place), data)
 
     remove = unlink
@@ -176,10 +181,9 @@ class Sandbox:
 
     def rename(self, old: Place, new: Place, **named: Any) -> None:
         with self.tree.lock:
-            found = self._looked(old)
-            if new.of_directory and not found.is_dir:
+            if (old.of_directory or new.of_directory) and not self._looked(old).is_dir:
                 failed(errno.ENOTDIR, old.path, None, new.path)
-            data = self._files.kept(_at(new)) if self.tree.is_file(_at(new)) else None
+            data = self._files.kept(_at(new))
             self.tree.rename(_at(old), _at(new))
             if _at(old) != _at(new):
                 self._files.removed(_at(new), data)
@@ -188,7 +192,8 @@ class Sandbox:
     replace = rename
 
     def truncate(self, place: Place, length: int) -> None:
-        self._looked(place)
+        if place.of_directory:
+            self._looked(place)
         if length < 0:
             failed(errno.EINVAL, place.path)
         self.tree.truncate(_at(place), length)

@@ -7,9 +7,9 @@ import textwrap
 from typing import Any, Dict, Iterable, List, Mapping, NamedTuple, Sequence, Tuple, Union
 from urllib.parse import unquote_to_bytes
 
-from ._errors import encoded, path_error
+from ._errors import AnyPath, encoded, path_error
 from ._library import Call, Limits, Request, library
-from ._tree import NAME, AnyPath, bytes_of, number_of
+from ._tree import NAME, bytes_of, number_of
 
 # A call by its name and what it takes, or by its line in a script.
 AnyCall = Union[str, Tuple[Any, ...]]

@@ -34,7 +34,8 @@ OF_DESCRIPTORS: Dict[str, Tuple[str, ...]] = {
 }
 # What is replaced by functions of their own.
 _OWN = ("builtins.open", "io.open_code", "os.getcwd", "os.getcwdb", "os.closerange", "shutil.copystat", "shutil.copymode", "sqlite3.connect")
-CLASSES = ("io.FileIO", "mmap.mmap", "sqlite3.Connection")
+# Classes, and the name of their first argument.
+CLASSES: Dict[str, str] = {"io.FileIO": "file", "mmap.mmap": "fileno", "sqlite3.Connection": "database"}
 REPLACED = (*OF_PATH, *OF_PATHS, *OF_DESCRIPTORS, *_OWN, "os.system", *CLASSES)
 
 _NO_TIMES, _NO_OWNERS, _NO_MODES = "keeps no times", "keeps no owners", "keeps no permissions"
