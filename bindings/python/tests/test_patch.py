@@ -32,6 +32,19 @@ from atomfs import _table
 AT = "/sandbox_of_atomfs"
 
 
+class Kept:
+    """What a class and defaults of arguments have kept of `os`."""
+
+    listed = staticmethod(os.listdir)
+
+    def of_default(self, path, listed=os.listdir, *, opened=open):
+        return listed(path), opened
+
+
+def of_default(path, *, listed=os.listdir):
+    return listed(path)
+
+
 def written(path, text="text"):
     with open(path, "w") as file:
         file.write(text)
@@ -315,6 +328,7 @@ ROWS = {
     "builtins.open": opened,
     "io.open": lambda at: io.open(f"{at}/f", "rb").read(),
     "io.open_code": open_code,
+    "io.FileIO": lambda at: [(file.read(), file.mode, file.close()) for file in (io.FileIO(f"{at}/f"), io.FileIO(file=f"{at}/n", mode="xb+"))],
     "os.stat": lambda at: [of_stat(os.stat(one)) for one in (at, f"{at}/f", f"{at}/d/", os.fsencode(at), pathlib.Path(at, "f"))],
     "os.lstat": lambda at: of_stat(os.lstat(f"{at}/f")),
     "os.access": there(lambda path: os.access(path, os.R_OK | os.W_OK)),
@@ -471,7 +485,6 @@ REFUSALS = {
     "mmap.mmap": with_descriptor(lambda number: mmap.mmap(number, 0)),
     "sqlite3.connect": lambda at: sqlite3.connect(f"file://{at}/base?mode=rwc", uri=True),
     "sqlite3.Connection": lambda at: sqlite3.Connection(f"{at}/base"),
-    "io.FileIO": lambda at: io.FileIO(f"{at}/f"),
 }
 
 
@@ -549,7 +562,6 @@ class Table(OfPatch):
             filled(AT)
             before = self.tree.tree()
             for call in (
-                lambda: io.FileIO(file=f"{AT}/f"),
                 lambda: sqlite3.connect(database=f"{AT}/base"),
                 lambda: sqlite3.connect(f"file://localhost{AT}/base", uri=True),
                 lambda: sqlite3.connect(f"file:{AT.replace('/', '%2F')}/base", uri=True),
@@ -774,6 +786,12 @@ class Outside(OfPatch):
                 self.assertRaises(FileNotFoundError, os.getcwd)
                 self.assertRaises(FileNotFoundError, os.stat, "x")
                 os.chdir("/")
+                self.assertEqual((os.getcwd(), os.path.realpath("x"), os.path.exists("d"), os.path.exists("proc")), ("/", "/x", False, True))
+                os.chdir(place)
+                with descriptor(at, os.O_RDONLY) as number:
+                    os.fchdir(number)
+                self.assertEqual((os.getcwd(), text_of("place/f")), (os.path.realpath(at), "tree"))
+                os.chdir("/")
                 os.chdir(place)
             self.assertEqual((os.getcwd(), os.path.lexists(place)), ("/", False))
             os.chdir(before)
@@ -798,13 +816,13 @@ class Outside(OfPatch):
         taken = []
         with self.assertRaises(KeyError), atomfs.patch(self.tree, at=AT):
             taken += [os.stat, open, io.FileIO]
-            self.assertEqual(captured(AT), [])
+            self.assertEqual([captured(AT), Kept.listed(AT), Kept().of_default(AT), of_default(AT)], [[], [], ([], open), []])
             self.assertIn(os.stat, os.supports_dir_fd)
             raise KeyError
         after = [_table.found(name) for name in names] + [io.open, os.supports_dir_fd, tempfile._TemporaryFileCloser.__dict__]
         self.assertEqual([name for name, one, other in zip(names, before, after) if one is not other], [])
         self.assertEqual(before[-3:], after[-3:])
-        for call in (*taken, captured):
+        for call in (*taken, captured, Kept.listed, Kept().of_default, of_default):
             self.assertRaises(FileNotFoundError, call, AT)
 
     def test_two_trees(self):

@@ -33,9 +33,9 @@ def told(*paths: Any) -> Iterator[None]:
     try:
         yield
     except OSError as error:
-        error.filename = os.fspath(paths[0])
-        if paths[1:]:
-            error.filename2 = os.fspath(paths[1])
+        error.filename, *others = [os.fspath(path) if hasattr(path, "__fspath__") else path for path in paths]
+        if others:
+            (error.filename2,) = others
         raise
 
 

@@ -2,7 +2,7 @@
 
 The functions are replaced wherever a module has them, and each asks where its path leads. What a tree has not is refused below
 the directory by an `OSError` with `ENOTSUP`, so that nothing there comes to the disk. Neither covered nor refused are code in C that opens
-files itself, the import of modules, and a function that a class or a default of the program's own has kept.
+files itself, the import of modules, and a function that is kept where no module, class or default of an argument has it.
 """
 from __future__ import annotations
 
@@ -15,7 +15,7 @@ import re
 import subprocess
 import sys
 import types
-from typing import Any, Callable, Dict, List, Optional, Tuple, Union
+from typing import Any, Callable, Dict, Iterator, List, Optional, Tuple, Union
 from urllib.parse import unquote
 
 from . import _table, _walk
@@ -27,8 +27,11 @@ from ._tree import Tree
 Function = Callable[..., Any]
 # Modules that keep what they have: those of C, of which the others are made, and those of imports.
 _KEPT = {"posix", "_io", "_frozen_importlib", "_frozen_importlib_external", "importlib._bootstrap", "importlib._bootstrap_external"}
-# Modules whose classes and defaults of arguments have functions, in some version of Python.
+# Modules of Python whose classes and defaults of arguments have functions, in some version; those of others are looked through.
 _DEEP = ("pathlib", "pathlib._local", "pathlib._abc", "glob", "tempfile", "shutil", "zipfile")
+_OF_PYTHON = os.path.dirname(os.__file__) + os.sep
+# The modules of others that were looked through and have none, with how many names they had then.
+_looked: Dict[str, int] = {}
 
 
 def _refused(name: str, what: str, *paths: Any) -> OSError:
@@ -88,11 +91,15 @@ class patch(contextlib.ContextDecorator):
         news = {id(old): new for old, new in pairs}
         self._undo.append(lambda: _swap({id(new): old for old, new in pairs}))
         _swap(news)
-        for name in _DEEP:
-            module = sys.modules.get(name)
-            for kind in list(vars(module).values()) if module is not None else ():
-                if isinstance(kind, type):
-                    self._replace_in(kind, news)
+        for name, space in _deep():
+            count = len(self._undo)
+            for value in list(space.values()):
+                if isinstance(value, type):
+                    self._replace_in(value, news)
+                elif isinstance(value, types.FunctionType):
+                    self._replace_defaults(value, news)
+            if len(self._undo) == count:
+                _looked[name] = len(space)
         for name in ("supports_dir_fd", "supports_fd", "supports_follow_symlinks", "supports_effective_ids"):
             those = getattr(os, name)
             self._put(os, name, those | {news[id(one)] for one in those if id(one) in news})
@@ -104,10 +111,14 @@ class patch(contextlib.ContextDecorator):
             function = value.__func__ if isinstance(value, staticmethod) else value
             if id(function) in news:
                 self._put(kind, name, staticmethod(news[id(function)]), value)
-            elif isinstance(function, types.FunctionType) and function.__defaults__:
-                defaults = tuple(news.get(id(one), one) for one in function.__defaults__)
-                if any(one is not other for one, other in zip(defaults, function.__defaults__)):
-                    self._put(function, "__defaults__", defaults)
+            elif isinstance(function, types.FunctionType):
+                self._replace_defaults(function, news)
+
+    def _replace_defaults(self, function: types.FunctionType, news: Dict[int, Any]) -> None:
+        if any(id(one) in news for one in function.__defaults__ or ()):
+            self._put(function, "__defaults__", tuple(news.get(id(one), one) for one in function.__defaults__ or ()))
+        if any(id(one) in news for one in (function.__kwdefaults__ or {}).values()):
+            self._put(function, "__kwdefaults__", {name: news.get(id(one), one) for name, one in function.__kwdefaults__.items()})
 
     def _put(self, owner: Any, name: str, new: Any, old: Any = None) -> None:
         old = getattr(owner, name) if old is None else old
@@ -118,21 +129,21 @@ class patch(contextlib.ContextDecorator):
 
     def _made(self, name: str, real: Any) -> Any:
         if name in _table.CLASSES:
-            check = getattr(self, f"_check_{real.__name__.lower()}")
-            return _guarded(real, lambda what: self._active and check(what), _table.CLASSES[name])
+            return self._guarded(name, real)
         own: Dict[str, Callable[[Function], Function]] = {
             **{"builtins.open": self._open, "io.open_code": self._open_code, "sqlite3.connect": self._connect},
             **{"os.getcwd": self._getcwd, "os.getcwdb": self._getcwdb, "os.closerange": self._closerange, "os.system": self._system},
             **{"shutil.copystat": self._nothing, "shutil.copymode": self._nothing},
         }
+        on_disk = self._working(real) if name in ("os.chdir", "os.fchdir") else real
         if name in own:
             made = own[name](real)
         elif name in _table.OF_DESCRIPTORS:
-            made = self._of_descriptors(name, real, _table.OF_DESCRIPTORS[name])
+            made = self._of_descriptors(name, on_disk, _table.OF_DESCRIPTORS[name])
         elif name in _table.OF_PATHS:
             made = self._of_paths(name, real, *_table.OF_PATHS[name])
         else:
-            made = self._of_path(name, real, _table.OF_PATH[name])
+            made = self._of_path(name, on_disk, _table.OF_PATH[name])
 
         @functools.wraps(real)
         def replaced(*given: Any, **named: Any) -> Any:
@@ -169,6 +180,8 @@ class patch(contextlib.ContextDecorator):
                     return real(path, *rest, **named)
                 if of_descriptor is not None:
                     return self._of_one(of_descriptor, path, *rest, **named)
+                if real not in os.supports_fd:
+                    return real(path, *rest, **named)
                 return self._by_place(inside, path, *rest, **named)
             try:
                 place = self._places.of(path, named.get("dir_fd"), follow and named.get("follow_symlinks", True))
@@ -180,7 +193,7 @@ class patch(contextlib.ContextDecorator):
                 with told(path):
                     raise
             if place.inside is None:
-                if place.path is not path:
+                if place.moved:
                     named.pop("dir_fd", None)
                 return real(place.path, *rest, **named)
             named.pop("dir_fd", None)
@@ -189,10 +202,10 @@ class patch(contextlib.ContextDecorator):
 
         return function
 
-    def _of_one(self, inside: Function, descriptor: int, *given: Any, **named: Any) -> Any:
-        """A call on a descriptor of the tree, whose error tells the path at which the tree stands."""
+    def _of_one(self, inside: Function, *given: Any, **named: Any) -> Any:
+        """A call on descriptors of the tree, whose error tells the path at which the tree stands."""
         try:
-            return inside(descriptor, *given, **named)
+            return inside(*given, **named)
         except OSError as error:
             if isinstance(error.filename, str):
                 error.filename = self._places.outside(error.filename)
@@ -203,7 +216,7 @@ class patch(contextlib.ContextDecorator):
         place = self._sandbox.place(descriptor)
         if place is None:
             raise OSError(errno.ENOENT, os.strerror(errno.ENOENT))
-        return self._of_one(lambda descriptor: inside(place, *given, **named), descriptor)
+        return self._of_one(inside, place, *given, **named)
 
     def _of_paths(self, name: str, real: Function, first: str, second: str) -> Function:
         inside, keys = self._inside(name), ("src_dir_fd", "dst_dir_fd")
@@ -213,16 +226,21 @@ class patch(contextlib.ContextDecorator):
             if len(paths) < 2:
                 return real(*paths, **named)
             try:
+                # The text of a link leads on from where the link is, and is as it is.
+                texts = paths[:1] if name == "os.symlink" and not os.path.isabs(paths[0]) else []
                 with told(*paths):
-                    places = [self._places.of(path, named.get(key, named.get("dir_fd")), False) for path, key in zip(paths, keys)]
-                if name == "os.symlink" and not os.path.isabs(paths[0]):
-                    # The text of a link leads on from where the link is.
-                    places[0] = Place(None, paths[0])
+                    places = [
+                        *(Place(None, text) for text in texts),
+                        *(
+                            self._places.of(path, named.get(key, named.get("dir_fd")), False)
+                            for path, key in list(zip(paths, keys))[len(texts) :]
+                        ),
+                    ]
             except TypeError:
                 return real(*paths, *given[2:], **named)
             if all(place.inside is None for place in places):
-                for place, path, key in zip(places, paths, keys):
-                    if place.path is not path:
+                for place, key in zip(places, keys):
+                    if place.moved:
                         named.pop(key, None)
                 return real(*(place.path for place in places), *given[2:], **named)
             with told(*paths):
@@ -292,6 +310,15 @@ class patch(contextlib.ContextDecorator):
         opened = self._open(lambda path, *given: real(path))
         return lambda path: opened(path, "rb")
 
+    def _working(self, real: Function) -> Function:
+        """Behind a change to a directory of the disk the working one is none of the tree."""
+
+        def function(*given: Any, **named: Any) -> None:
+            real(*given, **named)
+            self._files.work_in(None)
+
+        return function
+
     def _getcwd(self, real: Function) -> Function:
         def function() -> str:
             working = self._files.working
@@ -327,6 +354,26 @@ class patch(contextlib.ContextDecorator):
 
     # ---- What is refused
 
+    def _guarded(self, name: str, real: type) -> type:
+        """A class that looks at its first argument before it makes anything."""
+        key = _table.CLASSES[name]
+        check = {"mmap.mmap": self._check_mmap, "sqlite3.Connection": self._check_connection}.get(name)
+        file = self._open(lambda file, mode, buffering, encoding, errors, newline, closefd, opener: real(file, mode, closefd, opener))
+
+        def function(*given: Any, **named: Any) -> Any:
+            if self._active and check is not None:
+                check(given[0] if given else named.get(key))
+            elif self._active and (given or key in named):
+                return self._raw_file(file, *given, **named)
+            return real(*given, **named)
+
+        return _made_by(real, function)
+
+    @staticmethod
+    def _raw_file(opened: Function, file: Any, mode: str = "r", closefd: bool = True, opener: Optional[Function] = None) -> Any:
+        """What `io.FileIO` makes: a file object without a buffer."""
+        return opened(file, f"{mode}b" if isinstance(mode, str) and "b" not in mode else mode, 0, closefd=closefd, opener=opener)
+
     def _path_inside(self, path: Any) -> bool:
         """Whether something is a path of the tree, or a descriptor of it."""
         if isinstance(path, int):
@@ -343,10 +390,6 @@ class patch(contextlib.ContextDecorator):
     def _check_working(self, name: str) -> None:
         if self._files.working is not None:
             raise _refused(name, _table.REFUSED[name], str(self.at))
-
-    def _check_fileio(self, file: Any) -> None:
-        if self._path_inside(file):
-            raise _refused("io.FileIO", _table.REFUSED["io.FileIO"], file if not isinstance(file, int) else None)
 
     def _check_mmap(self, fileno: int) -> None:
         if fileno in self._files:
@@ -406,13 +449,12 @@ def _number_of(file: Any) -> Optional[int]:
     return number
 
 
-def _guarded(real: type, check: Callable[[Any], object], key: str) -> type:
-    """A class that looks at its first argument before it makes what `real` makes, and else is the same."""
+def _made_by(real: type, function: Function) -> type:
+    """A class by whose call a function is called, and that else is as `real`."""
 
     class Guard(type(real)):  # type: ignore[misc]
         def __call__(cls, *given: Any, **named: Any) -> Any:
-            check(given[0] if given else named.get(key))
-            return real(*given, **named) if cls is made else super().__call__(*given, **named)
+            return function(*given, **named) if cls is made else super().__call__(*given, **named)
 
         def __instancecheck__(cls, one: Any) -> bool:
             return isinstance(one, real) if cls is made else bool(super().__instancecheck__(one))
@@ -422,6 +464,16 @@ def _guarded(real: type, check: Callable[[Any], object], key: str) -> type:
 
     made: type = Guard(real.__name__, (real,), {"__doc__": real.__doc__, "__module__": real.__module__})
     return made
+
+
+def _deep() -> Iterator[Tuple[str, Dict[str, Any]]]:
+    """The modules whose classes and defaults are looked through, and what they have."""
+    for name, module in list(sys.modules.items()):
+        space, file = getattr(module, "__dict__", None), getattr(module, "__file__", None) or ""
+        of_python = file.startswith(_OF_PYTHON) and "-packages" not in file
+        if type(space) is dict and (name in _DEEP or name == "__main__" or (file.endswith(".py") and not of_python)):
+            if not name.startswith("atomfs.") and _looked.get(name) != len(space):
+                yield name, space
 
 
 def _swap(news: Dict[int, Any]) -> None:

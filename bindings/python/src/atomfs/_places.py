@@ -20,6 +20,8 @@ class Place(NamedTuple):
     path: Any
     #: Whether nothing but a directory may stand there: the path ends with a slash.
     of_directory: bool = False
+    #: Whether the disk is asked for another path than was given, an absolute one.
+    moved: bool = False
 
 
 class Places:
@@ -55,6 +57,9 @@ class Places:
 
     def of(self, path: Any, directory: Optional[int] = None, follow: bool = True) -> Place:
         """Where a path leads, from the working directory on or from that of a descriptor. Of what is no path, a `TypeError`."""
+        if isinstance(path, (bytearray, memoryview)):
+            # Some functions take these still.
+            path = bytes(path)
         text = os.fsdecode(path)
         base, moved = ("", False) if text[:1] == "/" or not text else self._base(directory)
         if base is None or not text or not (self._shadows or moved or self._name in text or self._name in base):
@@ -74,7 +79,7 @@ class Places:
         if not moved:
             return Place(None, path)
         normal += "/" if ends else ""
-        return Place(None, os.fsencode(normal) if isinstance(os.fspath(path), bytes) else normal)
+        return Place(None, os.fsencode(normal) if isinstance(os.fspath(path), bytes) else normal, moved=True)
 
     def _base(self, directory: Optional[int]) -> Tuple[Optional[str], bool]:
         """The directory from which a relative path leads on, and whether the disk would take another."""

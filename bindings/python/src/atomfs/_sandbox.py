@@ -15,7 +15,7 @@ import stat
 from typing import Any, Callable, Dict, Iterable, Iterator, List, Optional, Union
 
 from . import _walk
-from ._descriptors import DescribedFile, Description, Descriptors, Node, failed, file_object
+from ._descriptors import DescribedFile, Description, Descriptors, Node, failed, file_object, told
 from ._errors import encoded
 from ._places import Place, Places
 from ._tree import Stat, Tree
@@ -28,11 +28,15 @@ _NO_ENTRY = getattr(os, "O_TMPFILE", 0)
 _DEVICES = itertools.count(1 << 48)
 
 
+def number_of_node(key: bytes) -> int:
+    """The number of a node is of its path."""
+    return int.from_bytes(hashlib.blake2b(key, digest_size=7).digest(), "big")
+
+
 def result_of(found: Stat, device: int, key: bytes) -> os.stat_result:
-    """What `os.stat` answers: the number of a node is of its path."""
-    node = int.from_bytes(hashlib.blake2b(key, digest_size=7).digest(), "big")
+    """What `os.stat` answers."""
     times = {f"st_{one}time{end}": TIME * by for one in "amc" for end, by in (("", 1), ("_ns", 10**9))}
-    words = (found.st_mode, node, device, 1, os.getuid(), os.getgid(), found.size, TIME, TIME, TIME)
+    words = (found.st_mode, number_of_node(key), device, 1, os.getuid(), os.getgid(), found.size, TIME, TIME, TIME)
     return os.stat_result(words, {**times, "st_blksize": 4096, "st_blocks": -(-found.size // 512), "st_rdev": 0})
 
 
@@ -64,11 +68,12 @@ class Entry:
 
     def inode(self) -> int:
         """The number of its path."""
-        return self.stat().st_ino
+        return number_of_node(encoded(self._inside))
 
     def stat(self, *, follow_symlinks: bool = True) -> os.stat_result:
         """What stands there."""
-        return self._sandbox.stat(Place(self._inside, self.path))
+        with told(self.path):
+            return self._sandbox.stat(Place(self._inside, self.path))
 
 
 class Entries:
@@ -134,11 +139,11 @@ class Sandbox:
         return [os.fsencode(name) for name in names] if isinstance(place.path, bytes) else names
 
     def scandir(self, place: Place) -> Entries:
-        told = "" if isinstance(place.path, int) else os.fspath(place.path)
+        above = "" if isinstance(place.path, int) else os.fspath(place.path)
         entries = []
         for name in self.tree.readdir(_at(place)):
-            its: Any = os.fsencode(name) if isinstance(told, bytes) else name
-            entries.append(Entry(self, _walk.joined(_at(place), name), its, posixpath.join(told, its) if told else its))
+            its: Any = os.fsencode(name) if isinstance(above, bytes) else name
+            entries.append(Entry(self, _walk.joined(_at(place), name), its, posixpath.join(above, its) if above else its))
         return Entries(entries)
 
     def readlink(self, place: Place, **named: Any) -> Any:
@@ -340,9 +345,9 @@ class Sandbox:
         try:
             if self._files.of(descriptor).node.is_dir:
                 failed(errno.EISDIR, name)
-            told = next(one for one in mode if one in "rwxa")
-            told = f"{told}b" if "+" not in mode else "ab+" if told == "a" else "rb+"
-            raw = DescribedFile(self._files, descriptor, name, told, closefd)
+            kind = next(one for one in mode if one in "rwxa")
+            kind = f"{kind}b" if "+" not in mode else "rb+" if kind == "w" else f"{kind}b+"
+            raw = DescribedFile(self._files, descriptor, name, kind, closefd)
             return file_object(raw, mode, buffering, self.tree.limits.file_bytes, encoding, errors, newline)
         except BaseException:
             if closefd and descriptor in self._files:

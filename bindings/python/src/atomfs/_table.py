@@ -55,7 +55,6 @@ REFUSED: Dict[str, str] = {
     **dict.fromkeys(("os.splice", "os.dup2"), "has no descriptor of the system"),
     **{"os.mkfifo": "has files and directories alone", "mmap.mmap": "is in no memory that can be mapped"},
     **dict.fromkeys(("sqlite3.connect", "sqlite3.Connection"), "has no files that a database opens by itself"),
-    **{"io.FileIO": "has no descriptor of the system: use open"},
 }
 _PATHLIB = "exists is_dir is_file is_symlink is_mount stat lstat iterdir glob rglob mkdir rmdir touch unlink rename replace open"
 # What goes to the tree since it is made of what is replaced.
