@@ -7,6 +7,7 @@ import fcntl
 import fileinput
 import glob
 import gzip
+import inspect
 import io
 import linecache
 import lzma
@@ -680,6 +681,9 @@ class Errors(OfPatch):
             lambda at: open(f"{at}/a\0b"),
             lambda at: os.stat(f"{at}/a\0b"),
             lambda at: os.stat(None),
+            lambda at: os.stat(f"{at}/f", dir_fd="1"),
+            lambda at: os.lstat(0),
+            lambda at: os.mkdir(os.open(at, os.O_RDONLY)),
             lambda at: os.stat(),
             lambda at: os.rename(f"{at}/f"),
             lambda at: os.rename(1.5, f"{at}/f"),
@@ -818,6 +822,11 @@ class Outside(OfPatch):
             taken += [os.stat, open, io.FileIO]
             self.assertEqual([captured(AT), Kept.listed(AT), Kept().of_default(AT), of_default(AT)], [[], [], ([], open), []])
             self.assertIn(os.stat, os.supports_dir_fd)
+
+            class Taken:
+                listed = os.listdir
+
+            self.assertEqual((Taken().listed(AT), os.listdir.__name__, inspect.signature(os.listdir).parameters.keys()), ([], "listdir", {"path"}))
             raise KeyError
         after = [_table.found(name) for name in names] + [io.open, os.supports_dir_fd, tempfile._TemporaryFileCloser.__dict__]
         self.assertEqual([name for name, one, other in zip(names, before, after) if one is not other], [])

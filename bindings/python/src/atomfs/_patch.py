@@ -38,6 +38,20 @@ def _refused(name: str, what: str, *paths: Any) -> OSError:
     return OSError(errno.ENOTSUP, f"{name}: a tree {what}", *paths)
 
 
+class _Replaced:
+    """A function in the place of one of C: as that it is bound to no instance where a class has it."""
+
+    def __init__(self, patch: patch, made: Function, real: Function) -> None:
+        functools.update_wrapper(self, real)
+        self._patch, self._made, self._real = patch, made, real
+
+    def __repr__(self) -> str:
+        return repr(self._real)
+
+    def __call__(self, *given: Any, **named: Any) -> Any:
+        return (self._made if self._patch._active else self._real)(*given, **named)
+
+
 class patch(contextlib.ContextDecorator):
     """Lets a tree stand at a directory of the disk, within `with`, or while the function runs that it decorates.
 
@@ -144,12 +158,7 @@ class patch(contextlib.ContextDecorator):
             made = self._of_paths(name, real, *_table.OF_PATHS[name])
         else:
             made = self._of_path(name, on_disk, _table.OF_PATH[name])
-
-        @functools.wraps(real)
-        def replaced(*given: Any, **named: Any) -> Any:
-            return (made if self._active else real)(*given, **named)
-
-        return replaced
+        return _Replaced(self, made, real)
 
     def _inside(self, name: str) -> Function:
         """The function over the tree; of what is refused, one that raises why."""

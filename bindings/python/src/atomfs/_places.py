@@ -61,6 +61,8 @@ class Places:
             # Some functions take these still.
             path = bytes(path)
         text = os.fsdecode(path)
+        if directory is not None and not isinstance(directory, int):
+            raise TypeError("a descriptor is a whole number")
         base, moved = ("", False) if text[:1] == "/" or not text else self._base(directory)
         if base is None or not text or not (self._shadows or moved or self._name in text or self._name in base):
             return Place(None, path)
