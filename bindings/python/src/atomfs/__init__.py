@@ -8,7 +8,8 @@
         tree.write("/a/f", 0, b"hello")
         print(tree.read("/a/f"), tree.check())
 
-`atomfs.fs` is the same as a file system of PyFilesystem2, `atomfs.fsspec` as one of fsspec.
+`atomfs.patch` lets `open`, `os` and what is made of them go to a tree below a directory. `atomfs.explore` draws interleavings of
+calls. `atomfs.fs` is the same as a file system of PyFilesystem2, `atomfs.fsspec` as one of fsspec.
 """
 from ._errors import ClosedError, Error, UnderWayError, WaitsError
 from ._explore import ScheduleError, explore, simulate

@@ -9,7 +9,7 @@ import errno
 import io
 import itertools
 import os
-from typing import TYPE_CHECKING, Any, ContextManager, Dict, Iterator, NoReturn, Optional
+from typing import TYPE_CHECKING, Any, ContextManager, Dict, NoReturn, Optional
 
 from ._errors import file_too_large
 
@@ -27,16 +27,20 @@ def failed(number: int, *paths: Any) -> NoReturn:
     raise OSError(number, os.strerror(number), *paths)
 
 
-@contextlib.contextmanager
-def told(*paths: Any) -> Iterator[None]:
-    """An error tells the paths as they were given."""
-    try:
-        yield
-    except OSError as error:
-        error.filename, *others = [os.fspath(path) if hasattr(path, "__fspath__") else path for path in paths]
-        if others:
-            (error.filename2,) = others
-        raise
+class told(ContextManager[None]):
+    """Within `with` an error tells the paths as they were given."""
+
+    def __init__(self, *paths: Any) -> None:
+        self._paths = paths
+
+    def __enter__(self) -> None:
+        pass
+
+    def __exit__(self, kind: Any, error: Any, trace: Any) -> None:
+        if isinstance(error, OSError):
+            error.filename, *others = [os.fspath(path) if hasattr(path, "__fspath__") else path for path in self._paths]
+            if others:
+                (error.filename2,) = others
 
 
 class Node:

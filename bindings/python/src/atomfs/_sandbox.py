@@ -22,6 +22,7 @@ from ._tree import Stat, Tree
 
 # A tree keeps no times: all are this one, at which a zip can be made in every zone.
 TIME = 315_619_200
+_FIELDS = {f"st_{one}time{end}": TIME * by for one in "amc" for end, by in (("", 1), ("_ns", 10**9))} | {"st_blksize": 4096, "st_rdev": 0}
 # The flag that asks for a file without an entry.
 _NO_ENTRY = getattr(os, "O_TMPFILE", 0)
 # Numbers of devices that no system has.
@@ -35,9 +36,8 @@ def number_of_node(key: bytes) -> int:
 
 def result_of(found: Stat, device: int, key: bytes) -> os.stat_result:
     """What `os.stat` answers."""
-    times = {f"st_{one}time{end}": TIME * by for one in "amc" for end, by in (("", 1), ("_ns", 10**9))}
     words = (found.st_mode, number_of_node(key), device, 1, os.getuid(), os.getgid(), found.size, TIME, TIME, TIME)
-    return os.stat_result(words, {**times, "st_blksize": 4096, "st_blocks": -(-found.size // 512), "st_rdev": 0})
+    return os.stat_result(words, {**_FIELDS, "st_blocks": -(-found.size // 512)})
 
 
 class Entry:
