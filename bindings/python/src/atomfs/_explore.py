@@ -103,6 +103,17 @@ class _Run:
                 able += waiting
                 waiting = []
 
+    def look(self, check: Check, seed: int, replies: Replies) -> None:
+        """Calls the check behind the run."""
+        try:
+            if check(self.tree, replies) is False:
+                raise AssertionError("the check answered False")
+        except BaseException as error:
+            # pytest.fail raises what is no Exception.
+            if not isinstance(error, Exception) and type(error).__name__ != "Failed":
+                raise
+            raise self.failed(seed, error, replies) from error
+
     def failed(self, seed: int, error: BaseException, replies: Replies) -> ScheduleError:
         """The error of a check. The journal ends with the run: calls of the check itself are left out."""
         calls = sum(map(len, self.threads.values()))
@@ -145,19 +156,13 @@ def explore(
         with Tree(limit, limits=limits, room=4096) as tree:
             run = _Run(tree, threads)
             run.drawn(at)
-            replies = {name: run.replies[name] for name in calls_by_thread}
-            try:
-                if check(tree, replies) is False:
-                    raise AssertionError("the check answered False")
-            except BaseException as error:
-                # pytest.fail raises what is no Exception.
-                if not isinstance(error, Exception) and type(error).__name__ != "Failed":
-                    raise
-                raise run.failed(at, error, replies) from error
+            run.look(check, at, {name: run.replies[name] for name in calls_by_thread})
     return runs
 
 
-def simulate(calls_by_thread: Mapping[str, Iterable[AnyCall]], runs: int = 1_000, seed: int = 1, **options: Any) -> Callable[[Check], Callable[[], None]]:
+def simulate(
+    calls_by_thread: Mapping[str, Iterable[AnyCall]], runs: int = 1_000, seed: int = 1, **options: Any
+) -> Callable[[Check], Callable[[], None]]:
     """Makes a test for pytest of a check, which is run by `explore`.
 
         @atomfs.simulate({"m": ["mkdir /a"], "r": ["rmdir /a"]}, runs=1_000)

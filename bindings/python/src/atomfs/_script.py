@@ -58,7 +58,8 @@ def planned(given: AnyCall, limits: Limits) -> Planned:
     request = Request(call, raw[0], len(raw[0]), other, len(other), numbers["offset"], size, data, len(data))
     told = {**{what: str(value) for what, value in numbers.items()}, "bytes": data.hex() or "-"}
     quoted = iter(map(_quoted, raw))
-    return Planned(call, request, tuple(paths), " ".join([name, *(next(quoted) if what == "path" else told[what] for what in _TAKES[call])]))
+    line = " ".join([name, *(next(quoted) if what == "path" else told[what] for what in _TAKES[call])])
+    return Planned(call, request, tuple(paths), line)
 
 
 def _read(word: str, what: str) -> Any:

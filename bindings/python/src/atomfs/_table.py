@@ -13,7 +13,10 @@ OF_PATH: Dict[str, str] = {
     **dict.fromkeys(("os.getxattr", "os.setxattr", "os.listxattr", "os.removexattr"), "path"),
 }
 # Of these, those that speak of the entry and follow no link at its end.
-OF_ENTRIES = {"os.lstat", "os.readlink", "os.mkdir", "os.mknod", "os.unlink", "os.remove", "os.rmdir", "os.lchmod", "os.lchown", "os.lchflags"}
+OF_ENTRIES = {
+    *("os.lstat", "os.readlink", "os.mkdir", "os.mknod", "os.unlink", "os.remove", "os.rmdir"),
+    *("os.lchmod", "os.lchown", "os.lchflags"),
+}
 # Those that take the working directory where no path is given.
 HERE = {"os.listdir", "os.scandir", "os.listxattr"}
 # Those that take a descriptor in the place of the path, and are another function then.
@@ -33,13 +36,16 @@ OF_DESCRIPTORS: Dict[str, Tuple[str, ...]] = {
     "os.dup2": ("fd", "fd2"),
 }
 # What is replaced by functions of their own.
-_OWN = ("builtins.open", "io.open_code", "os.getcwd", "os.getcwdb", "os.closerange", "shutil.copystat", "shutil.copymode", "sqlite3.connect")
+_OWN = (
+    *("builtins.open", "io.open_code", "os.getcwd", "os.getcwdb", "os.closerange"),
+    *("shutil.copystat", "shutil.copymode", "sqlite3.connect", "os.system"),
+)
 # Classes, and the name of their first argument.
 CLASSES: Dict[str, str] = {"io.FileIO": "file", "mmap.mmap": "fileno", "sqlite3.Connection": "database"}
-REPLACED = (*OF_PATH, *OF_PATHS, *OF_DESCRIPTORS, *_OWN, "os.system", *CLASSES)
+REPLACED = (*OF_PATH, *OF_PATHS, *OF_DESCRIPTORS, *_OWN, *CLASSES)
 
 _NO_TIMES, _NO_OWNERS, _NO_MODES = "keeps no times", "keeps no owners", "keeps no permissions"
-_NO_LINKS, _NO_PROGRAM, _NO_LOCKS = "has no links", "is of this process, and another cannot see it", "has no locks of descriptors"
+_NO_LINKS, _NO_PROGRAM, _NO_LOCKS = "has no links", "is of this process, and no other sees it", "has no locks of descriptors"
 _NO_FLAGS, _NO_NUMBERS = "keeps no attributes", "has no numbers of a disk"
 # What raises below the directory, and why: "a tree ..".
 REFUSED: Dict[str, str] = {
@@ -49,7 +55,8 @@ REFUSED: Dict[str, str] = {
     **dict.fromkeys(("os.link", "os.symlink"), _NO_LINKS),
     **dict.fromkeys(("os.chflags", "os.lchflags", "os.getxattr", "os.setxattr", "os.listxattr", "os.removexattr"), _NO_FLAGS),
     **dict.fromkeys(("os.statvfs", "os.fstatvfs", "os.pathconf", "os.fpathconf"), _NO_NUMBERS),
-    **dict.fromkeys(("os.execv", "os.execve", "os.posix_spawn", "os.posix_spawnp", "os.system", "subprocess.Popen", "os.chroot"), _NO_PROGRAM),
+    **dict.fromkeys(("os.execv", "os.execve", "os.posix_spawn", "os.posix_spawnp", "os.system", "os.chroot"), _NO_PROGRAM),
+    **{"subprocess.Popen": _NO_PROGRAM},
     **dict.fromkeys(("os.lockf", "fcntl.flock", "fcntl.lockf"), _NO_LOCKS),
     **dict.fromkeys(("fcntl.fcntl", "fcntl.ioctl", "os.ttyname"), "has no descriptor of the system"),
     **dict.fromkeys(("os.splice", "os.dup2"), "has no descriptor of the system"),
