@@ -1,7 +1,7 @@
 /* Calls a second through the library for C, as lines and typed: embed_c CALLS, or embed_c --long CALLS. Of the names a
  * directory is made, looked at, renamed and removed, over and over; a write and a read have 4,000 bytes, and an eighth as many
- * of them are made. --long makes all of these, typed, with a checkpoint behind each 10,000, and tells the most memory that
- * the process had. */
+ * of them are made. --long makes all of these, typed, on a tree that forgets behind each 10,000, and on one with checkpoints
+ * there, and tells the most memory that the process had. */
 #include "atomfs.h"
 #include <stdio.h>
 #include <stdlib.h>
@@ -111,17 +111,20 @@ static void checkpoint(void) {
     if (status) exit(1);
 }
 
-static void run_long(long calls) {
+/* Behind so many calls the tree has forgotten them by itself, or a checkpoint hands them out. */
+static void run_long(long calls, int forgets) {
     long early = 0;
     open_tree();
+    if (forgets && atomfs_keep(&fs, EVERY)) exit(1);
     for (long i = 0; i < calls; i++) {
         /* One call in ten is a write, and one a read. */
         long ten = i / 10, k = i % 10;
         if (k == 8 ? write_typed(ten) : k == 9 ? read_typed(ten) : names_typed(ten * 8 + k)) exit(1);
-        if ((i + 1) % EVERY == 0) checkpoint();
+        if (!forgets && (i + 1) % EVERY == 0) checkpoint();
         if (i + 1 == calls / 10) early = peak();
     }
-    printf("C       %ld calls, a checkpoint every %d: at most %ld KiB, %ld KiB after a tenth of them\n", calls, EVERY, peak(), early);
+    printf("C       %ld calls, %s every %d: at most %ld KiB, %ld KiB after a tenth of them\n", calls,
+           forgets ? "forgotten" : "a checkpoint", EVERY, peak(), early);
     if (atomfs_close(&fs)) exit(1);
 }
 
@@ -130,7 +133,8 @@ int main(int argc, char **argv) {
     long calls = argc > 1 + is_long ? atol(argv[1 + is_long]) : 60000;
     for (int k = 0; k < PIECE; k++) piece[k] = (char)(k * 7);
     if (is_long) {
-        run_long(calls);
+        run_long(calls, 1);
+        run_long(calls, 0);
         return 0;
     }
     measure("names, lines", names_by_lines, calls);

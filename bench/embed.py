@@ -105,8 +105,11 @@ def peak():
     return resource.getrusage(resource.RUSAGE_SELF).ru_maxrss
 
 
-def run_long(calls):
+def run_long(calls, forgets):
+    """Behind so many calls the tree has forgotten them by itself, or a checkpoint hands them out."""
     with typed_tree() as (tree,):
+        if forgets:
+            tree.keep(atomfs.LAST(EVERY))
         for i in range(calls):
             if i % 10 < 8:
                 names_typed(tree, i // 10 * 8 + i % 10)
@@ -114,14 +117,16 @@ def run_long(calls):
                 write_typed(tree, i // 10)
             else:
                 read_typed(tree, i // 10)
-            if (i + 1) % EVERY == 0:
+            if not forgets and (i + 1) % EVERY == 0:
                 tree.checkpoint()
             if i + 1 == calls // 10:
                 early = peak()
-    print(f"Python  {calls} calls, a checkpoint every {EVERY}: at most {peak()} KiB, {early} KiB after a tenth of them")
+    what = "forgotten" if forgets else "a checkpoint"
+    print(f"Python  {calls} calls, {what} every {EVERY}: at most {peak()} KiB, {early} KiB after a tenth of them")
 
 
 if sys.argv[2] == "--long":
-    run_long(int(sys.argv[3]))
+    for forgets in (True, False):
+        run_long(int(sys.argv[3]), forgets)
 else:
     measure_all(int(sys.argv[2]))

@@ -65,29 +65,38 @@ fn peak() -> usize {
     line.split_whitespace().nth(1).unwrap().parse().unwrap()
 }
 
-fn run_long(calls: usize) {
+/// Behind so many calls the tree has forgotten them by itself, or a checkpoint hands them out.
+fn run_long(calls: usize, forgets: bool) {
     let (piece, mut out, mut early) = (piece(), vec![0; PIECE], 0);
     let mut tree = tree();
+    if forgets {
+        tree.keep(atomfs::Journal::Last(EVERY as u32)).unwrap();
+    }
     for i in 0..calls {
         match i % 10 {
             8 => write_typed(&mut tree, i / 10, &piece),
             9 => read_typed(&mut tree, i / 10, &mut out),
             k => names_typed(&mut tree, i / 10 * 8 + k),
         }
-        if (i + 1) % EVERY == 0 {
+        if !forgets && (i + 1) % EVERY == 0 {
             tree.checkpoint().unwrap();
         }
         if i + 1 == calls / 10 {
             early = peak();
         }
     }
-    println!("Rust    {calls} calls, a checkpoint every {EVERY}: at most {} KiB, {early} KiB after a tenth of them", peak());
+    let what = if forgets { "forgotten" } else { "a checkpoint" };
+    println!("Rust    {calls} calls, {what} every {EVERY}: at most {} KiB, {early} KiB after a tenth of them", peak());
 }
 
 fn main() {
     let words: Vec<String> = std::env::args().skip(1).collect();
     match words.as_slice() {
-        [long, calls] if long == "--long" => run_long(calls.parse().unwrap()),
+        [long, calls] if long == "--long" => {
+            for forgets in [true, false] {
+                run_long(calls.parse().unwrap(), forgets);
+            }
+        }
         [calls] => measure_all(calls.parse().unwrap()),
         _ => panic!("embed_rust [--long] CALLS"),
     }
