@@ -9,9 +9,9 @@
         print(tree.read("/a/f"), tree.check())
 
 `atomfs.patch` lets `open`, `os` and what is made of them go to a tree below a directory. `atomfs.explore` draws interleavings of
-calls. `atomfs.fs` is the same as a file system of PyFilesystem2, `atomfs.fsspec` as one of fsspec.
+calls, and `atomfs.draw` a picture of them. `atomfs.fs` is the same as a file system of PyFilesystem2, `atomfs.fsspec` as one of fsspec.
 """
-from ._errors import ClosedError, Error, UnderWayError, WaitsError
+from ._errors import ClosedError, Error, ProgramError, UnderWayError, WaitsError
 from ._explore import ScheduleError, explore, simulate
 from ._journal import ALL, LAST, NONE, Journal
 from ._library import NODE_LIMIT, PATH_LIMIT, Did, Limits, Status
@@ -19,7 +19,9 @@ from ._library import library as _shared_object
 from ._load import Snapshot, diff
 from ._patch import patch
 from ._path import Path
-from ._tree import Begin, Seat, Stat, Step, Tree, check, run
+from ._program import Picture, SeedVerdict, draw, explain, schedule, seeds, trace
+from ._texts import check, run
+from ._tree import Begin, Seat, Stat, Step, Tree
 
 __version__ = "0.3.0"
 
@@ -42,8 +44,11 @@ __all__ = [
     "NONE",
     "PATH_LIMIT",
     "Path",
+    "Picture",
+    "ProgramError",
     "ScheduleError",
     "Seat",
+    "SeedVerdict",
     "Snapshot",
     "Stat",
     "Status",
@@ -53,9 +58,14 @@ __all__ = [
     "WaitsError",
     "check",
     "diff",
+    "draw",
+    "explain",
     "explore",
     "library_version",
     "patch",
     "run",
+    "schedule",
+    "seeds",
     "simulate",
+    "trace",
 ]

@@ -5,14 +5,10 @@ It is started in the place of Python, so what it reads, writes and ends with is 
 from __future__ import annotations
 
 import os
-import pathlib
 import sys
 from typing import NoReturn
 
-
-def program() -> str:
-    """The path of the program: the one of the package, or the one that `ATOMFS_PROGRAM` names."""
-    return os.environ.get("ATOMFS_PROGRAM") or str(pathlib.Path(__file__).parent / "bin" / "atomfs")
+from ._program import no_program, program
 
 
 def main() -> NoReturn:
@@ -21,7 +17,7 @@ def main() -> NoReturn:
     try:
         os.execv(path, ["atomfs", *sys.argv[1:]])
     except OSError as error:
-        print(f"atomfs: there is no program: {error.strerror}: {path}; ATOMFS_PROGRAM names one that is elsewhere", file=sys.stderr)
+        print(f"atomfs: {no_program(path, error)}", file=sys.stderr)
         sys.exit(127)
 
 

@@ -10,7 +10,8 @@ from typing import IO, TYPE_CHECKING, Any, Callable, Dict, Iterator, List, NoRet
 from . import _walk
 
 if TYPE_CHECKING:
-    from ._tree import Data, Stat, Tree
+    from ._tree import Stat, Tree
+    from ._values import Data
 
 _Self = TypeVar("_Self", bound="Path")
 

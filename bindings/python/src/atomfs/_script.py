@@ -4,12 +4,15 @@ from __future__ import annotations
 import itertools
 import re
 import textwrap
-from typing import Any, Dict, Iterable, List, Mapping, NamedTuple, Sequence, Tuple, Union
+from typing import TYPE_CHECKING, Any, Dict, Iterable, List, Mapping, NamedTuple, Sequence, Tuple, Union
 from urllib.parse import unquote_to_bytes
 
 from ._errors import AnyPath, encoded, path_error
 from ._library import Call, Limits, Request, library
-from ._tree import NAME, bytes_of, number_of
+from ._values import NAME, bytes_of, number_of
+
+if TYPE_CHECKING:
+    from ._tree import Tree
 
 # A call by its name and what it takes, or by its line in a script.
 AnyCall = Union[str, Tuple[Any, ...]]
@@ -69,6 +72,12 @@ def _read(word: str, what: str) -> Any:
     if what == "bytes":
         return b"" if word == "-" else bytes.fromhex(word)
     return int(word)
+
+
+def make(tree: Tree, line: str) -> Any:
+    """Makes the call of a line on a tree, and answers its reply."""
+    name, *words = line.split(" ")
+    return getattr(tree, name)(*map(_read, words, _TAKES[Call[name.upper()]]))
 
 
 def _quoted(path: bytes) -> str:

@@ -3,7 +3,6 @@ from __future__ import annotations
 
 import ctypes
 import io
-import operator
 import os
 import re
 import stat
@@ -12,23 +11,22 @@ import time
 import weakref
 from typing import IO, Any, Callable, Dict, Iterator, List, Mapping, NamedTuple, NoReturn, Optional, Tuple, Type, TypeVar, Union, overload
 
-from . import _load, _rows, _seats, _walk
-from ._errors import AnyPath, Error, WaitsError, encoded, error_at, error_of
+from . import _last, _load, _program, _rows, _seats, _walk
+from ._errors import AnyPath, Error, ProgramError, WaitsError, encoded, error_at, error_of
 from ._file import open_file
 from ._journal import ALL, Journal, Noting, Standing
-from ._library import NODE_LIMIT, Call, CStat, Did, Fault, Handle, Library, Limits, Request, Status, library
+from ._library import NODE_LIMIT, Call, CStat, Did, Fault, Handle, Limits, Request, Status, library
 from ._load import Snapshot
 from ._path import Path, class_of
+from ._program import Picture
+from ._texts import ROOM, Room, told_text
+from ._values import NAME, Data, bytes_of, number_of
 
 _Self = TypeVar("_Self", bound="Tree")
 StrPath = Union[str, "os.PathLike[str]"]
-Data = Union[bytes, bytearray, memoryview]
 Reply = Union[None, "Stat", List[str], bytes, int]
-
-# The name of a thread in a script.
-NAME = r"(?!finish\Z)[a-z][a-z0-9_]{0,15}"
-# Room for the names of a full directory, and for the bytes of most files: where a file has more, the room becomes longer.
-_ROOM = 65_537
+# How many calls a notebook shows at most, and of how long a journal: the tree before them takes a while to be found.
+_SHOWN, _OF_CALLS = 100, 10_000
 
 
 def _absent(name: str, what: str) -> property:
@@ -80,32 +78,6 @@ class Step(NamedTuple):
     about: int
 
 
-class _Room:
-    """Memory into which the library tells, and which becomes longer where that is too small."""
-
-    def __init__(self, size: int) -> None:
-        self.count, self.entries = ctypes.c_size_t(), ctypes.c_size_t()
-        self.at_count, self.at_entries = ctypes.addressof(self.count), ctypes.addressof(self.entries)
-        self.make(size)
-
-    def make(self, size: int) -> None:
-        self.size, self._bytes = size, ctypes.create_string_buffer(max(size, 1))
-        self.at, self._view = ctypes.addressof(self._bytes), memoryview(self._bytes).cast("B")
-
-    def told(self) -> bytes:
-        """The bytes that were told."""
-        return self._view[: self.count.value].tobytes()
-
-
-def _text(library: Library, room: _Room, function: Any, *given: Any, more: Tuple[Any, ...] = ()) -> str:
-    """A text of the library, all of which is ASCII, with as much room as it wants."""
-    while status := function(*given, room.at, room.size, room.at_count, *more):
-        if status != Status.TOO_SMALL:
-            raise error_of(library, status, about=room.count.value)
-        room.make(room.count.value)
-    return room.told().decode("ascii")
-
-
 def _names(told: bytes) -> List[bytes]:
     """The names of a reply, in which a byte 0 is behind each."""
     return told.split(b"\0")[:-1]
@@ -126,7 +98,7 @@ class Tree:
     """
 
     def __init__(
-        self, limit: int = NODE_LIMIT, *, limits: Limits = Limits.V2, room: int = _ROOM, journal: Journal = ALL
+        self, limit: int = NODE_LIMIT, *, limits: Limits = Limits.V2, room: int = ROOM, journal: Journal = ALL
     ) -> None:
         self.lock = threading.RLock()
         self._handle = Handle()
@@ -134,7 +106,7 @@ class Tree:
         self._stat, self._number, self._wrote = CStat(), ctypes.c_uint64(), ctypes.c_uint64()
         self._at, self._at_stat = ctypes.addressof(self._handle), ctypes.addressof(self._stat)
         self._at_number, self._at_wrote = ctypes.addressof(self._number), ctypes.addressof(self._wrote)
-        self._room = _Room(number_of(room, "room"))
+        self._room = Room(number_of(room, "room"))
         #: The bounds of names and files.
         self.limits = Limits(limits)
         #: The most nodes, the root included.
@@ -340,7 +312,7 @@ class Tree:
         with self.lock:
             if count is not None:
                 return self._read(path, raw, offset, number_of(count, "count"))
-            size = _ROOM
+            size = ROOM
             while len(data := self._read(path, raw, offset, size)) == size:
                 size = 2 * max(size, self.stat(path).size)
             return data
@@ -536,7 +508,7 @@ class Tree:
 
     def _entries(self, first: int) -> str:
         """The lines of the journal from an entry on."""
-        return _text(self._library, self._room, self._library.journal, self._at, first, more=(self._room.at_entries,))
+        return told_text(self._library, self._room, self._library.journal, self._at, first, more=(self._room.at_entries,))
 
     @property
     def calls_before(self) -> int:
@@ -567,8 +539,26 @@ class Tree:
     def journal(self) -> str:
         """The journal: what `check` of the package reads. Its first call is the one behind `calls_before` others."""
         with self.lock:
-            opening = _text(self._library, self._room, self._library.opening, self._at)
+            opening = told_text(self._library, self._room, self._library.opening, self._at)
             return self._named(opening + self._entries(0))
+
+    def draw(self, around: Optional[int] = None, *, last: Optional[int] = None) -> Picture:
+        """The picture of the journal so far, as `atomfs.draw` makes it; notebooks show one of the last 100 calls.
+
+        `around` is the number of a call: then only this one is drawn, and those that overlap it. With `last` only the last calls are, at
+        most so many, which takes the calls before to be made again on another tree. A text of more than 16 MiB is an `Error`.
+        """
+        text = self.journal()
+        if last is not None:
+            text = _last.of_last(Tree, text, self.limits, number_of(last, "number of calls"))
+        return _program.draw(text, around)
+
+    def _repr_svg_(self) -> Optional[str]:
+        """The last calls, for notebooks: nothing where there are none, or too many, or where they can't be drawn."""
+        try:
+            return self.draw(last=_SHOWN).svg if 0 < self.calls <= _OF_CALLS else None
+        except (Error, ProgramError):
+            return None
 
     def _named(self, journal: str) -> str:
         """A journal with a comment for each seat that has a name."""
@@ -603,7 +593,7 @@ class Tree:
     def tree(self) -> str:
         """The text of the tree: a line for each node."""
         with self.lock:
-            return _text(self._library, self._room, self._library.tree, self._at)
+            return told_text(self._library, self._room, self._library.tree, self._at)
 
     # ---- Schedules
 
@@ -632,29 +622,9 @@ class Tree:
         return (seat.value, Step(Did(did.value), about.value)) if did.value else None
 
 
-def number_of(value: int, what: str) -> int:
-    """An offset, a count or a size as the library takes it: what is greater than any is as great as the greatest."""
-    try:
-        number = operator.index(value)
-    except TypeError:
-        raise TypeError(f"{what} is a whole number, and this is {type(value).__name__}") from None
-    if number < 0:
-        raise ValueError(f"a negative {what}")
-    return min(number, 2**64 - 1)
-
-
 def _cut(words: str) -> str:
     """Words of a call, of which few lines are shown."""
     return words if len(words) <= 100 else f"{words[:100]}.."
-
-
-def bytes_of(data: Any, what: str = "write") -> bytes:
-    """The bytes of what is to be written."""
-    if isinstance(data, bytes):
-        return data
-    if isinstance(data, str):
-        raise TypeError(f"{what} takes bytes, and this is str: encode it")
-    return memoryview(data).tobytes()
 
 
 class Seat:
@@ -797,18 +767,3 @@ class Begin:
     def truncate(self, path: AnyPath, size: int) -> int:
         """Cuts a file to a size, or adds zeros up to it."""
         return self._seat._begin(Call.TRUNCATE, path, size=number_of(size, "size"))
-
-
-def check(journal: Union[str, bytes]) -> str:
-    """The verdict on a journal: `lawful`, or the first entry at fault. `Error` tells the line of what is no journal."""
-    return _of_text("check", journal).rstrip("\n")
-
-
-def run(script: Union[str, bytes]) -> str:
-    """The journal, the tree and the counts of a script, run by its own schedule. `Error` tells the line of what is no script."""
-    return _of_text("run", script)
-
-
-def _of_text(name: str, text: Union[str, bytes]) -> str:
-    of, given = library(), text.encode() if isinstance(text, str) else text
-    return _text(of, _Room(_ROOM), getattr(of, name), given, len(given))

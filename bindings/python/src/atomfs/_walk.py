@@ -14,7 +14,8 @@ from typing import TYPE_CHECKING, Callable, Iterator, List, Optional, Tuple
 from ._errors import AnyPath, encoded
 
 if TYPE_CHECKING:
-    from ._tree import Data, Tree
+    from ._tree import Tree
+    from ._values import Data
 
 Walked = Tuple[str, List[str], List[str]]
 # What a name or a path says where nothing stands at it any more.

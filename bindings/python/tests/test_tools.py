@@ -1,0 +1,360 @@
+"""What the program of the package makes of texts: pictures, traces, schedules, verdicts, explanations; and what it refuses."""
+import os
+import pathlib
+import random
+import re
+import subprocess
+import tempfile
+import unittest
+import unittest.mock
+import xml.etree.ElementTree as ElementTree
+
+import atomfs
+from atomfs import Error, Limits, Picture, ProgramError, Status, Tree
+from atomfs.__main__ import program
+
+SVG = "{http://www.w3.org/2000/svg}"
+# The rename of another thread helps the second call, which is half-way.
+SCRIPT = "atomfs 1\nthread m\nmkdir /a\nmkdir /a/b\nthread r\nrename /a /b\nschedule\nm*9 r*9 finish\n"
+LEFT = "atomfs 1\nthread m\nmkdir /a\nmkdir /b\nschedule\nm*3\n"
+IN_PIECES = "atomfs 1\nthread m\nmkdir /a\nschedule\nm*2 !checkpoint finish\n"
+WRONG = "atomfs-journal 1\nbegin 1 0 stat /\ncommit 1\nreturn 1 stat file 0\n"
+CALLS = "mkdir /a", "mkdir /b", "mkdir /a/c", "mknod /b/c", "unlink /b/c", "rmdir /a/c", "rename /a /b", "exchange /a /b", "stat /a", "readdir /"
+CALLS += "read /b/c 0 9", "write /b/c 1 ff", "truncate /b/c 3", "rename /b/c /a/c"
+
+
+def written(*words, given):
+    """What the program itself writes."""
+    return subprocess.run([program(), *words], input=given.encode(), capture_output=True, check=True).stdout.decode()
+
+
+def elements(picture):
+    """The elements of a picture by their classes, once it is one SVG element."""
+    root = ElementTree.fromstring(str(picture))
+    assert root.tag == SVG + "svg" and not list(root.iter(SVG + "svg"))[1:], root.tag
+    found = {}
+    for element in root.iter():
+        found.setdefault(element.get("class"), []).append(element)
+    return found
+
+
+def begun(journal):
+    """The numbers of the calls of a journal."""
+    return re.findall(r"(?m)^begin (\d+) ", journal)
+
+
+def entries(journal):
+    return re.findall(r"(?m)^(?:begin|commit|return) .*\n", journal)
+
+
+class OfTools(unittest.TestCase):
+    def setUp(self):
+        folder = tempfile.TemporaryDirectory()
+        self.addCleanup(folder.cleanup)
+        self.folder = pathlib.Path(folder.name)
+
+    def other_program(self, path, text=None):
+        """The package is without its program, or has another one, a script of the shell, until the test ends."""
+        if text is not None:
+            path.write_text(f"#!/bin/sh\n{text}\n")
+            path.chmod(0o755)
+        changed = unittest.mock.patch.dict(os.environ, ATOMFS_PROGRAM=str(path))
+        changed.start()
+        self.addCleanup(changed.stop)
+
+
+@unittest.skipUnless(os.path.exists(program()), "there is no program in the package: ATOMFS_PROGRAM names one")
+class Tools(OfTools):
+    def test_draw(self):
+        """A script by each schedule, in text and bytes, and a journal."""
+        journal = atomfs.run(SCRIPT)
+        for words, given, picture in (
+            ((), SCRIPT, atomfs.draw(SCRIPT)),
+            ((), SCRIPT, atomfs.draw(bytearray(SCRIPT.encode()))),
+            (("--seed", "7"), SCRIPT, atomfs.draw(SCRIPT, seed=7)),
+            (("--robin",), SCRIPT, atomfs.draw(SCRIPT, robin=True)),
+            (("--around", "1"), SCRIPT, atomfs.draw(SCRIPT, 1)),
+            (("--seed", "7", "--around", "3"), SCRIPT, atomfs.draw(SCRIPT, seed=7, around=3)),
+            ((), journal, atomfs.draw(journal)),
+            (("--around", "3"), journal, atomfs.draw(journal, around=3)),
+        ):
+            with self.subTest(words):
+                self.assertEqual(str(picture), written("draw", *words, given=given))
+                elements(picture)
+        found = elements(atomfs.draw(SCRIPT))
+        self.assertEqual([len(found[name]) for name in ("call", "c", "k")], [3, 2, 1])
+        self.assertEqual(len(elements(atomfs.draw(SCRIPT, around=1))["call"]), 1)
+
+    def test_pictures_of_faults(self):
+        """Calls that are left, and a journal that is not lawful, are drawn."""
+        self.assertEqual(len(elements(atomfs.draw(LEFT))["call"]), 1)
+        self.assertIn("WrongReply", str(atomfs.draw(WRONG)))
+
+    def test_picture(self):
+        picture = atomfs.draw(SCRIPT)
+        self.assertEqual((str(picture), picture._repr_svg_()), (picture.svg, picture.svg))
+        self.assertEqual((picture, hash(picture)), (Picture(picture.svg), hash(Picture(picture.svg))))
+        self.assertNotEqual(picture, atomfs.draw(LEFT))
+        self.assertEqual(repr(picture), f"<atomfs.Picture of {len(picture.svg):,} bytes: AtomFS: 3 calls on 2 threads, 1 commit given by another call>")
+        self.assertEqual(repr(Picture("<svg/>")), "<atomfs.Picture of 6 bytes>")
+        path = self.folder / "run.svg"
+        self.assertEqual((picture.save(os.fspath(path)), picture.save(path)), (path, path))
+        self.assertEqual(path.read_bytes(), picture.svg.encode())
+        self.assertRaises(FileNotFoundError, picture.save, self.folder / "none" / "run.svg")
+
+    def test_trace(self):
+        for words, told in (
+            ((), atomfs.trace(SCRIPT)),
+            (("--seed", "7"), atomfs.trace(SCRIPT.encode(), seed=7)),
+            (("--robin",), atomfs.trace(SCRIPT, robin=True)),
+            (("--every",), atomfs.trace(SCRIPT, every=True)),
+        ):
+            self.assertEqual(told, written("trace", *words, given=SCRIPT))
+        self.assertIn("r#3 helps m#2, commits it at /a\n", atomfs.trace(SCRIPT))
+        self.assertIn("left m unbegun mkdir /b\n", atomfs.trace(LEFT))
+
+    def test_schedule(self):
+        """What comes back runs as the run did; a comment in it stays as it is, also where it is no text."""
+        for seed in range(9):
+            self.assertEqual(atomfs.run(atomfs.schedule(SCRIPT, seed=seed)), written("run", "--seed", str(seed), given=SCRIPT))
+        self.assertEqual(atomfs.run(atomfs.schedule(SCRIPT, robin=True)), written("run", "--robin", given=SCRIPT))
+        comment = "# \N{SNOWMAN}\n".encode() + b"# \xff\n"
+        told = atomfs.schedule(SCRIPT.encode().replace(b"thread m\n", comment + b"thread m\n"), seed=1)
+        self.assertIn(comment.decode("utf-8", "surrogateescape"), told)
+        self.assertEqual(atomfs.schedule(told, seed=1), told)
+
+    def test_seeds(self):
+        """The runs of `schedule` with the same seeds; a verdict that is none of lawful stays as it is told."""
+        told = atomfs.seeds(SCRIPT, 5, 3)
+        self.assertEqual(told, [(5, "lawful"), (6, "lawful"), (7, "lawful")])
+        self.assertEqual((told[1].seed, told[1].verdict), (6, "lawful"))
+        self.assertEqual(atomfs.seeds(SCRIPT.encode(), seed=2**63 - 1, runs=1), [(2**63 - 1, "lawful")])
+        self.other_program(self.folder / "program", "cat > /dev/null; echo seed 1 lawful; echo seed 2 fault 3 WrongReply; exit 1")
+        self.assertEqual(atomfs.seeds(SCRIPT, 1, 2), [(1, "lawful"), (2, "fault 3 WrongReply")])
+
+    def test_explain(self):
+        self.assertRegex(atomfs.explain("BadHex"), r"(?s)^BadHex: .*\nwrite ")
+        self.assertRegex(atomfs.explain(" BadPath  TrailingSlash"), r"(?s)^BadPath: .*\nTrailingSlash: ")
+        for status in Status:
+            if Status.BAD_HEADER <= status < Status.PATH_NOT_ABSOLUTE:
+                self.assertTrue(atomfs.explain(status.kind).startswith(f"{status.kind}: "))
+
+
+@unittest.skipUnless(os.path.exists(program()), "there is no program in the package: ATOMFS_PROGRAM names one")
+class Refused(OfTools):
+    def look(self, kind, words, call):
+        """A call raises an exception of this very class, which says this."""
+        with self.assertRaises(kind) as raised:
+            call()
+        self.assertEqual((type(raised.exception), str(raised.exception)[: len(words)]), (kind, words))
+        return raised.exception
+
+    def test_faults_of_texts(self):
+        """As `run` and `check` raise them, and of a path with what is wrong with it."""
+        for text in ("", "atomfs 1\nthread T\n", "atomfs 1\nthread m\nmkdr /a\nschedule\n", "atomfs 1\nthread m\nread /a 0 x\nschedule\n"):
+            wanted = self.look(Error, "line ", lambda: atomfs.run(text))
+            for tool in (atomfs.draw, atomfs.trace, lambda given: atomfs.schedule(given, seed=1), lambda given: atomfs.seeds(given, 1, 1)):
+                error = self.look(Error, str(wanted), lambda: tool(text))
+                self.assertEqual((str(error), error.status, error.about), (str(wanted), wanted.status, wanted.about))
+        journal = "atomfs-journal 1\nbegin 1 0 mkdir /a\ncommit 1 2\n"
+        self.assertEqual(str(self.look(Error, "line 3: ", lambda: atomfs.draw(journal))), str(self.look(Error, "line 3: ", lambda: atomfs.check(journal))))
+        error = self.look(Error, "line 3: BadPath Dot: no path", lambda: atomfs.draw("atomfs 1\nthread m\nmkdir /.\nschedule\n"))
+        self.assertEqual((error.status, error.about), (Status.BAD_PATH, 3))
+        error = self.look(Error, "line 1: BadHeader", lambda: atomfs.trace("atomfs-journal 1\n"))
+        self.assertEqual((error.status, error.status.kind), (Status.BAD_HEADER, "BadHeader"))
+        self.look(Error, "line 1: TooLarge", lambda: atomfs.draw(b"\n" * 16_777_217))
+
+    def test_runs_that_end_early(self):
+        for tool in (atomfs.draw, atomfs.trace):
+            self.assertEqual(self.look(atomfs.UnderWayError, "a call is under way", lambda: tool(IN_PIECES)).about, 1)
+        deep = ["/" + "/".join("d" * at) for at in range(1, 64)]
+        script = "\n".join(["atomfs 1", "thread t", *(f"mkdir {path}" for path in deep), *[f"stat {deep[-1]}"] * 8_000, "schedule\n"])
+        error = self.look(Error, "the run takes more events than a script gives", lambda: atomfs.schedule(script, robin=True))
+        self.assertEqual((error.status, error.about), (Status.TOO_LARGE, 0))
+
+    def test_arguments(self):
+        for kind, words, call in (
+            (ValueError, "there is no call 4", lambda: atomfs.draw(SCRIPT, 4)),
+            (ValueError, "there is no call 0", lambda: atomfs.draw(SCRIPT, around=0)),
+            (ValueError, "a negative number of a call", lambda: atomfs.draw(SCRIPT, -1)),
+            (TypeError, "number of a call is a whole number, and this is str", lambda: atomfs.draw(SCRIPT, "1")),
+            (ValueError, "a schedule is drawn by a seed, or goes round robin, and not both", lambda: atomfs.draw(SCRIPT, seed=0, robin=True)),
+            (ValueError, "a schedule is drawn by a seed, or goes round robin, and not both", lambda: atomfs.trace(SCRIPT, seed=0, robin=True)),
+            (ValueError, "a schedule is drawn by a seed, or goes round robin, and not both", lambda: atomfs.schedule(SCRIPT, seed=0, robin=True)),
+            (TypeError, "schedule takes a seed, or robin=True", lambda: atomfs.schedule(SCRIPT)),
+            (TypeError, "seed is a whole number, and this is float", lambda: atomfs.trace(SCRIPT, seed=1.0)),
+            (ValueError, "invalid value '0' for '--runs <K>': 0 is not in 1..=10000", lambda: atomfs.seeds(SCRIPT, 1, 0)),
+            (ValueError, "invalid value '9223372036854775808' for '--seed <N>'", lambda: atomfs.seeds(SCRIPT, 2**63, 1)),
+            (ValueError, "a negative number of runs", lambda: atomfs.seeds(SCRIPT, 1, -1)),
+            *((ValueError, f"invalid value '{word}' for '<KIND>'\n  [possible values: BadHeader, ", lambda word=word: atomfs.explain(word)) for word in ("Dott", "--help", "--")),
+            (ValueError, "a value is required for '<KIND>'", lambda: atomfs.explain(" ")),
+            (ValueError, "unexpected argument 'Dot' found", lambda: atomfs.explain("BadPath Dot Dot")),
+            (ValueError, "embedded null byte", lambda: atomfs.explain("Dot\0")),
+            (TypeError, "explain takes str, and this is bytes", lambda: atomfs.explain(b"Dot")),
+            *((TypeError, "memoryview: ", lambda tool=tool: tool(7)) for tool in (atomfs.draw, atomfs.trace)),
+        ):
+            with self.subTest(words):
+                self.look(kind, words, call)
+
+    def test_other_ends(self):
+        """A program that has no memory, that fails, that is killed, and one that reads nothing."""
+        large = b"atomfs 1\n" * 1_000_000
+        for text, kind, words, status in (
+            ("echo atomfs: out of memory >&2; exit 4", MemoryError, "out of memory", None),
+            ("echo atomfs: full >&2; exit 4", Error, "the tree has as many nodes as it may", Status.FULL),
+            ("echo atomfs: the script would have more than 16777216 bytes >&2; exit 4", Error, "the script would have more", Status.TOO_LARGE),
+            ("echo atomfs: write failed >&2; exit 5", ProgramError, "the program ended with 5: write failed", 5),
+            ("echo atomfs: no worker >&2; exit 4", ProgramError, "the program ended with 4: no worker", 4),
+            ("echo atomfs: line >&2; exit 3", ProgramError, "the program ended with 3: line", 3),
+            ("echo atomfs: line 3: Other >&2; exit 3", ProgramError, "the program ended with 3: line 3: Other", 3),
+            ("exit 1", ProgramError, "the program ended with 1: ", 1),
+            ("exit 0", ProgramError, "the program ended with 0: ", 0),
+            ("echo half; kill -9 $$", ProgramError, "the program ended with -9: ", -9),
+        ):
+            with self.subTest(text):
+                self.other_program(self.folder / "program", text)
+                error = self.look(kind, words if kind is ProgramError else "", lambda: atomfs.draw(large))
+                self.assertEqual(getattr(error, "status", None), status)
+
+
+class WithoutProgram(OfTools):
+    def test_missing(self):
+        """It says what is missing; a notebook shows the words of the tree then."""
+        self.other_program(self.folder / "none")
+        for tool in (lambda: atomfs.draw(SCRIPT), lambda: atomfs.trace(SCRIPT), lambda: atomfs.seeds(SCRIPT, 1, 1), lambda: atomfs.explain("Dot")):
+            with self.assertRaises(ProgramError) as raised:
+                tool()
+            words = f"there is no program: No such file or directory: {self.folder}/none; ATOMFS_PROGRAM names one that is elsewhere"
+            self.assertEqual((str(raised.exception), raised.exception.status), (words, None))
+            self.assertIsInstance(raised.exception.__cause__, FileNotFoundError)
+        with Tree() as tree:
+            tree.mkdir("/a")
+            self.assertRaises(ProgramError, tree.draw)
+            self.assertIsNone(tree._repr_svg_())
+
+    def test_no_program(self):
+        (self.folder / "file").write_text("no program")
+        self.other_program(self.folder / "file")
+        with self.assertRaisesRegex(ProgramError, "^the program does not start: Permission denied: "):
+            atomfs.draw(SCRIPT)
+
+
+@unittest.skipUnless(os.path.exists(program()), "there is no program in the package: ATOMFS_PROGRAM names one")
+class OfTrees(OfTools):
+    def setUp(self):
+        super().setUp()
+        self.tree = Tree(1000)
+        self.addCleanup(self.tree.close)
+
+    def test_draw(self):
+        """All calls so far, around one, and the last of them; without a call of its own."""
+        self.assertNotIn("call", elements(self.tree.draw()))
+        seat = self.tree.seat(name="writer")
+        seat.begin.mkdir("/a")
+        for at in range(5):
+            self.tree.exists(f"/{at}")
+        self.assertEqual(self.tree.draw(), atomfs.draw(self.tree.journal()))
+        self.assertEqual(len(elements(self.tree.draw())["call"]), 6)
+        self.assertEqual(self.tree.draw(3), atomfs.draw(self.tree.journal(), around=3))
+        self.assertEqual(len(elements(self.tree.draw(last=3))["call"]), 3)
+        self.assertEqual([len(elements(self.tree.draw(last=last)).get("call", ())) for last in (0, 6, 7)], [0, 6, 6])
+        self.assertEqual(len(elements(self.tree.draw(6, last=2))["call"]), 2)
+        self.assertEqual(self.tree.calls, 6)
+        seat.finish()
+        for kind, call in ((ValueError, lambda: self.tree.draw(7)), (ValueError, lambda: self.tree.draw(last=-1)), (TypeError, lambda: self.tree.draw("1"))):
+            self.assertRaises(kind, call)
+        self.tree.close()
+        self.assertRaises(atomfs.ClosedError, self.tree.draw)
+
+    def test_too_large(self):
+        """A journal that is no text any more is refused; of its last calls there is a picture."""
+        for _ in range(9):
+            self.tree.write_bytes("/f", bytes(1_000_000))
+        with self.assertRaisesRegex(Error, "line 1: TooLarge"):
+            self.tree.draw()
+        elements(self.tree.draw(last=2))
+        self.assertIsNone(self.tree._repr_svg_())
+
+    def test_notebook(self):
+        """The last calls, at most 100; nothing where there is none, or where it would take long."""
+        self.assertIsNone(self.tree._repr_svg_())
+        for calls, shown in ((1, 1), (100, 100), (250, 100)):
+            for at in range(calls - self.tree.calls):
+                self.tree.exists(f"/{at}")
+            picture = self.tree._repr_svg_()
+            self.assertEqual(len(elements(picture)["call"]), shown)
+        self.assertIn(">#250 ", picture)
+        for _ in range(10_000 - 250):
+            self.tree.exists("/a")
+        self.assertIsInstance(self.tree._repr_svg_(), str)
+        self.tree.exists("/a")
+        self.assertIsNone(self.tree._repr_svg_())
+        self.tree.forget()
+        self.assertIsNone(self.tree._repr_svg_())
+        self.tree.close()
+        self.assertIsNone(self.tree._repr_svg_())
+
+    def test_in_a_patch(self):
+        """The program knows nothing of a tree at a directory of the disk, also where that is worked in; a picture is saved there."""
+        before = os.getcwd()
+        with atomfs.patch(self.tree, self.folder / "sandbox") as patched:
+            os.chdir(patched.at)
+            self.tree.mkdir("/a")
+            self.assertEqual(self.tree.draw().save("a/run.svg"), pathlib.Path("a/run.svg"))
+            self.assertEqual(os.listdir("a"), ["run.svg"])
+            os.chdir(before)
+        self.assertEqual((list(self.tree), os.listdir(self.folder)), (["/", "/a", "/a/run.svg"], []))
+
+
+class LastCalls(unittest.TestCase):
+    """A journal of the last calls of another one."""
+
+    def look(self, journal, limits, most):
+        """It is lawful, has as many calls as it may, and ends as the whole journal does."""
+        from atomfs._last import of_last
+
+        last = of_last(Tree, journal, limits, most)
+        self.assertEqual(atomfs.check(last), "lawful", (journal, last))
+        kept, of = begun(last), begun(journal)
+        if len(of) <= most:
+            self.assertEqual(last, journal)
+        self.assertLessEqual(len(kept), most)
+        self.assertEqual([number for number in of if number in kept], kept)
+        tail = [line for line in entries(journal) if line.split()[1] in kept]
+        self.assertEqual(sorted(entries(last)), sorted(tail))
+        self.assertEqual([line for line in entries(last) if not line.startswith("begin")], [line for line in tail if not line.startswith("begin")])
+        return kept
+
+    def test_of_one_thread(self):
+        """Of calls one behind the other as many as are asked for."""
+        for limits in Limits:
+            with Tree.from_dict({"a/f": "text", "b": None}, limits=limits) as tree:
+                tree.seat(name="other")
+                for call in range(20):
+                    tree.rename("/a", "/c")
+                    tree.rename("/c", "/a")
+                    tree.write("/a/f", call, b"x")
+                for most in (1, 7, 59):
+                    kept = self.look(tree.journal(), limits, most)
+                    self.assertEqual(kept, [str(number) for number in range(61 - most, 61)])
+
+    def test_of_threads(self):
+        """Of drawn runs, whole and cut off anywhere, where calls are under way."""
+        draw = random.Random(7)
+
+        def check(tree, replies):
+            journal = tree.journal()
+            opening = journal[: journal.index("begin")]
+            cut = draw.randrange(len(entries(journal)) + 1)
+            for text in (journal, opening + "".join(entries(journal)[:cut])):
+                for most in (0, 1, 2, 3, 5, 8, 99):
+                    self.look(text, tree.limits, most)
+
+        for seed in range(30):
+            threads = {name: draw.choices(CALLS, k=4) for name in "abcd"}
+            before = ["mkdir /a", "mkdir /b"] if seed % 2 else []
+            atomfs.explore(threads, check, runs=2, seed=seed, before=before, limits=draw.choice(list(Limits)))
+
+
+if __name__ == "__main__":
+    unittest.main()
