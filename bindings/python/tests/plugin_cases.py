@@ -1,8 +1,14 @@
 """The plugin of pytest, by pytest's own `pytester`: test_plugin.py has pytest run this file."""
 import io
+import os
+import pathlib
+import re
+import xml.etree.ElementTree as ElementTree
 import zipfile
 
 import pytest
+
+from atomfs.__main__ import program
 
 SECTION = ["*- atom_tree -*", "<atomfs.Tree open: 3 of 1,048,576 nodes, 3 calls, Limits.V2>", "/", "└── a/", "    └── f (2 bytes)", "The last calls:"]
 
@@ -131,6 +137,94 @@ def test_section(pytester):
     result = outcomes(pytester, FAILS.format(False), failed=1)
     result.stdout.fnmatch_lines([*SECTION, "mkdir /a: ok", "mknod /a/f: ok", "write /a/f 0 6162: wrote 2"])
     outcomes(pytester, FAILS.format(True), "-rA", passed=1).stdout.no_fnmatch_line("*The last calls*")
+
+
+def pictured(result):
+    """The paths of the pictures that a report names, each of one SVG element."""
+    paths = [pathlib.Path(path) for path in re.findall(r"(?m)^The picture: (.*)$", result.stdout.str())]
+    for path in paths:
+        root = ElementTree.parse(path).getroot()
+        assert root.tag.endswith("}svg") and "call" in {element.get("class") for element in root}
+    return paths
+
+
+of_program = pytest.mark.skipif(not os.path.exists(program()), reason="there is no program in the package: ATOMFS_PROGRAM names one")
+
+
+@of_program
+def test_picture(pytester):
+    """It is in the tmp_path of the test, or in a folder of its own beside those; a test that makes no call has none."""
+    text = """
+        def test_own(atom_tree, tmp_path):
+            atom_tree.mkdir("/a")
+            assert not list(tmp_path.iterdir())
+            assert False
+
+        def test_beside(atom_tree):
+            atom_tree.mkdir("/a")
+            assert False
+
+        def test_removed(atom_tree, tmp_path):
+            atom_tree.mkdir("/a")
+            tmp_path.rmdir()
+            assert False
+
+        def test_no_call(atom_tree):
+            assert False
+    """
+    result = outcomes(pytester, text, "--basetemp=temp", failed=4)
+    temp = pytester.path / "temp"
+    assert pictured(result) == [temp / name / "atom_tree.svg" for name in ("test_own0", "test_beside0", "test_removed0")]
+
+
+@of_program
+def test_picture_of_a_patch(pytester):
+    """It is on the disk, also where the tree stands above it, and where the test works in the tree."""
+    text = f"""
+        import os
+        import pytest
+
+        @pytest.mark.atomfs(at={os.fspath(pytester.path / "temp")!r})
+        def test_above(atom_patch):
+            (atom_patch.at / "a").mkdir()
+            os.chdir(atom_patch.at / "a")
+            assert False
+    """
+    assert len(pictured(outcomes(pytester, text, "--basetemp=temp", failed=1))) == 1
+
+
+def test_no_picture(pytester, monkeypatch):
+    """A report says why it has none, as where the program is missing."""
+    monkeypatch.setenv("ATOMFS_PROGRAM", "/none")
+    result = outcomes(pytester, FAILS.format(False), failed=1)
+    result.stdout.fnmatch_lines([*SECTION, "No picture: there is no program: No such file or directory: /none; *"])
+    assert pictured(result) == []
+
+
+@of_program
+def test_explore(pytester):
+    """The report of a run that fails names its picture, which the exception has too."""
+    text = """
+        import atomfs
+        import pytest
+
+        CALLS = {"m": ["mkdir /a"], "r": ["rmdir /a"]}
+
+        @atomfs.simulate(CALLS, runs=50)
+        def test_simulate(tree, replies):
+            assert "/a" in tree
+
+        def test_explore(tmp_path, atom_tree):
+            atomfs.explore(CALLS, lambda tree, replies: "/a" in tree)
+    """
+    pytester.makeconftest("""
+        def pytest_exception_interact(call):
+            print("It is at", call.excinfo.value.picture)
+    """)
+    result = outcomes(pytester, text, "--basetemp=temp", "-s", failed=2)
+    paths = pictured(result)
+    assert paths == [pytester.path / "temp" / name / "explore.svg" for name in ("test_simulate0", "test_explore0")]
+    result.stdout.fnmatch_lines([*(f"*It is at {path}" for path in paths), "*- atomfs.explore -*", f"The picture: {paths[0]}"])
 
 
 def test_section_of_last_calls(pytester):

@@ -1,6 +1,7 @@
 """Interleavings that are drawn, and a check behind each."""
 import errno
 import importlib.util
+import os
 import pathlib
 import subprocess
 import sys
@@ -9,6 +10,7 @@ import unittest
 
 import atomfs
 from atomfs import Limits, ScheduleError, Stat, explore
+from atomfs.__main__ import program
 
 MOVED = {"m": ["mkdir /a/d/x", ("stat", "/a/d/x")], "r": [("rename", "/a", "/b")]}
 BEFORE = ["mkdir /a", "mkdir /a/d"]
@@ -97,6 +99,12 @@ class Runs(unittest.TestCase):
         self.assertEqual((type(error.__cause__), error.journal.count("\n"), atomfs.check(error.journal)), (KeyError, 7, "lawful"))
         for part in ("seed 1: KeyError: 'none'", error.script, error.journal):
             self.assertIn(part, str(error))
+
+    @unittest.skipUnless(os.path.exists(program()), "there is no program in the package: ATOMFS_PROGRAM names one")
+    def test_picture(self):
+        """The error of a check draws its run; where a picture was written, the plugin of pytest says."""
+        error = failed(self, MOVED, before=BEFORE)
+        self.assertEqual((error.draw(), error.picture), (atomfs.draw(error.script), None))
 
     def test_no_failure(self):
         """It tells how many runs there were; what a check answers is looked at for False alone."""

@@ -2,13 +2,16 @@
 from __future__ import annotations
 
 import ctypes
+import pathlib
 import random
-from typing import Any, Callable, Dict, Iterable, List, Mapping, Tuple
+from typing import Any, Callable, Dict, Iterable, List, Mapping, Optional
 
 from ._errors import error_at
 from ._library import NODE_LIMIT, Did, Limits
+from ._program import Picture, draw
 from ._script import AnyCall, Planned, planned_threads, script
-from ._tree import Seat, Tree, number_of
+from ._tree import Seat, Tree
+from ._values import number_of
 
 # By thread what its calls replied, in their order: of a call that failed, its error.
 Replies = Dict[str, List[Any]]
@@ -35,6 +38,12 @@ class ScheduleError(AssertionError):
         self.journal = journal
         #: What the check was given.
         self.replies = replies
+        #: Where the plugin of pytest has written the picture of the run, if it has.
+        self.picture: Optional[pathlib.Path] = None
+
+    def draw(self) -> Picture:
+        """The picture of the run, with who waits for whom, and who helps."""
+        return draw(self.script)
 
 
 class _Run:

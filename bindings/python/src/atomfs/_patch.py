@@ -100,6 +100,15 @@ class patch(contextlib.ContextDecorator):
         while self._undo:
             self._undo.pop()()
 
+    @contextlib.contextmanager
+    def _aside(self) -> Iterator[None]:
+        """Lets all go to the disk meanwhile."""
+        was, self._active = self._active, False
+        try:
+            yield
+        finally:
+            self._active = was
+
     def _replace(self, pairs: List[Tuple[Any, Any]]) -> None:
         """Puts new functions in the place of those that are there, until the end."""
         news = {id(old): new for old, new in pairs}

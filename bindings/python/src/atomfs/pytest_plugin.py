@@ -10,27 +10,37 @@
 
 `atom_tree` is a tree of the test's own, `atom_fs` the same as a file system of PyFilesystem2, `atom_path` its root as a path. By
 `atom_patch` it stands at a directory of the disk, `/sandbox` where the mark has no other by `at`, for `open`, `os` and so on. At
-the end the journal of the tree has to be lawful. The report of a test that fails shows the tree and its last 30 calls.
+the end the journal of the tree has to be lawful. The report of a test that fails shows the tree, its last 30 calls, and the path of a
+picture: in the `tmp_path` of the test, or in a folder of its own beside those; and so it does of a run of `atomfs.explore`.
 """
 from __future__ import annotations
 
+import contextlib
 import os
 import pathlib
-from typing import TYPE_CHECKING, Any, Dict, Generator, Iterator, Mapping, Tuple
+import re
+import tempfile
+from typing import TYPE_CHECKING, Any, Callable, ContextManager, Dict, Generator, Iterator, Mapping, Optional, Tuple
 
 import pytest
 
+from ._errors import Error, ProgramError
+from ._explore import ScheduleError
 from ._library import NODE_LIMIT, Limits
 from ._load import Snapshot, of_snapshot
 from ._patch import patch
 from ._path import Path
+from ._program import Picture
 from ._tree import Tree
 
 if TYPE_CHECKING:
     from .fs import AtomFS
 
 _TREE = pytest.StashKey[Tree]()
+_PATCH = pytest.StashKey[patch]()
 _LOADED = pytest.StashKey[Dict[Tuple[str, int, Limits], Snapshot]]()
+# How many calls a picture has at most: of more the program leaves out most words.
+_PICTURED = 2_000
 _MARK = (
     "atomfs(load=None, limit=NODE_LIMIT, limits=Limits.V2, at='/sandbox'): atom_tree begins with a directory, a zip or a dictionary, "
     "by these limits, and by atom_patch it stands at this directory of the disk"
@@ -84,7 +94,7 @@ def atom_tree(request: pytest.FixtureRequest) -> Iterator[Tree]:
     try:
         verdict = tree.check()
         if verdict != "lawful":
-            pytest.fail(f"the journal of atom_tree: {verdict}\n{_shown(tree)}", pytrace=False)
+            pytest.fail(f"the journal of atom_tree: {verdict}\n{_shown(tree, request.node)}", pytrace=False)
     finally:
         tree.close()
 
@@ -109,19 +119,47 @@ def atom_path(atom_tree: Tree) -> Path:
 def atom_patch(request: pytest.FixtureRequest, atom_tree: Tree) -> Iterator[patch]:
     """The tree of the test stands at a directory of the disk, the `at` of what this is, until the test ends."""
     with patch(atom_tree, _asked(request.node)[3]) as patched:
+        request.node.stash[_PATCH] = patched
         yield patched
 
 
-def _shown(tree: Tree) -> str:
-    """What the report of a failed test has: the tree, and its last calls."""
+def _shown(tree: Tree, node: Any) -> str:
+    """What the report of a failed test has: the tree, its last calls, and where the picture is."""
     if tree.closed:
         return repr(tree)
     calls = "\n".join(tree.last_calls())
-    return f"{tree!r}\n{tree}\n\nThe last calls:\n{calls}"
+    picture = f"\n\n{_written(node, 'atom_tree', lambda: tree.draw(last=_PICTURED))[0]}" if calls else ""
+    return f"{tree!r}\n{tree}\n\nThe last calls:\n{calls}{picture}"
+
+
+def _written(node: Any, name: str, drawn: Callable[[], Picture]) -> Tuple[str, Optional[pathlib.Path]]:
+    """Writes a picture, and tells where; or why there is none."""
+    aside: ContextManager[None] = node.stash[_PATCH]._aside() if _PATCH in node.stash else contextlib.nullcontext()
+    try:
+        with aside:
+            path = drawn().save(_folder(node) / f"{name}.svg")
+    except (Error, ProgramError, OSError) as error:
+        return f"No picture: {error}", None
+    return f"The picture: {path}", path
+
+
+def _folder(node: Any) -> pathlib.Path:
+    """The `tmp_path` of a test, where it has one, or a folder beside those."""
+    own, factory = node.funcargs.get("tmp_path"), getattr(node.config, "_tmp_path_factory", None)
+    if own is not None and own.is_dir():
+        return pathlib.Path(own)
+    if factory is None:
+        return pathlib.Path(tempfile.mkdtemp(prefix="atomfs-"))
+    return pathlib.Path(factory.mktemp(re.sub(r"\W", "_", node.name)[:30]))
 
 
 @pytest.hookimpl(hookwrapper=True)  # type: ignore[misc]
-def pytest_runtest_makereport(item: pytest.Item) -> Generator[None, Any, None]:
+def pytest_runtest_makereport(item: pytest.Item, call: pytest.CallInfo[None]) -> Generator[None, Any, None]:
     report = (yield).get_result()
-    if report.when == "call" and report.failed and _TREE in item.stash:
-        report.sections.append(("atom_tree", _shown(item.stash[_TREE])))
+    if report.when != "call" or not report.failed:
+        return
+    if call.excinfo is not None and isinstance(error := call.excinfo.value, ScheduleError):
+        told, error.picture = _written(item, "explore", error.draw)
+        report.sections.append(("atomfs.explore", told))
+    if _TREE in item.stash:
+        report.sections.append(("atom_tree", _shown(item.stash[_TREE], item)))
