@@ -1,11 +1,18 @@
-"""The same calls as embed.c, from Python: embed.py LIBRARY CALLS, or embed.py LIBRARY --long CALLS."""
+"""The same calls as embed.c, from Python: embed.py LIBRARY CALLS, or embed.py LIBRARY --long CALLS.
+
+Without --long also what files of others take by the same words: a directory on tmpfs, pyfakefs, PyFilesystem2's and fsspec's memory, each beside
+the tree by these words. Of them those are left out, and told, that are not there: Debian's python3-pyfakefs, python3-fs, python3-fsspec.
+"""
+import builtins
 import contextlib
 import importlib.util
 import os
 import pathlib
 import resource
 import sys
+import tempfile
 import time
+import typing
 
 ROOT = pathlib.Path(__file__).resolve().parent.parent
 sys.dont_write_bytecode = True
@@ -80,6 +87,113 @@ def typed_tree():
         yield (tree,)
 
 
+class Files(typing.NamedTuple):
+    """The words for files that some package has, and one that is open without a buffer."""
+
+    make: typing.Callable
+    ask: typing.Callable
+    move: typing.Callable
+    remove: typing.Callable
+    file: typing.BinaryIO
+
+
+def names_of_files(files, i):
+    name = f"/a{i // 4 % 100}"
+    if i % 4 == 0:
+        files.make(name)
+    elif i % 4 == 1:
+        files.ask(name)
+    elif i % 4 == 2:
+        files.move(name, "/b")
+    else:
+        files.remove("/b")
+
+
+def write_of_files(files, i):
+    files.file.seek(place(i))
+    files.file.write(PIECE)
+
+
+def read_of_files(files, i):
+    files.file.seek(place(i))
+    assert len(files.file.read(len(PIECE))) == len(PIECE)
+
+
+@contextlib.contextmanager
+def filled(files):
+    with files.file:
+        files.file.write(bytes(64_000))
+        yield (files,)
+
+
+def by_os(of, opened, top):
+    """The words of `os` and `open`."""
+    names = (lambda path: of.mknod(top + path), lambda path: of.stat(top + path), lambda path, other: of.rename(top + path, top + other))
+    return filled(Files(*names, lambda path: of.remove(top + path), opened(f"{top}/f", "w+b", buffering=0)))
+
+
+@contextlib.contextmanager
+def on_tmpfs():
+    with tempfile.TemporaryDirectory(dir="/dev/shm") as folder, by_os(os, open, folder) as given:
+        yield given
+
+
+@contextlib.contextmanager
+def patched():
+    with atomfs.Tree() as tree, atomfs.patch(tree, "/sandbox"), by_os(os, builtins.open, "/sandbox") as given:
+        yield given
+
+
+def of_pyfakefs():
+    from pyfakefs import fake_filesystem
+
+    files = fake_filesystem.FakeFilesystem()
+    return by_os(fake_filesystem.FakeOsModule(files), fake_filesystem.FakeFileOpen(files), "")
+
+
+def by_pyfilesystem(files):
+    return filled(Files(files.create, files.getinfo, files.move, files.remove, files.openbin("/f", "w+", buffering=0)))
+
+
+def of_memoryfs():
+    from fs.memoryfs import MemoryFS
+
+    return by_pyfilesystem(MemoryFS())
+
+
+def of_atomfs():
+    from atomfs.fs import AtomFS
+
+    return by_pyfilesystem(AtomFS())
+
+
+def by_fsspec(files):
+    files.touch("/f")
+    return filled(Files(files.touch, files.info, files.mv, files.rm_file, files.open("/f", "rb+")))
+
+
+def of_fsspec():
+    from fsspec.implementations.memory import MemoryFileSystem
+
+    files = MemoryFileSystem(skip_instance_cache=True)
+    files.store.clear()
+    return by_fsspec(files)
+
+
+def of_atomfilesystem():
+    from atomfs.fsspec import AtomFileSystem
+
+    return by_fsspec(AtomFileSystem(tree=atomfs.Tree()))
+
+
+# By whose words files are made, what they are of, and the module that is needed.
+OTHERS = (
+    *(("os", "tmpfs", on_tmpfs, "os"), ("os", "pyfakefs", of_pyfakefs, "pyfakefs"), ("os", "a patch", patched, "os")),
+    *(("fs", "MemoryFS", of_memoryfs, "fs"), ("fs", "AtomFS", of_atomfs, "fs")),
+    *(("fsspec", "memory", of_fsspec, "fsspec"), ("fsspec", "atomfs", of_atomfilesystem, "fsspec")),
+)
+
+
 def measure(name, opened, call, calls):
     """The best of three rounds, each on a tree of its own."""
     best = 0
@@ -89,7 +203,16 @@ def measure(name, opened, call, calls):
             for i in range(calls):
                 call(*given, i)
             best = max(best, calls / (time.monotonic() - start))
-    print(f"Python  {name:13} {best:9.0f} calls/s")
+    print(f"Python  {name:23} {best:9.0f} calls/s", flush=True)
+
+
+def measure_others(calls):
+    for words, of, opened, module in OTHERS:
+        if importlib.util.find_spec(module) is None:
+            print(f"Python  {words}, {of}: there is no {module}")
+            continue
+        for kind, call, part in (("names", names_of_files, 1), ("writes", write_of_files, 8), ("reads", read_of_files, 8)):
+            measure(f"{kind}, {words}, {of}", opened, call, calls // part)
 
 
 def measure_all(calls):
@@ -130,3 +253,4 @@ if sys.argv[2] == "--long":
         run_long(int(sys.argv[3]), forgets)
 else:
     measure_all(int(sys.argv[2]))
+    measure_others(int(sys.argv[2]))
