@@ -1,7 +1,8 @@
-"""Counts the instructions of the program by valgrind, which are the same under any load, and keeps those of some small jobs in bench/kept.txt.
+"""Counts the instructions of the program and its misses of data by valgrind, which are the same under any load, and keeps those of some small jobs in
+bench/kept.txt.
 
-A block of that file is of one machine: the line of `rt version`, the C library, and the processor as valgrind shows it. Another kit compiles
-otherwise, and other libraries have other counts.
+Misses are those of the first level of a cache that is always of the same size, whatever the machine has. A block of that file is of one machine: the
+line of `rt version`, the C library, and the processor as valgrind shows it. Another kit compiles otherwise, and other libraries have other counts.
 """
 import concurrent.futures
 import os
@@ -18,18 +19,43 @@ import workloads
 
 HERE = pathlib.Path(__file__).resolve().parent
 KEPT = HERE / "kept.txt"
-HEAD = "# The instructions of the jobs of bench/kept, a block for each kit, C library and processor. `bench/kept --write` counts anew.\n"
+HEAD = "# The instructions of the jobs of bench/kept and their misses, a block for each kit, C library and processor. `bench/kept --write` counts anew.\n"
 # How many drawn runs of a script are counted, and how many calls a script of one thread has.
 RUNS = {"campaign": 40, "crowd": 6}
 CALLS = 2_000
 # By these valgrind chooses the processor that it shows, and the C library its functions.
 FEATURES = ("pni", "ssse3", "cx16", "sse4_2", "movbe", "abm", "rdtscp", "avx", "bmi1", "bmi2", "avx2")
-# A count above the first share of the one that is kept is a loss. Below the second, the kept one is to follow.
-LOSS, GAIN = 1.03, 0.97
+# The cache of which misses are counted: bytes, ways, bytes of a line, for instructions, data and the last level.
+CACHE = ("--cache-sim=yes", "--I1=32768,8,64", "--D1=32768,8,64", "--LL=8388608,16,64")
+# What a job's misses are called in the file.
+MISSES = "misses of "
+
+
+class Bounds(typing.NamedTuple):
+    """A count above the first share of the one that is kept is a loss. Below the second, the kept one is to follow."""
+
+    loss: float
+    gain: float
+
+
+def bounds(job):
+    """Where a few blocks of the heap stand decides some misses, so a miss more is a loss later than an instruction more."""
+    return Bounds(1.05, 0.95) if job.startswith(MISSES) else Bounds(1.03, 0.97)
+
+
+class Counted(typing.NamedTuple):
+    """The instructions of a program on an input, its misses of data at the first level, and what it wrote."""
+
+    instructions: int
+    misses: int
+    said: bytes
+
+    def of(self, job):
+        return {job: self.instructions, MISSES + job: self.misses}
 
 
 def counted(program, words, text):
-    """The instructions of a program on an input, and what it writes.
+    """A program on an input.
 
     Where blocks of the heap stand, and so what copies cost, depends on how long the program's name is. So it is always called the same. And it reads
     a file, since of a pipe it may get more pieces or fewer.
@@ -38,34 +64,35 @@ def counted(program, words, text):
         os.symlink(os.path.abspath(program), f"{folder}/atomfs")
         given = pathlib.Path(folder, "given")
         given.write_bytes(text)
-        tool = [shutil.which("valgrind") or "valgrind", "--tool=callgrind", f"--callgrind-out-file={os.devnull}", "./atomfs", *words]
+        valgrind = [shutil.which("valgrind") or "valgrind", "--tool=callgrind", f"--callgrind-out-file={os.devnull}", *CACHE]
         with given.open("rb") as source:
-            done = subprocess.run(tool, stdin=source, capture_output=True, cwd=folder, env={"PATH": os.defpath})
-    found = re.search(rb"Collected : (\d+)", done.stderr)
+            done = subprocess.run([*valgrind, "./atomfs", *words], stdin=source, capture_output=True, cwd=folder, env={"PATH": os.defpath})
+    # Instructions, reads, writes, and at the first level misses of instructions, of reads and of writes.
+    found = re.search(rb"Collected : (\d+) \d+ \d+ \d+ (\d+) (\d+)", done.stderr)
     if done.returncode or not found:
         sys.exit(f"valgrind {program} {' '.join(words)}: status {done.returncode}\n{done.stderr.decode(errors='replace')}")
-    return int(found[1]), done.stdout
+    return Counted(int(found[1]), int(found[2]) + int(found[3]), done.stdout)
 
 
 def seeds(program, name):
     """Drawn runs of a stored script."""
-    count, said = counted(program, ("seeds", "--seed", "1", "--runs", str(RUNS[name])), (HERE / f"{name}.script").read_bytes())
-    if said.count(b" lawful\n") != RUNS[name]:
+    drawn = counted(program, ("seeds", "--seed", "1", "--runs", str(RUNS[name])), (HERE / f"{name}.script").read_bytes())
+    if drawn.said.count(b" lawful\n") != RUNS[name]:
         sys.exit(f"seeds {name}: a run is not lawful")
-    return {f"seeds {name}": count}
+    return drawn.of(f"seeds {name}")
 
 
 def texts(program, make):
     """The run of a drawn script of one thread, and the check of its journal."""
-    ran, journal = counted(program, ("run",), make(CALLS))
-    checked, verdict = counted(program, ("check",), journal)
-    if verdict != b"lawful\n":
-        sys.exit(f"check {make.__name__}: {verdict.decode()}")
-    return {f"run {make.__name__}": ran, f"check {make.__name__}": checked}
+    ran = counted(program, ("run",), make(CALLS))
+    checked = counted(program, ("check",), ran.said)
+    if checked.said != b"lawful\n":
+        sys.exit(f"check {make.__name__}: {checked.said.decode()}")
+    return ran.of(f"run {make.__name__}") | checked.of(f"check {make.__name__}")
 
 
 def counts(program):
-    """The instructions of each job, by its name."""
+    """The instructions of each job by its name, and its misses."""
     makers = (workloads.few, workloads.broad, workloads.wide, workloads.deep, workloads.pieces, workloads.moves)
     with concurrent.futures.ThreadPoolExecutor(os.cpu_count()) as pool:
         parts = [*(pool.submit(seeds, program, name) for name in RUNS), *(pool.submit(texts, program, make) for make in makers)]

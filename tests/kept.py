@@ -1,4 +1,5 @@
-"""What was gained in speed is kept: the instructions of small jobs, beside those that bench/kept.txt keeps for this kit, C library and processor.
+"""What was gained in speed is kept: the instructions of small jobs and their misses of data, beside those that bench/kept.txt keeps for this kit, C library
+and processor.
 
 `bench/counting.py` has the jobs, and `bench/contended.py` makes two of their scripts. Where the file has no counts of this machine, they are printed,
 and nothing is judged.
@@ -23,19 +24,19 @@ NO_BLOCK = "bench/kept.txt has no counts of this kit, C library and processor: t
 
 def change(job, count, block):
     """What is told of a count that differs from the one that is kept: nothing, a gain or a loss."""
-    kept = block.counts[job]
+    kept, bounds = block.counts[job], counting.bounds(job)
     share = count / kept
-    told = f"{job} takes {count:,} instructions, {share:.3f} of the {kept:,} that bench/kept.txt keeps since commit {block.commit}"
-    if share > counting.LOSS:
+    told = f"{job}: {count:,}, {share:.3f} of the {kept:,} that bench/kept.txt keeps since commit {block.commit}"
+    if share > bounds.loss:
         return "loss", f"{told}: mend it, or write the count anew (bench/kept --write) in a commit that says why"
-    if share < counting.GAIN:
+    if share < bounds.gain:
         return "gain", f"{told}: the count that is kept should follow (bench/kept --write)"
     return None, ""
 
 
 class Counts(Case):
-    def test_instructions(self):
-        """No job takes notably more than is kept."""
+    def test_counts(self):
+        """No job takes notably more instructions, or misses its data notably more often, than is kept."""
         harness.takes_a_process()
         for command, reason in NEEDED:
             if not shutil.which(command):
@@ -69,16 +70,18 @@ class Kept(Case):
     """How counts are judged, and how they are kept."""
 
     OLD, OTHER, NEW = (
-        counting.Block((f"kit {kit}", "library glibc 2", "processor x86_64 avx, valgrind-3"), commit, {"run few": few, "seeds crowd": 1})
+        counting.Block((f"kit {kit}", "library glibc 2", "processor x86_64 avx, valgrind-3"), commit, {"run few": few, "misses of run few": few})
         for kit, commit, few in (("a", "0123", 100_000), ("b", "4567 with changes", 7), ("a", "89ab", 90_000))
     )
 
     def test_changes(self):
-        rows = (103_000, None), (103_001, "loss"), (97_000, None), (96_999, "gain")
-        self.each(((str(count), count, kind) for count, kind in rows), self.look_at_change)
+        instructions = (103_000, None), (103_001, "loss"), (97_000, None), (96_999, "gain")
+        misses = (105_000, None), (105_001, "loss"), (95_000, None), (94_999, "gain")
+        rows = [("run few", row) for row in instructions] + [("misses of run few", row) for row in misses]
+        self.each(((f"{job} {count}", job, count, kind) for job, (count, kind) in rows), self.look_at_change)
 
-    def look_at_change(self, count, kind):
-        self.same(count, change("run few", count, self.OLD)[0], kind)
+    def look_at_change(self, job, count, kind):
+        self.same(count, change(job, count, self.OLD)[0], kind)
 
     def test_blocks(self):
         """What is written is read again, and a block takes the place of one of the same machine alone."""
