@@ -17,3 +17,7 @@ pub mod Starting
 pub mod Again
 pub mod Leasts
 pub mod Told
+pub mod Added
+pub mod RowsFit
+pub mod Started
+pub mod Within

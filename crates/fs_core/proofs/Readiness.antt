@@ -6,8 +6,7 @@ use Rattle.std.proofs.lemmas.Option.{slice_get_within, slice_get_read}
 use Rattle.fs_names.specs.declared.limits.Limits.{Limits}
 use Rattle.fs_names.specs.declared.limits.TheConstants.{NODE_LIMIT}
 use Rattle.fs_names.specs.Shapes.{Shape, Dir, File, is_there, has_entries}
-use Rattle.fs_calls.specs.Starts.{root_start}
-use Rattle.fs_laws.proofs.states.StartsEmpty.{starts_empty}
+use Rattle.fs_calls.specs.Starts.{Start}
 use Rattle.fs_calls.specs.Forms.{form, Form, AtNode, AtEntry, AtPair, new_shape, reserves, reserved_by}
 use Rattle.fs_calls.specs.declared.target.EntryCall.{EntryCall}
 use Rattle.fs_calls.specs.declared.target.EntryCall.TheVariants.{Mkdir, Mknod, Unlink, Rmdir}
@@ -23,7 +22,7 @@ use Rattle.fs_timeline.specs.declared.entry.Entry.TheVariants.{Begin, Commit, Re
 use Rattle.fs_machine.specs.Leaving.{unreserved}
 use Rattle.fs_machine.specs.OpValues.{OpValue, new_value, record_of, BegunAs, IsSpare, SpareIf}
 use Rattle.fs_timeline.specs.Timeline.{begins, TimelineValue}
-use Rattle.fs_machine.specs.States.{empty, began, Reserves, Begins, Run, Starting, Beginning}
+use Rattle.fs_machine.specs.States.{IsStart, fresh, began, Reserves, Begins, Run, Starting, Beginning}
 use Rattle.fs_machine.specs.declared.answers.Refusal.TheVariants.{SeatBusy}
 use Rattle.fs_laws.proofs.states.Agreement.{not_begun}
 use Rattle.fs_laws.proofs.states.Headline.{run_keeps}
@@ -240,21 +239,14 @@ seat_kept m b k p kept seats is = (
     same = same_state _ _ _ _ _ _ _ _ _ _ _ _ refl refl refl (ap records is ∙ records_more m.seats) (ap number_on is ∙ numbers_more m.seats)
 
 -- a new core
-empty_below : (n : ℕ) (s : Shape) (bound : ℕ) → 1 ≤ bound → empty_graph.shape n ≡ Some s → n < bound
-empty_below n s bound one e = go (eqb n 0) refl e
-  where
-    go : (b : Bool) → eqb n 0 ≡ b → cond b (Some (Dir [])) None ≡ Some s → n < bound
-    go true f g = let z : n ≡ 0 = eqb_true n 0 f in omega (arith, z, one)
-    go false f g = cc
-
-pub new_kept : (st : Places) (hs : Holding) (limits : Limits) (limit : ℕ) → 1 ≤ limit → limit ≤ NODE_LIMIT → graph_of st ≡ empty_graph → (seen st).limit ≡ limit → holder hs ≡ (λ n. None) → 1 ≤ room hs
-    → (state_of (record { start = root_start limits; store = st; holding = hs; seats = []; timeline = []; refusals = 0 }) ≡ empty limits limit) × IsKept (record { start = root_start limits; store = st; holding = hs; seats = []; timeline = []; refusals = 0 }) 0 0 0
-new_kept st hs limits limit one most graph is_limit is_hs has = (
+pub start_kept : (start : Start) (st : Places) (hs : Holding) → IsStart (seen st).limit start (graph_of st) → (seen st).limit ≤ NODE_LIMIT → holder hs ≡ (λ n. None) → AreBelow (graph_of st) (room hs)
+    → (state_of (record { start = start; store = st; holding = hs; seats = []; timeline = []; refusals = 0 }) ≡ fresh (seen st).limit start (graph_of st)) × IsKept (record { start = start; store = st; holding = hs; seats = []; timeline = []; refusals = 0 }) 0 0 0
+start_kept start st hs is most is_hs below = (
   same,
   record {
-    run = subst Run (sym same) (Starting limit (root_start limits) empty_graph (starts_empty limits limit one));
-    limited = omega (arith, is_limit, most);
-    roomy = λ n s e. empty_below n s (room hs) has (ap (λ (g : Graph). g.shape n) (sym graph) ∙ e);
+    run = subst Run (sym same) (Starting (seen st).limit start (graph_of st) is);
+    limited = most;
+    roomy = below;
     begun_is = refl;
     few = omega arith;
     commits_is = refl;
@@ -263,8 +255,8 @@ new_kept st hs limits limit one most graph is_limit is_hs has = (
   },
 )
   where
-    same : state_of (record { start = root_start limits; store = st; holding = hs; seats = []; timeline = []; refusals = 0 }) ≡ empty limits limit
-    same = same_state _ _ _ _ _ _ _ _ _ _ _ _ is_limit graph is_hs refl (fun_ext (λ n. refl))
+    same : state_of (record { start = start; store = st; holding = hs; seats = []; timeline = []; refusals = 0 }) ≡ fresh (seen st).limit start (graph_of st)
+    same = same_state _ _ _ _ _ _ _ _ _ _ _ _ refl refl is_hs refl (fun_ext (λ n. refl))
 
 -- the same by the seat's number, and by the counter
 pub begun_by : (m : CoreValue) (b k p at seat : ℕ) (call : Call) → IsKept m b k p → at ≡ seat → (old : Option Running) → seat < length m.seats → old ≡ get_or m.seats at old → old ≡ None

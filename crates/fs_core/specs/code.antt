@@ -7,3 +7,4 @@ pub mod Searches
 pub mod Starting
 pub mod Doing
 pub mod Leasts
+pub mod Filling

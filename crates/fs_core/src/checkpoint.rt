@@ -1,7 +1,9 @@
 //! The checkpoint: the timeline begins again at the tree that its commits play, and its entries are handed out.
 
 ghost use Rattle.std.specs.Prelude.{◌≡◌, ◌≢◌, [], IfOk, IfErr, OnOk, OnErr, Err};
+ghost use Rattle.fs_names.specs.Limits.{file_limit};
 ghost use Rattle.fs_calls.specs.Outcomes.{next_start};
+ghost use Rattle.fs_seq.specs.Rows.{IsWithinLimits};
 ghost use Rattle.fs_timeline.specs.Timeline.{commits};
 ghost use Rattle.fs_machine.specs.States.{begun_again};
 ghost use Rattle.fs_core.specs.CoreValues.{state_of, IsAtRest};
@@ -73,11 +75,12 @@ impl Core {
         Ok(tree)
     }
 
-    /// The tree at which the timeline would begin again: all that a checkpoint takes memory for. `UnderWay` comes exactly
-    /// where a call is under way, and is looked for first.
+    /// The tree at which the timeline would begin again: all that a checkpoint takes memory for, and what a second core can begin
+    /// at (`Core::from_tree`). `UnderWay` comes exactly where a call is under way, and is looked for first.
     pub fn prepare(&self, alloc: Global) -> Result<SeqTree, NoCheckpoint>
         ensures rest { OnOk result (IsAtRest self.now) }
         ensures tree { IfOk result (λ tree. tree ≡ next_start self.now.start (commits self.now.timeline)) }
+        ensures within { IfOk result (λ tree. IsWithinLimits (file_limit tree.limits) tree.tree) }
         ensures why { IfErr result (IsWhyNot self.now) }
     {
         self.prepare_counted(alloc, &mut Memory::new())
@@ -91,11 +94,13 @@ impl Core {
     ) -> Result<SeqTree, NoCheckpoint>
         ensures rest { OnOk result (IsAtRest self.now) }
         ensures tree { IfOk result (λ tree. tree ≡ next_start self.now.start (commits self.now.timeline)) }
+        ensures within { IfOk result (λ tree. IsWithinLimits (file_limit tree.limits) tree.tree) }
         ensures why { IfErr result (IsWhyNot self.now) }
         ensures granted { result ≢ Err NoCheckpoint.OutOfMemory → memory.new ≡ memory.old }
         ensures refused { result ≡ Err NoCheckpoint.OutOfMemory → memory.new ≢ memory.old }
     {
         self.at_rest()?;
+        self.told();
         self.played(alloc, memory)
             .map_err(|_| NoCheckpoint::OutOfMemory)
     }

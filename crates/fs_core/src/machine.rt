@@ -7,13 +7,16 @@ ghost use Rattle.fs_machine.specs.declared.moves.Move.TheVariants.{Take as Takes
 ghost use Rattle.fs_machine.specs.declared.answers.Refusal.TheVariants.{OutOfMemory};
 ghost use Rattle.fs_nodes.specs.Graphs.{graph_shapes};
 ghost use Rattle.fs_nodes.specs.Stores.{graph_of};
+ghost use Rattle.fs_nodes.specs.Seen.{seen};
+ghost use Rattle.fs_locks.specs.Holding.{holder, room};
 ghost use Rattle.fs_calls.specs.Outcomes.{play, next_start};
 ghost use Rattle.fs_calls.specs.Sights.{tree_shapes};
 ghost use Rattle.fs_timeline.specs.Timeline.{IsLawful, commits};
-ghost use Rattle.fs_machine.specs.States.{Begins, Step, NoneBelow, Run, empty, begun_again};
+ghost use Rattle.fs_machine.specs.States.{Begins, Step, NoneBelow, Run, IsStart, fresh, empty, begun_again};
 ghost use Rattle.fs_core.specs.CoreValues.{state_of, IsAtRest};
 ghost use Rattle.fs_core.specs.code.Doing.{Does};
 ghost use Rattle.fs_core.specs.code.Orders.{AreListed};
+ghost use Rattle.fs_core.specs.code.Rooms.{AreBelow};
 ghost use Rattle.fs_core.specs.code.Seats.{MovesOn, PlacedOn, PlansOn};
 ghost use Rattle.fs_finish.specs.Plans.{moved_by};
 ghost use Rattle.fs_ops.specs.PlanOf.{IfFinish, move_of};
@@ -279,6 +282,32 @@ impl Core {
         }
     }
 
+    /// A core whose timeline begins at a tree that the nodes spell, with room for who holds them.
+    pub(crate) fn at(alloc: Global, start: SeqTree, store: Store, holders: Holders) -> Core
+        requires start { IsStart (seen store).limit start (graph_of store) }
+        requires most { (seen store).limit ≤ NODE_LIMIT }
+        requires free { holder holders ≡ λ n. None }
+        requires room { AreBelow (graph_of store) (room holders) }
+        ensures state { state_of result ≡ fresh (seen store).limit start (graph_of store) }
+        ensures store { result.store ≡ store }
+        ensures seats { result.seats ≡ [] }
+        ensures refusals { result.refusals ≡ 0 }
+    {
+        Core {
+            store,
+            holders,
+            seats: Vec::new(alloc),
+            begun: 0,
+            commits: 0,
+            timeline: IndexedTimeline::new(alloc),
+            ways: Vec::new(alloc),
+            starting: Vec::new(alloc),
+            order: SeatOrder::new(alloc),
+            start,
+            memory: Memory::new(),
+        }
+    }
+
     /// No nodes but the root, no seats and no entries, for at most `limit` nodes, the root included, and a tree of these
     /// limits. The only error is out of memory.
     pub fn with_limits(alloc: Global, limit: usize, limits: Limits) -> Result<Core, AllocError>
@@ -294,19 +323,7 @@ impl Core {
         // The root has number 0 and is there from the first. Room for another node is made by the begin that reserves it.
         holders.make_room(1)?;
         let start = SeqTree::with_limits(alloc, limits)?;
-        Ok(Core {
-            store,
-            holders,
-            seats: Vec::new(alloc),
-            begun: 0,
-            commits: 0,
-            timeline: IndexedTimeline::new(alloc),
-            ways: Vec::new(alloc),
-            starting: Vec::new(alloc),
-            order: SeatOrder::new(alloc),
-            start,
-            memory: Memory::new(),
-        })
+        Ok(Core::at(alloc, start, store, holders))
     }
 
     /// The same by the limits of the second version.

@@ -1,4 +1,4 @@
-use Rattle.std.proofs.Common.{◌≡◌, length, arith}
+use Rattle.std.proofs.Common.{arith}
 use Rattle.fs_core.proofs.Leasts.{least_of_listed}
 use Rattle.fs_core.proofs.machine.Core.least_under_way.Goals as goal
 

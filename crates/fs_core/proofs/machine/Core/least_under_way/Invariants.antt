@@ -1,6 +1,4 @@
-use Rattle.std.proofs.Common.{◌≡◌}
 use Rattle.fs_core.specs.code.Leasts.{IsLeastOf}
-use Rattle.fs_core.specs.code.Orders.{AreListed}
 use Rattle.fs_core.proofs.machine.Core.least_under_way.Given as goal
 
 -- of the listed seats so far
