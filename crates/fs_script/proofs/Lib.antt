@@ -5,6 +5,7 @@ pub mod Openings
 pub mod HeaderLemmas
 pub mod StartLemmas
 pub mod JournalLemmas
+pub mod TreeTexts
 pub mod PendingLemmas
 pub mod StepLemmas
 pub mod LimitLemmas

@@ -8,13 +8,15 @@ use Rattle.fs_names.specs.Limits.{name_limit, file_limit}
 use Rattle.fs_names.specs.declared.limits.Limits.{Limits}
 use Rattle.fs_names.specs.declared.kind.Kind.{Kind}
 use Rattle.fs_names.specs.declared.kind.Kind.TheVariants.{Dir}
-use Rattle.fs_calls.specs.Tree.{Tree, Node, root_tree}
-use Rattle.fs_calls.specs.Tree.{Dir as IsDir}
+use Rattle.fs_calls.specs.Tree.{Tree, Node, root_tree, look, names_in}
+use Rattle.fs_calls.specs.Tree.{Dir as IsDir, File as IsFile}
+use Rattle.fs_calls.proofs.TreeLaws.{played_trees_are_trees}
+use Rattle.fs_names.specs.declared.limits.TheConstants.{ENTRY_LIMIT}
 use Rattle.fs_calls.specs.Starts.{Start}
 use Rattle.fs_calls.specs.Sights.{has_any}
 use Rattle.fs_timeline.specs.declared.entry.Entry.{Entry}
 use Rattle.fs_seq.specs.declared.rows.Row.{Row}
-use Rattle.fs_seq.specs.Rows.{row_of, fits, is_first, is_dirs, misfit, misfit_from, node_of_kind}
+use Rattle.fs_seq.specs.Rows.{row_of, fits, is_first, is_dirs, misfit, misfit_from, node_of_kind, IsWithinLimits}
 use Rattle.fs_words.specs.Lines.{is_passed_over}
 use Rattle.fs_words.specs.Reading.{◌>>=◌, fault_at}
 use Rattle.fs_words.specs.declared.fault.ScriptFault.{ScriptFault}
@@ -268,3 +270,16 @@ read_behind limits old before rows numbers rest result (root, is_root_row, is) t
     let whole = taken.read root_tree in
     let made_of : MakesTree limits (root ∷ taken.more) numbers result = subst (λ (rs : List Row). MakesTree limits rs numbers result) (taken.added ∙ ap (λ (z : List Row). z ++ taken.more) is) makes in
     subst (λ (r : Read). MatchResult result (λ tree. r ≡ rest tree) (λ f. FailsThere f.line f.kind r)) (sym whole) (made_of rest)
+
+-- the root alone is within the limits
+pub root_within : (most : ℕ) → IsWithinLimits most root_tree
+unfolding look
+root_within most = record { tree = played_trees_are_trees.0; entries = few; bytes = none }
+  where
+    few : (d : Key) → length (names_in root_tree d) ≤ ENTRY_LIMIT
+    few [] = omega arith
+    few (x ∷ d) = omega arith
+
+    none : (k : Key) (bytes : List ℕ) → look root_tree k ≡ Some (IsFile bytes) → length bytes ≤ most
+    none [] bytes e = absurd (let dir : ◌≡◌ {A = Option Node} (Some IsDir) (Some (IsFile bytes)) = e in cc)
+    none (x ∷ k) bytes e = absurd (let missing : ◌≡◌ {A = Option Node} None (Some (IsFile bytes)) = e in cc)

@@ -1,5 +1,5 @@
 -- Journals that start at a tree, by either set of limits: how one is written, and what reading one gives.
-use Rattle.std.specs.Prelude.{ℕ, ◌+◌, Bool, true, not, ◌==◌, List, [], ◌∷◌, ◌++◌, length, Result, Ok, Err, if◌then◌else◌, codes}
+use Rattle.std.specs.Prelude.{ℕ, ◌+◌, ◌-◌, slice_index, take, drop, Bool, true, not, ◌==◌, List, [], ◌∷◌, ◌++◌, length, Result, Ok, Err, if◌then◌else◌, codes}
 use Rattle.std.specs.List.{flat_map, join_with_byte, slice_split}
 use Rattle.std.specs.Str.{bytes_eq}
 use Rattle.fs_names.specs.Keys.{Key}
@@ -107,3 +107,37 @@ started_or limits text other =
 -- what reading a journal text gives, of any version: its start, and its entries
 unfoldable pub journal_of : List ℕ → Read
 journal_of text = started_or V2 text (started_or V1 text (with_start (root_start V1) (entries_of text)))
+
+-- ---- a tree alone
+
+-- whether bytes end with the end of a line
+abbrev pub ends_line : List ℕ → Bool
+ends_line bytes = slice_index bytes (length bytes - 1) == 10
+
+-- the end of a last line that has none
+abbrev pub line_end : List ℕ → List ℕ
+line_end bytes = if length bytes == 0 then [] else if ends_line bytes then [] else codes "\n"
+
+-- the journal without entries that starts at the tree of these lines
+abbrev pub nodes_journal : Limits → List ℕ → List ℕ
+nodes_journal limits nodes = started_header limits ++ codes "\nstart\n" ++ nodes ++ line_end nodes ++ codes "entries\n"
+
+-- its start, where each line of a fault is one less, since a tree has one line before its nodes and a journal two
+abbrev pub start_read : Read → Result Start ScriptFault
+start_read (Ok read) = Ok (read.0)
+start_read (Err f) = Err (fault_at (f.line - 1) f.kind)
+
+-- what reading the text of a tree by these limits gives: the start of the journal of its nodes
+unfoldable pub tree_of : Limits → List ℕ → Result Start ScriptFault
+tree_of limits text =
+    if bytes_eq (take 5 text) (codes "tree\n") then start_read (journal_of (nodes_journal limits (drop 5 text))) else Err (fault_at 1 kind.BadHeader)
+
+-- the start at which a journal by these limits begins: one by others has another first line
+abbrev pub by_limits : Limits → Read → Result Start ScriptFault
+by_limits limits (Ok read) = if name_limit limits == name_limit read.0.limits then Ok (read.0) else Err (fault_at 1 kind.BadHeader)
+by_limits limits (Err f) = Err f
+
+-- what reading the tree gives at which something starts by these limits: from the text of a tree, or from that of a journal
+abbrev pub start_of : Limits → List ℕ → Result Start ScriptFault
+start_of limits text =
+    if bytes_eq (take 5 text) (codes "tree\n") then start_read (journal_of (nodes_journal limits (drop 5 text))) else by_limits limits (journal_of text)

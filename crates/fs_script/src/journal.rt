@@ -4,8 +4,8 @@ ghost use Rattle.std.specs.Prelude.{◌≡◌, ◌∷◌, ◌++◌, ◌==◌, �
 ghost use Rattle.std.specs.List.{slice_split, join_with_byte};
 ghost use Rattle.std.specs.Str.{bytes_eq};
 ghost use Rattle.fs_names.specs.Reading.{is_slash};
-ghost use Rattle.fs_names.specs.Limits.{name_limit};
-ghost use Rattle.fs_seq.specs.Rows.{key_of, node_of_kind, row_of, is_first};
+ghost use Rattle.fs_names.specs.Limits.{file_limit, name_limit};
+ghost use Rattle.fs_seq.specs.Rows.{key_of, node_of_kind, row_of, is_first, IsWithinLimits};
 ghost use Rattle.fs_names.specs.declared.limits.Limits.TheVariants.{V1};
 ghost use Rattle.fs_calls.specs.Tree.{root_tree};
 ghost use Rattle.fs_calls.specs.Starts.{root_start};
@@ -254,7 +254,8 @@ fn tree_of(
     lines: &Lines<'_>,
 ) -> Result<SeqTree, ScriptFault>
     requires { AreNumbered rows.now numbers.now }
-    ensures { MakesTree limits rows.now numbers.now result }
+    ensures tree { MakesTree limits rows.now numbers.now result }
+    ensures within { IfOk result (λ start. IsWithinLimits (file_limit start.limits) start.tree) }
 {
     match SeqTree::from_rows(alloc, rows, limits) {
         Ok(tree) => Ok(tree),
@@ -270,7 +271,8 @@ fn with_entries(
     end: End,
     lines: Lines<'_>,
 ) -> Result<Journal, ScriptFault>
-    ensures { GivesText journal_seen result (read_end end lines.entry start) }
+    ensures read { GivesText journal_seen result (read_end end lines.entry start) }
+    ensures start { IfOk result (λ journal. journal.start ≡ start) }
 {
     match end {
         End::Entries => {
@@ -283,7 +285,8 @@ fn with_entries(
 
 /// The journal of the lines behind the one of the root.
 fn behind_root(alloc: Global, limits: Limits, lines: Lines<'_>) -> Result<Journal, ScriptFault>
-    ensures { GivesText journal_seen result (started_from limits root_tree lines.entry.number lines.entry.lines) }
+    ensures read { GivesText journal_seen result (started_from limits root_tree lines.entry.number lines.entry.lines) }
+    ensures within { IfOk result (λ journal. IsWithinLimits (file_limit journal.start.limits) journal.start.tree) }
 {
     let mut left = lines;
     let mut numbers = Vec::new(alloc);
@@ -301,7 +304,8 @@ fn behind_root(alloc: Global, limits: Limits, lines: Lines<'_>) -> Result<Journa
 
 /// The journal of the lines behind a header that announces a start tree.
 fn started(alloc: Global, limits: Limits, lines: Lines<'_>) -> Result<Journal, ScriptFault>
-    ensures { GivesText journal_seen result (behind_line (codes "start") (behind_line (codes "dir /") (started_from limits root_tree)) lines.entry.number lines.entry.lines) }
+    ensures read { GivesText journal_seen result (behind_line (codes "start") (behind_line (codes "dir /") (started_from limits root_tree)) lines.entry.number lines.entry.lines) }
+    ensures within { IfOk result (λ journal. IsWithinLimits (file_limit journal.start.limits) journal.start.tree) }
 {
     let mut left = lines;
     if let Err(fault) = expect(&mut left, b"start") {
@@ -315,7 +319,8 @@ fn started(alloc: Global, limits: Limits, lines: Lines<'_>) -> Result<Journal, S
 
 /// The journal of a text of the first version, which starts at the root alone.
 fn from_root(alloc: Global, text: &[u8]) -> Result<Journal, ScriptFault>
-    ensures { GivesText journal_seen result (with_start (root_start V1) (entries_of text.now)) }
+    ensures read { GivesText journal_seen result (with_start (root_start V1) (entries_of text.now)) }
+    ensures within { IfOk result (λ journal. IsWithinLimits (file_limit journal.start.limits) journal.start.tree) }
 {
     let entries = match read_entries(alloc, text) {
         Ok(entries) => entries,
@@ -332,7 +337,8 @@ fn from_root(alloc: Global, text: &[u8]) -> Result<Journal, ScriptFault>
 
 /// The journal of a text of the first version or the second, which have the first set of limits.
 fn by_first_limits(alloc: Global, text: &[u8]) -> Result<Journal, ScriptFault>
-    ensures { GivesText journal_seen result (started_or V1 text.now (with_start (root_start V1) (entries_of text.now))) }
+    ensures read { GivesText journal_seen result (started_or V1 text.now (with_start (root_start V1) (entries_of text.now))) }
+    ensures within { IfOk result (λ journal. IsWithinLimits (file_limit journal.start.limits) journal.start.tree) }
 {
     match Lines::behind_header(text, b"atomfs-journal 2") {
         Ok(lines) => started(alloc, Limits::V1, lines),
@@ -340,9 +346,11 @@ fn by_first_limits(alloc: Global, text: &[u8]) -> Result<Journal, ScriptFault>
     }
 }
 
-/// Reads a journal of any version, with its start tree. The fault is the first from the left, with its line.
+/// Reads a journal of any version, with its start tree, which is within its limits. The fault is the first from the left, with
+/// its line.
 pub fn read_journal(alloc: Global, text: &[u8]) -> Result<Journal, ScriptFault>
-    ensures { GivesText journal_seen result (journal_of text.now) }
+    ensures read { GivesText journal_seen result (journal_of text.now) }
+    ensures within { IfOk result (λ journal. IsWithinLimits (file_limit journal.start.limits) journal.start.tree) }
 {
     match Lines::behind_header(text, b"atomfs-journal 3") {
         Ok(lines) => started(alloc, Limits::V2, lines),

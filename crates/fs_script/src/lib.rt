@@ -24,6 +24,7 @@ mod opening;
 mod reading;
 pub mod script;
 mod tree;
+mod tree_text;
 
 pub use fs_text::{FaultKind, ScriptFault, read_entries, write_entry};
 pub use journal::{Journal, read_journal};
@@ -31,3 +32,4 @@ pub use opening::write_opening;
 pub use reading::read_script;
 pub use script::{CallLists, Script, ThreadNames, Word, WordList};
 pub use tree::write_tree;
+pub use tree_text::{read_start, read_tree};

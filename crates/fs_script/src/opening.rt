@@ -31,7 +31,7 @@ fn push_rows(alloc: Global, rows: &[Row], line: &mut Addition) -> Result<(), All
 }
 
 /// The first line of a journal that tells its start tree.
-fn started_header(limits: Limits) -> &'static [u8]
+pub(crate) fn started_header(limits: Limits) -> &'static [u8]
     ensures { result.now ≡ started_header limits }
 {
     match limits {

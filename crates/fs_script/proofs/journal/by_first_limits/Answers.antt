@@ -7,11 +7,11 @@ use Rattle.fs_script.specs.code.Starts.{journal_seen}
 use Rattle.fs_script.proofs.HeaderLemmas.{told_by, other_first}
 use Rattle.fs_script.proofs.journal.by_first_limits.Goals as goal
 
-pub returns-in-Ok : goal.returns-in-Ok
-returns-in-Ok c =
+pub returns-in-Ok-clause-read : goal.returns-in-Ok-clause-read
+returns-in-Ok-clause-read c =
     subst (λ (r : Read). GivesText journal_seen c.started.result r)
     (ap (λ n. behind_line (codes "start") (behind_line (codes "dir /") (started_from V1 root_tree)) n c.in-Ok.lines.lines) c.in-Ok.ensures.0 ∙ sym (told_by V1 c.args.text.now _ c.in-Ok.lines.lines c.in-Ok.ensures.1))
-    c.started.ensures
+    c.started.ensures.read
 
-pub returns-in-Err : goal.returns-in-Err
-returns-in-Err c = subst (λ (r : Read). GivesText journal_seen c.from_root.result r) (sym (other_first c.args.text.now c.in-Err.field-0 c.in-Err.ensures)) c.from_root.ensures
+pub returns-in-Err-clause-read : goal.returns-in-Err-clause-read
+returns-in-Err-clause-read c = subst (λ (r : Read). GivesText journal_seen c.from_root.result r) (sym (other_first c.args.text.now c.in-Err.field-0 c.in-Err.ensures)) c.from_root.ensures.read
