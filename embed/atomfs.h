@@ -7,8 +7,9 @@
  *   - an open handle owns its tree and its journal until atomfs_close, which frees both. Nothing else frees memory of it;
  *   - a pointer leads to as many bytes as its length says, and no two pointers of one call overlap.
  *
- * Pointers: null is allowed where the length beside it is 0. Any other null answers ATOMFS_NULL, and a length of 2^63 and
- * more ATOMFS_BAD_LENGTH: any function may answer these two, and has done nothing then.
+ * Pointers: null is allowed where the length beside it is 0, and where a call's number would go, which is not told then. Any
+ * other null answers ATOMFS_NULL, and a length of 2^63 and more ATOMFS_BAD_LENGTH: any function may answer these two, and has
+ * done nothing then.
  *
  * A text or bytes are written to out, which has room for so many bytes, and *count is their length, with no byte 0 behind
  * them. Where out is too small it is left as it was and *count is the length that is needed; nothing is lost, and the same
@@ -221,6 +222,28 @@ uint8_t atomfs_write(atomfs *fs, uint64_t seat, const char *path, size_t length,
 
 /* Cuts a file to a size, or adds zeros up to it. */
 uint8_t atomfs_truncate(atomfs *fs, uint64_t seat, const char *path, size_t length, uint64_t size, uint64_t *number);
+
+/* ---- Whole files and branches, by several calls each
+ *
+ * Each makes typed calls on a seat, one behind the other, and answers the first error among them. It is C over the proved
+ * functions, tested and not proved. A handle is used by one call at a time, so nothing comes between these calls. Each answers
+ * beside what is said with it:
+ * WAITS, where its first call is under way on the seat: once atomfs_step has brought that to its return, ask again.
+ * CLOSED, NO_SEAT, SEAT_BUSY and BAD_PATH, where no call was made; NO_MEMORY, by which alone something half-done can stay. */
+
+/* Reads all bytes of a file, by stat and read. OK, TOO_SMALL, ATOMFS_FAILED + an error. */
+uint8_t atomfs_read_file(atomfs *fs, uint64_t seat, const char *path, size_t length, void *out, size_t room,
+                         size_t *count);
+
+/* Lets a file have these bytes and no others, and makes it where it is missing: by write and truncate, or write, mknod and
+ * write. OK; FULL, ATOMFS_FAILED + an error, where the tree is as before. */
+uint8_t atomfs_write_file(atomfs *fs, uint64_t seat, const char *path, size_t length, const void *bytes,
+                          size_t bytes_length);
+
+/* Makes a directory and those above it that are missing, as `mkdir -p`, by a stat and a mkdir for each. OK, where it was there
+ * too; ATOMFS_FAILED + EEXIST, where a file stands at the path, and + ENOTDIR, where one stands above it; FULL, and
+ * ATOMFS_FAILED + another error. By any but OK the tree is as before. */
+uint8_t atomfs_mkdirs(atomfs *fs, uint64_t seat, const char *path, size_t length);
 
 /* ---- Calls step by step */
 

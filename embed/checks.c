@@ -3,7 +3,7 @@
  * The proved functions take references, which C cannot be held to: that no pointer is null, and that no length passes half
  * of the memory that a program can have. This file answers such calls by a status, hands the others on, and gives words for
  * statuses. Nothing here is proved, so it decides nothing else. embed/build gives the proved functions the names below. */
-#include "atomfs.h"
+#include "checks.h"
 
 #define PROVED(name) proved_atomfs_##name
 
@@ -52,41 +52,22 @@ static const void *from(const void *bytes) { return bytes != NULL ? bytes : &not
 
 static void *into(void *bytes) { return bytes != NULL ? bytes : &nothing; }
 
-/* Whether a status is a refusal; used as `if (refused(status = ..)) return status;`. */
-static int refused(uint8_t status) { return status != ATOMFS_OK; }
-
-static uint8_t there(const void *pointer) { return pointer != NULL ? ATOMFS_OK : ATOMFS_NULL; }
-
-static uint8_t bytes_there(const void *bytes, size_t length) {
-    if (length > SIZE_MAX / 2) return ATOMFS_BAD_LENGTH;
-    return length == 0 ? ATOMFS_OK : there(bytes);
-}
-
-/* Of a function that tells bytes of a handle. */
-static uint8_t may_tell(const atomfs *fs, const void *out, size_t room, const size_t *count) {
-    uint8_t status;
-    if (refused(status = there(fs)) || refused(status = bytes_there(out, room))) return status;
-    return there(count);
-}
-
 /* Of a function that runs or begins a call whose path, or whose line, has these bytes. */
-static uint8_t may_call(const atomfs *fs, const void *bytes, size_t length, const uint64_t *number) {
-    uint8_t status;
-    if (refused(status = there(fs)) || refused(status = bytes_there(bytes, length))) return status;
-    return there(number);
+static uint8_t may_call(const atomfs *fs, const void *bytes, size_t length) {
+    uint8_t status = there(fs);
+    return refused(status) ? status : bytes_there(bytes, length);
 }
 
 /* Of one that tells bytes too. */
 static uint8_t may_call_and_tell(const atomfs *fs, const void *bytes, size_t length, const void *out, size_t room,
-                                 const size_t *count, const uint64_t *number) {
-    uint8_t status = may_call(fs, bytes, length, number);
+                                 const size_t *count) {
+    uint8_t status = may_call(fs, bytes, length);
     return refused(status) ? status : may_tell(fs, out, room, count);
 }
 
 /* Of one that takes more bytes. */
-static uint8_t may_call_with(const atomfs *fs, const void *bytes, size_t length, const void *other, size_t other_length,
-                             const uint64_t *number) {
-    uint8_t status = may_call(fs, bytes, length, number);
+static uint8_t may_call_with(const atomfs *fs, const void *bytes, size_t length, const void *other, size_t other_length) {
+    uint8_t status = may_call(fs, bytes, length);
     return refused(status) ? status : bytes_there(other, other_length);
 }
 
@@ -113,8 +94,8 @@ uint8_t atomfs_seat(atomfs *fs, uint64_t *seat) {
 
 #define ON_PATH(name)                                                                                                  \
     uint8_t atomfs_##name(atomfs *fs, uint64_t seat, const char *path, size_t length, uint64_t *number) {              \
-        uint8_t status = may_call(fs, path, length, number);                                                           \
-        return refused(status) ? status : PROVED(name)(fs, seat, from(path), length, number);                          \
+        uint8_t status = may_call(fs, path, length);                                                                   \
+        return refused(status) ? status : PROVED(name)(fs, seat, from(path), length, NUMBER_TO(number));               \
     }
 
 ON_PATH(mkdir)
@@ -126,8 +107,9 @@ ON_PATH(begin)
 #define ON_BOTH(name)                                                                                                  \
     uint8_t atomfs_##name(atomfs *fs, uint64_t seat, const char *path, size_t length, const char *other,               \
                           size_t other_length, uint64_t *number) {                                                     \
-        uint8_t status = may_call_with(fs, path, length, other, other_length, number);                                 \
-        return refused(status) ? status : PROVED(name)(fs, seat, from(path), length, from(other), other_length, number); \
+        uint8_t status = may_call_with(fs, path, length, other, other_length);                                         \
+        if (refused(status)) return status;                                                                            \
+        return PROVED(name)(fs, seat, from(path), length, from(other), other_length, NUMBER_TO(number));               \
     }
 
 ON_BOTH(rename)
@@ -136,15 +118,16 @@ ON_BOTH(exchange)
 uint8_t atomfs_stat(atomfs *fs, uint64_t seat, const char *path, size_t length, struct atomfs_stat *stat,
                     uint64_t *number) {
     uint8_t status;
-    if (refused(status = may_call(fs, path, length, number)) || refused(status = there(stat))) return status;
-    return PROVED(stat)(fs, seat, from(path), length, stat, number);
+    if (refused(status = may_call(fs, path, length)) || refused(status = there(stat))) return status;
+    return PROVED(stat)(fs, seat, from(path), length, stat, NUMBER_TO(number));
 }
 
 #define CALL_AND_TELL(name)                                                                                            \
     uint8_t atomfs_##name(atomfs *fs, uint64_t seat, const char *bytes, size_t length, char *out, size_t room,         \
                           size_t *count, uint64_t *number) {                                                           \
-        uint8_t status = may_call_and_tell(fs, bytes, length, out, room, count, number);                               \
-        return refused(status) ? status : PROVED(name)(fs, seat, from(bytes), length, into(out), room, count, number); \
+        uint8_t status = may_call_and_tell(fs, bytes, length, out, room, count);                                       \
+        if (refused(status)) return status;                                                                            \
+        return PROVED(name)(fs, seat, from(bytes), length, into(out), room, count, NUMBER_TO(number));                 \
     }
 
 CALL_AND_TELL(readdir)
@@ -152,27 +135,28 @@ CALL_AND_TELL(call)
 
 uint8_t atomfs_read(atomfs *fs, uint64_t seat, const char *path, size_t length, uint64_t offset, void *out, size_t room,
                     size_t *count, uint64_t *number) {
-    uint8_t status = may_call_and_tell(fs, path, length, out, room, count, number);
-    return refused(status) ? status : PROVED(read)(fs, seat, from(path), length, offset, into(out), room, count, number);
+    uint8_t status = may_call_and_tell(fs, path, length, out, room, count);
+    if (refused(status)) return status;
+    return PROVED(read)(fs, seat, from(path), length, offset, into(out), room, count, NUMBER_TO(number));
 }
 
 uint8_t atomfs_write(atomfs *fs, uint64_t seat, const char *path, size_t length, uint64_t offset, const void *bytes,
                      size_t bytes_length, uint64_t *wrote, uint64_t *number) {
     uint8_t status;
-    if (refused(status = may_call_with(fs, path, length, bytes, bytes_length, number))) return status;
+    if (refused(status = may_call_with(fs, path, length, bytes, bytes_length))) return status;
     if (refused(status = there(wrote))) return status;
-    return PROVED(write)(fs, seat, from(path), length, offset, from(bytes), bytes_length, wrote, number);
+    return PROVED(write)(fs, seat, from(path), length, offset, from(bytes), bytes_length, wrote, NUMBER_TO(number));
 }
 
 uint8_t atomfs_truncate(atomfs *fs, uint64_t seat, const char *path, size_t length, uint64_t size, uint64_t *number) {
-    uint8_t status = may_call(fs, path, length, number);
-    return refused(status) ? status : PROVED(truncate)(fs, seat, from(path), length, size, number);
+    uint8_t status = may_call(fs, path, length);
+    return refused(status) ? status : PROVED(truncate)(fs, seat, from(path), length, size, NUMBER_TO(number));
 }
 
 uint8_t atomfs_begin_call(atomfs *fs, uint64_t seat, const atomfs_request *request, uint64_t *number) {
     uint8_t status;
     if (refused(status = there(request))) return status;
-    if (refused(status = may_call(fs, request->path, request->length, number))) return status;
+    if (refused(status = may_call(fs, request->path, request->length))) return status;
     int on_both = request->call == ATOMFS_CALL_RENAME || request->call == ATOMFS_CALL_EXCHANGE;
     int writes = request->call == ATOMFS_CALL_WRITE;
     const char *other = on_both ? request->other : NULL;
@@ -182,7 +166,7 @@ uint8_t atomfs_begin_call(atomfs *fs, uint64_t seat, const atomfs_request *reque
     if (refused(status = bytes_there(other, other_length))) return status;
     if (refused(status = bytes_there(bytes, bytes_length))) return status;
     return PROVED(begin_call)(fs, seat, request->call, from(request->path), request->length, from(other), other_length,
-                              request->offset, request->size, from(bytes), bytes_length, number);
+                              request->offset, request->size, from(bytes), bytes_length, NUMBER_TO(number));
 }
 
 uint8_t atomfs_step(atomfs *fs, uint64_t seat, uint8_t *did, uint64_t *about) {

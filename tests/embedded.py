@@ -23,7 +23,7 @@ import harness
 from worked import KINDS
 
 HEADER = harness.ROOT / "embed" / "atomfs.h"
-TYPED = harness.ROOT / "tests" / "typed.c"
+TESTS = harness.ROOT / "tests"
 RUN = harness.ROOT / "examples" / "embed" / "run"
 STRICT = "-Wall", "-Wextra", "-Wpedantic", "-Wconversion", "-Werror"
 LANGUAGES = (
@@ -32,7 +32,7 @@ LANGUAGES = (
     ("C++17", ("c++", "-std=c++17", "-x", "c++")),
 )
 # The parts of the library that are written in C, and what compiles them: what a later compiler refuses is an error already.
-SOURCES = "checks.c", "heap.c"
+SOURCES = "checks.c", "files.c", "heap.c"
 COMPILERS = [(name, standard) for name in ("gcc", "clang") for standard in ("c99", "c11")]
 # What examples/embed/run says of each program, in order.
 SAID = """\
@@ -67,41 +67,48 @@ def said(*words):
     return f"{done.stdout}{done.stderr}status {done.returncode}"
 
 
-class Typed(harness.Case):
-    """tests/typed.c: each call, each error, small buffers, and hostile callers."""
+class Programs(harness.Case):
+    """A program of this folder in C over the library, which says one line where all is as it is to be."""
 
-    WELL = "typed calls: as they are to be\nstatus 0"
+    SANITIZED = "-g", "-fno-sanitize-recover=all"
+    # No error, and no block that is lost or still in use.
+    MEMCHECK = "valgrind", "-q", "--leak-check=full", "--show-leak-kinds=all", "--errors-for-leak-kinds=all", "--error-exitcode=9"
 
     @classmethod
     def setUpClass(cls):
         cls.archive = built().with_name("libatomfs.a")
         cls.folder = cls.enterClassContext(tempfile.TemporaryDirectory())
 
-    def made(self, name, compiler, *flags):
-        """The program that a compiler makes of typed.c and the library."""
+    def made(self, name, compiler, *flags, archive=None):
+        """The program that a compiler makes of the source and the library."""
+        if shutil.which(compiler[0]) is None:
+            self.skipTest(f"{compiler[0]} is not on the path")
         program = f"{self.folder}/{name}"
-        words = (*compiler, *STRICT, *flags, "-I", HEADER.parent, TYPED, "-x", "none", self.archive, "-o", program)
+        words = (*compiler, *STRICT, *flags, "-I", HEADER.parent, TESTS / self.SOURCE, "-x", "none", archive or self.archive, "-o", program)
         subprocess.run(words, check=True)
         return program
 
+    def well(self, name, *words):
+        self.same(name, said(*words), f"{self.WELL}\nstatus 0")
+
     def language(self, name, compiler):
-        if shutil.which(compiler[0]) is None:
-            self.skipTest(f"{compiler[0]} is not on the path")
-        self.same(name, said(self.made(name, compiler)), self.WELL)
+        self.well(name, self.made(name, compiler))
+
+
+class Typed(Programs):
+    """tests/typed.c: each call, each error, small buffers, and hostile callers."""
+
+    SOURCE, WELL = "typed.c", "typed calls: as they are to be"
 
     def test_languages(self):
         self.each(((name, name, compiler) for name, compiler in LANGUAGES), self.language)
 
     def test_sanitized(self):
-        program = self.made("sanitized", LANGUAGES[0][1], "-g", "-fsanitize=address,undefined", "-fno-sanitize-recover=all")
-        self.same("typed.c with sanitizers", said(program), self.WELL)
+        self.well("typed.c with sanitizers", self.made("sanitized", LANGUAGES[0][1], *self.SANITIZED, "-fsanitize=address,undefined"))
 
     @unittest.skipIf(shutil.which("valgrind") is None, "valgrind is not on the path")
     def test_memcheck(self):
-        """No error, and no block that is lost or still in use."""
-        program = self.made("checked", LANGUAGES[0][1], "-g")
-        valgrind = "valgrind", "-q", "--leak-check=full", "--show-leak-kinds=all", "--errors-for-leak-kinds=all", "--error-exitcode=9"
-        self.same("typed.c under valgrind", said(*valgrind, program), self.WELL)
+        self.well("typed.c under valgrind", *self.MEMCHECK, self.made("checked", LANGUAGES[0][1], "-g"))
 
 
 class Progress(harness.Case):

@@ -1,30 +1,6 @@
 /* The typed calls of the library for C, and calls that break its rules as far as it answers them: what each answers, writes
- * and leaves. It ends with status 1 at the first answer that is another. */
-#include "atomfs.h"
-#include <stdio.h>
-#include <stdlib.h>
-#include <string.h>
-
-#define IS(found, wanted) is(#found, __LINE__, (unsigned long long)(found), (unsigned long long)(wanted))
-#define SAYS(out, count, text) says(#out, __LINE__, out, count, text, sizeof(text) - 1)
-
-static void is(const char *what, int line, unsigned long long found, unsigned long long wanted) {
-    if (found == wanted) return;
-    fprintf(stderr, "line %d: %s is %llu, and not %llu\n", line, what, found, wanted);
-    exit(1);
-}
-
-static void says(const char *what, int line, const void *out, size_t count, const char *text, size_t length) {
-    if (count == length && memcmp(out, text, length) == 0) return;
-    fprintf(stderr, "line %d: %s is another text, of %llu bytes\n", line, what, (unsigned long long)count);
-    exit(1);
-}
-
-/* Linux's numbers of the errors, which the header's statuses are to have. */
-enum { EPERM_ = 1, ENOENT_ = 2, EBUSY_ = 16, EEXIST_ = 17, ENOTDIR_ = 20, EISDIR_ = 21, EINVAL_ = 22, EFBIG_ = 27, ENOSPC_ = 28, ENOTEMPTY_ = 39 };
-
-#define PATH(text) text, sizeof(text) - 1
-#define FAILS(call, errno_) IS(call, ATOMFS_FAILED + errno_)
+ * and leaves. */
+#include "is.h"
 
 static atomfs fs = ATOMFS_INIT;
 static uint64_t seat, other_seat, number, wrote;
@@ -486,7 +462,6 @@ static void nulls(void) {
     IS(atomfs_seat(&fs, NULL), ATOMFS_NULL);
     IS(atomfs_mkdir(NULL, seat, PATH("/a"), &number), ATOMFS_NULL);
     IS(atomfs_mkdir(&fs, seat, NULL, 2, &number), ATOMFS_NULL);
-    IS(atomfs_mkdir(&fs, seat, PATH("/a"), NULL), ATOMFS_NULL);
     IS(atomfs_mkdir(&fs, seat, NULL, 0, &number), ATOMFS_BAD_PATH);
     IS(atomfs_mknod(&fs, seat, NULL, 2, &number), ATOMFS_NULL);
     IS(atomfs_unlink(&fs, seat, NULL, 2, &number), ATOMFS_NULL);
@@ -501,10 +476,18 @@ static void nulls(void) {
     IS(atomfs_read(&fs, seat, PATH("/f"), 0, NULL, 1, &count, &number), ATOMFS_NULL);
     IS(atomfs_write(&fs, seat, PATH("/f"), 0, NULL, 1, &wrote, &number), ATOMFS_NULL);
     IS(atomfs_write(&fs, seat, PATH("/f"), 0, "x", 1, NULL, &number), ATOMFS_NULL);
+    IS(atomfs_read_file(NULL, seat, PATH("/f"), out, 1, &count), ATOMFS_NULL);
+    IS(atomfs_read_file(&fs, seat, NULL, 2, out, 1, &count), ATOMFS_NULL);
+    IS(atomfs_read_file(&fs, seat, PATH("/f"), NULL, 1, &count), ATOMFS_NULL);
+    IS(atomfs_read_file(&fs, seat, PATH("/f"), out, 1, NULL), ATOMFS_NULL);
+    IS(atomfs_write_file(NULL, seat, PATH("/f"), "x", 1), ATOMFS_NULL);
+    IS(atomfs_write_file(&fs, seat, NULL, 2, "x", 1), ATOMFS_NULL);
+    IS(atomfs_write_file(&fs, seat, PATH("/f"), NULL, 1), ATOMFS_NULL);
+    IS(atomfs_mkdirs(NULL, seat, PATH("/a")), ATOMFS_NULL);
+    IS(atomfs_mkdirs(&fs, seat, NULL, 2), ATOMFS_NULL);
     IS(atomfs_begin_call(&fs, seat, NULL, &number), ATOMFS_NULL);
     IS(atomfs_begin_call(&fs, seat, &request, &number), ATOMFS_NULL);
     request.path = "/a";
-    IS(atomfs_begin_call(&fs, seat, &request, NULL), ATOMFS_NULL);
     request.call = ATOMFS_CALL_RENAME;
     request.other_length = 1;
     IS(atomfs_begin_call(&fs, seat, &request, &number), ATOMFS_NULL);
@@ -553,11 +536,121 @@ static void nulls(void) {
     IS(atomfs_rename(&fs, seat, PATH("/a"), "/b", bad, &number), ATOMFS_BAD_LENGTH);
     IS(atomfs_read(&fs, seat, PATH("/a"), 0, out, bad, &count, &number), ATOMFS_BAD_LENGTH);
     IS(atomfs_write(&fs, seat, PATH("/a"), 0, "x", bad, &wrote, &number), ATOMFS_BAD_LENGTH);
+    IS(atomfs_read_file(&fs, seat, PATH("/f"), out, bad, &count), ATOMFS_BAD_LENGTH);
+    IS(atomfs_write_file(&fs, seat, PATH("/f"), "x", bad), ATOMFS_BAD_LENGTH);
+    IS(atomfs_mkdirs(&fs, seat, "/a", bad), ATOMFS_BAD_LENGTH);
     IS(atomfs_journal(&fs, 0, out, bad, &count, &entries), ATOMFS_BAD_LENGTH);
     IS(atomfs_check("", bad, out, sizeof out, &count), ATOMFS_BAD_LENGTH);
     IS(atomfs_check_path("/", bad, ATOMFS_V1), ATOMFS_BAD_LENGTH);
     IS(atomfs_journal(&fs, 0, NULL, 0, &count, &entries), ATOMFS_OK);
     IS(entries, 0);
+    IS(atomfs_close(&fs), ATOMFS_OK);
+}
+
+/* Where a call's number is not asked for, the call is made all the same. */
+static void no_numbers(void) {
+    atomfs_request request = { ATOMFS_CALL_STAT, PATH("/"), NULL, 0, 0, 0, NULL, 0 };
+    open_fs(100);
+    IS(atomfs_mkdir(&fs, seat, PATH("/a"), NULL), ATOMFS_OK);
+    FAILS(atomfs_mkdir(&fs, seat, PATH("/a"), NULL), EEXIST_);
+    IS(atomfs_mkdir(&fs, seat, PATH("a"), NULL), ATOMFS_BAD_PATH);
+    IS(atomfs_mknod(&fs, seat, PATH("/f"), NULL), ATOMFS_OK);
+    IS(atomfs_write(&fs, seat, PATH("/f"), 0, "hello", 5, &wrote, NULL), ATOMFS_OK);
+    IS(atomfs_truncate(&fs, seat, PATH("/f"), 4, NULL), ATOMFS_OK);
+    IS(atomfs_read(&fs, seat, PATH("/f"), 0, out, sizeof out, &count, NULL), ATOMFS_OK);
+    SAYS(out, count, "hell");
+    IS(atomfs_rename(&fs, seat, PATH("/f"), PATH("/g"), NULL), ATOMFS_OK);
+    IS(atomfs_exchange(&fs, seat, PATH("/a"), PATH("/g"), NULL), ATOMFS_OK);
+    IS(atomfs_stat(&fs, seat, PATH("/g"), &stat_, NULL), ATOMFS_OK);
+    IS(stat_.is_dir, 1);
+    IS(atomfs_readdir(&fs, seat, PATH("/"), out, sizeof out, &count, NULL), ATOMFS_OK);
+    SAYS(out, count, "a\0g\0");
+    IS(atomfs_unlink(&fs, seat, PATH("/a"), NULL), ATOMFS_OK);
+    IS(atomfs_rmdir(&fs, seat, PATH("/g"), NULL), ATOMFS_OK);
+    IS(atomfs_call(&fs, seat, PATH("stat /"), out, sizeof out, &count, NULL), ATOMFS_OK);
+    SAYS(out, count, "stat dir 0");
+    IS(atomfs_begin(&fs, seat, PATH("stat /"), NULL), ATOMFS_OK);
+    IS(atomfs_mkdir(&fs, seat, PATH("/a"), NULL), ATOMFS_SEAT_BUSY);
+    step_to_return(seat);
+    IS(atomfs_begin_call(&fs, seat, &request, NULL), ATOMFS_OK);
+    step_to_return(seat);
+    IS(atomfs_mkdir(&fs, seat, PATH("/a"), &number), ATOMFS_OK);
+    IS(number, 16);
+    IS(atomfs_close(&fs), ATOMFS_OK);
+}
+
+/* Files that are read and written whole. */
+static void whole_files(void) {
+    open_fs(3);
+    FAILS(atomfs_read_file(&fs, seat, PATH("/f"), out, sizeof out, &count), ENOENT_);
+    FAILS(atomfs_write_file(&fs, seat, PATH("/d/f"), "hello", 5), ENOENT_);
+    IS(atomfs_write_file(&fs, seat, PATH("/f"), "hello", 5), ATOMFS_OK);
+    IS(atomfs_read_file(&fs, seat, PATH("/f"), out, sizeof out, &count), ATOMFS_OK);
+    SAYS(out, count, "hello");
+    IS(atomfs_write_file(&fs, seat, PATH("/f"), "a\0b", 3), ATOMFS_OK);
+    memset(out, '.', 3);
+    IS(atomfs_read_file(&fs, seat, PATH("/f"), out, 2, &count), ATOMFS_TOO_SMALL);
+    SAYS(out, count, "...");
+    IS(atomfs_read_file(&fs, seat, PATH("/f"), out, 3, &count), ATOMFS_OK);
+    SAYS(out, count, "a\0b");
+    IS(atomfs_write_file(&fs, seat, PATH("/f"), NULL, 0), ATOMFS_OK);
+    IS(atomfs_read_file(&fs, seat, PATH("/f"), NULL, 0, &count), ATOMFS_OK);
+    IS(count, 0);
+    FAILS(atomfs_read_file(&fs, seat, PATH("/"), NULL, 0, &count), EISDIR_);
+    FAILS(atomfs_write_file(&fs, seat, PATH("/"), "x", 1), EISDIR_);
+    FAILS(atomfs_read_file(&fs, seat, PATH("/f/g"), out, 3, &count), ENOTDIR_);
+    FAILS(atomfs_write_file(&fs, seat, PATH("/f/g"), "x", 1), ENOTDIR_);
+    IS(atomfs_mkdir(&fs, seat, PATH("/d"), NULL), ATOMFS_OK);
+    IS(atomfs_write_file(&fs, seat, PATH("/d/g"), "x", 1), ATOMFS_FULL);
+    IS(atomfs_write_file(&fs, seat, PATH("/f"), "full", 4), ATOMFS_OK);
+    IS(atomfs_close(&fs), ATOMFS_OK);
+}
+
+/* What is too large leaves the tree as it was, and what waits is asked again. */
+static void whole_files_later(void) {
+    static const char large[65537] = "";
+    uint64_t under_way;
+    uint8_t did;
+    open_fs(10);
+    FAILS(atomfs_write_file(&fs, seat, PATH("/f"), large, sizeof large), EFBIG_);
+    IS(atomfs_write_file(&fs, seat, PATH("/g"), "g", 1), ATOMFS_OK);
+    FAILS(atomfs_write_file(&fs, seat, PATH("/g"), large, sizeof large), EFBIG_);
+    IS(atomfs_tree(&fs, out, sizeof out, &count), ATOMFS_OK);
+    SAYS(out, count, "tree\ndir /\nfile /g 67\n");
+    IS(atomfs_write_file(&fs, seat, PATH("/f"), large, sizeof large - 1), ATOMFS_OK);
+    IS(atomfs_read_file(&fs, seat, PATH("/f"), out, sizeof out, &count), ATOMFS_TOO_SMALL);
+    IS(count, 65536);
+    IS(atomfs_begin(&fs, other_seat, PATH("mkdir /d"), NULL), ATOMFS_OK);
+    IS(atomfs_step(&fs, other_seat, &did, &under_way), ATOMFS_OK);
+    IS(did, ATOMFS_DID_TAKE);
+    IS(atomfs_write_file(&fs, seat, PATH("/g"), "hello", 5), ATOMFS_WAITS);
+    IS(atomfs_write_file(&fs, seat, PATH("/g"), "hello", 5), ATOMFS_SEAT_BUSY);
+    step_to_return(other_seat);
+    step_to_return(seat);
+    IS(atomfs_write_file(&fs, seat, PATH("/g"), "hello", 5), ATOMFS_OK);
+    IS(atomfs_read_file(&fs, seat, PATH("/g"), out, sizeof out, &count), ATOMFS_OK);
+    SAYS(out, count, "hello");
+    IS(atomfs_close(&fs), ATOMFS_OK);
+}
+
+/* Directories that are made with those above them. */
+static void branches(void) {
+    open_fs(6);
+    IS(atomfs_mkdirs(&fs, seat, PATH("/")), ATOMFS_OK);
+    IS(atomfs_mkdirs(&fs, seat, PATH("/a/b")), ATOMFS_OK);
+    IS(atomfs_mkdirs(&fs, seat, PATH("/a/b")), ATOMFS_OK);
+    IS(atomfs_mkdirs(&fs, seat, PATH("//a///c")), ATOMFS_OK);
+    IS(atomfs_mknod(&fs, seat, PATH("/f"), NULL), ATOMFS_OK);
+    FAILS(atomfs_mkdirs(&fs, seat, PATH("/f")), EEXIST_);
+    FAILS(atomfs_mkdirs(&fs, seat, PATH("/f/x/y")), ENOTDIR_);
+    IS(atomfs_mkdirs(&fs, seat, PATH("/a/d/e")), ATOMFS_FULL);
+    IS(atomfs_mkdirs(&fs, seat, PATH("/a/c")), ATOMFS_OK);
+    IS(atomfs_mkdirs(&fs, seat, PATH("/x/./y")), ATOMFS_BAD_PATH);
+    IS(atomfs_mkdirs(&fs, seat, PATH("/a/")), ATOMFS_BAD_PATH);
+    IS(atomfs_mkdirs(&fs, seat, PATH("")), ATOMFS_BAD_PATH);
+    IS(atomfs_tree(&fs, out, sizeof out, &count), ATOMFS_OK);
+    SAYS(out, count, "tree\ndir /\ndir /a\ndir /a/b\ndir /a/c\nfile /f -\n");
+    IS(atomfs_mkdirs(&fs, seat, PATH("//x")), ATOMFS_OK);
     IS(atomfs_close(&fs), ATOMFS_OK);
 }
 
@@ -579,6 +672,9 @@ static void closed(void) {
     IS(atomfs_readdir(&fs, 0, PATH("/a"), out, sizeof out, &count, &number), ATOMFS_CLOSED);
     IS(atomfs_read(&fs, 0, PATH("/a"), 0, out, sizeof out, &count, &number), ATOMFS_CLOSED);
     IS(atomfs_write(&fs, 0, PATH("/a"), 0, "x", 1, &wrote, &number), ATOMFS_CLOSED);
+    IS(atomfs_read_file(&fs, 0, PATH("/a"), out, sizeof out, &count), ATOMFS_CLOSED);
+    IS(atomfs_write_file(&fs, 0, PATH("/a"), "x", 1), ATOMFS_CLOSED);
+    IS(atomfs_mkdirs(&fs, 0, PATH("/a")), ATOMFS_CLOSED);
     IS(atomfs_begin_call(&fs, 0, &request, &number), ATOMFS_CLOSED);
     IS(atomfs_step(&fs, 0, &did, &about), ATOMFS_CLOSED);
     IS(atomfs_step_any(&fs, &number, &did, &about), ATOMFS_CLOSED);
@@ -661,6 +757,10 @@ int main(void) {
     keeps();
     texts();
     nulls();
+    no_numbers();
+    whole_files();
+    whole_files_later();
+    branches();
     closed();
     both_limits();
     words();
