@@ -2,7 +2,7 @@
  *
  * Enter at atomfs_open, atomfs_seat and the typed calls, as atomfs_mkdir. docs/EMBEDDING.md says what is proved of these
  * functions, and what a caller must keep to, since nothing checks C's side:
- *   - a handle is used by one call at a time. It may go from thread to thread, as under a mutex;
+ *   - a handle is used by one call at a time. It may go from thread to thread, as under a mutex, or by atomfs_shared_lock;
  *   - a handle is made by ATOMFS_INIT, is never copied, and its fields are never touched;
  *   - an open handle owns its tree and its journal until atomfs_close, which frees both. Nothing else frees memory of it;
  *   - a pointer leads to as many bytes as its length says, and no two pointers of one call overlap.
@@ -359,6 +359,61 @@ uint8_t atomfs_run(const char *script, size_t length, char *out, size_t room, si
 /* Checks a journal, and tells the verdict's line, as `atomfs check` prints it.
  * OK, TOO_SMALL, NO_MEMORY, and the faults of a journal, where *count is the line of the fault. */
 uint8_t atomfs_check(const char *journal, size_t length, char *out, size_t room, size_t *count);
+
+/* ---- A tree that threads share
+ *
+ * This part is C over the proved functions, tested and not proved. Link with -pthread.
+ *
+ * A shared tree has a lock of its own, and each thread has a session in it, with a seat of its own. A call of a session takes
+ * the lock for its begin and for each of its steps, and lets it go between them: so calls of several sessions overlap, and a
+ * rename helps those below what it moves. A call that wants a node which another call holds sleeps until that one lets a node
+ * go. Some call always goes on, so each of them returns. No thread is cancelled in a call.
+ *
+ * Both are null while they are closed: atomfs_shared *shared = NULL; atomfs_session *session = NULL; */
+typedef struct atomfs_shared atomfs_shared;
+typedef struct atomfs_session atomfs_session;
+
+/* Opens a tree, as atomfs_open_with. OK; ALREADY_OPEN, where *shared is not null; BAD_LIMIT, BAD_VERSION, NO_MEMORY. */
+uint8_t atomfs_shared_open(atomfs_shared **shared, size_t limit, uint8_t version);
+
+/* Closes a tree, which no other thread may use any more, and ends its sessions. OK, CLOSED, UNDER_WAY. */
+uint8_t atomfs_shared_close(atomfs_shared **shared);
+
+/* Adds a session. *seat, unless seat is null, is the number of its seat: a new one, or that of a session that has ended.
+ * OK; ALREADY_OPEN, where *session is not null; CLOSED, NO_MEMORY. */
+uint8_t atomfs_shared_session(atomfs_shared *shared, atomfs_session **session, uint64_t *seat);
+
+/* Ends a session. OK; SEAT_BUSY, where its call is under way; NO_SEAT, where it has ended. */
+uint8_t atomfs_shared_end(atomfs_session **session);
+
+/* Waits until no call is under way, and lends the handle to this thread; calls that would begin wait for its
+ * atomfs_shared_unlock. So *fs is at rest, for all that can be asked of a handle, for checkpoints, and for calls on a seat of
+ * atomfs_seat that nothing is to come between. Meanwhile the thread calls no session; it leaves no call under way, and does
+ * not close *fs. OK, CLOSED. */
+uint8_t atomfs_shared_lock(atomfs_shared *shared, atomfs **fs);
+
+/* Gives the handle back. OK, CLOSED. */
+uint8_t atomfs_shared_unlock(atomfs_shared *shared);
+
+/* The typed calls, on a session. Each answers what the one of its name does, but never WAITS: it sleeps. SEAT_BUSY, where
+ * another thread has a call under way on the session. */
+uint8_t atomfs_shared_mkdir(atomfs_session *session, const char *path, size_t length, uint64_t *number);
+uint8_t atomfs_shared_mknod(atomfs_session *session, const char *path, size_t length, uint64_t *number);
+uint8_t atomfs_shared_unlink(atomfs_session *session, const char *path, size_t length, uint64_t *number);
+uint8_t atomfs_shared_rmdir(atomfs_session *session, const char *path, size_t length, uint64_t *number);
+uint8_t atomfs_shared_rename(atomfs_session *session, const char *path, size_t length, const char *other,
+                             size_t other_length, uint64_t *number);
+uint8_t atomfs_shared_exchange(atomfs_session *session, const char *path, size_t length, const char *other,
+                               size_t other_length, uint64_t *number);
+uint8_t atomfs_shared_stat(atomfs_session *session, const char *path, size_t length, struct atomfs_stat *stat,
+                           uint64_t *number);
+uint8_t atomfs_shared_readdir(atomfs_session *session, const char *path, size_t length, char *out, size_t room,
+                              size_t *count, uint64_t *number);
+uint8_t atomfs_shared_read(atomfs_session *session, const char *path, size_t length, uint64_t offset, void *out,
+                           size_t room, size_t *count, uint64_t *number);
+uint8_t atomfs_shared_write(atomfs_session *session, const char *path, size_t length, uint64_t offset, const void *bytes,
+                            size_t bytes_length, uint64_t *wrote, uint64_t *number);
+uint8_t atomfs_shared_truncate(atomfs_session *session, const char *path, size_t length, uint64_t size, uint64_t *number);
 
 /* ---- Paths, without a handle */
 

@@ -1,5 +1,5 @@
-"""The library for C as it is built: its typed calls, and calls that break its rules as far as it answers them (typed.c), that some call always goes on,
-why bytes are no path, its header, what it exports and what is packed; the programs of examples/embed in C, Rust and Python, and the examples of
+"""The library for C as it is built: its typed calls, and calls that break its rules as far as it answers them (typed.c), a tree that threads share
+(shared.c), that some call always goes on, why bytes are no path, its header, what it exports and what is packed; the programs of examples/embed in C, Rust and Python, and the examples of
 docs/EMBEDDING.md and of the packages' pages.
 
 With LIBATOMFS the programs of this folder take another library: its shared object, beside which the archive stands.
@@ -32,7 +32,7 @@ LANGUAGES = (
     ("C++17", ("c++", "-std=c++17", "-x", "c++")),
 )
 # The parts of the library that are written in C, and what compiles them: what a later compiler refuses is an error already.
-SOURCES = "checks.c", "files.c", "heap.c"
+SOURCES = "checks.c", "files.c", "shared.c", "heap.c"
 COMPILERS = [(name, standard) for name in ("gcc", "clang") for standard in ("c99", "c11")]
 # What examples/embed/run says of each program, in order.
 SAID = """\
@@ -84,7 +84,7 @@ class Programs(harness.Case):
         if shutil.which(compiler[0]) is None:
             self.skipTest(f"{compiler[0]} is not on the path")
         program = f"{self.folder}/{name}"
-        words = (*compiler, *STRICT, *flags, "-I", HEADER.parent, TESTS / self.SOURCE, "-x", "none", archive or self.archive, "-o", program)
+        words = (*compiler, *STRICT, *flags, "-pthread", "-I", HEADER.parent, TESTS / self.SOURCE, "-x", "none", archive or self.archive, "-o", program)
         subprocess.run(words, check=True)
         return program
 
@@ -109,6 +109,35 @@ class Typed(Programs):
     @unittest.skipIf(shutil.which("valgrind") is None, "valgrind is not on the path")
     def test_memcheck(self):
         self.well("typed.c under valgrind", *self.MEMCHECK, self.made("checked", LANGUAGES[0][1], "-g"))
+
+
+class Shared(Programs):
+    """tests/shared.c: a tree that 8 threads share, in which each makes 1,000 drawn calls that overlap and help; and its journal is lawful."""
+
+    SOURCE, WELL = "shared.c", "a shared tree: as it is to be"
+
+    def test_languages(self):
+        self.each(((f"{compiler} {standard}", f"{compiler}_{standard}", (compiler, f"-std={standard}")) for compiler, standard in COMPILERS), self.language)
+
+    def counted(self, name, *flags):
+        """With embed/shared.c compiled into the program: of the library the same functions give way to those."""
+        weak = f"{self.folder}/weak.a"
+        subprocess.run(("objcopy", "--weaken", self.archive, weak), check=True)
+        return self.made(name, LANGUAGES[1][1], "-DCOUNTED", *flags, archive=weak)
+
+    def sanitized(self, sanitizer):
+        self.well(f"shared.c with the sanitizer of {sanitizer}", self.counted(sanitizer, *self.SANITIZED, f"-fsanitize={sanitizer}"))
+
+    def test_sanitized(self):
+        self.each(((sanitizer, sanitizer) for sanitizer in ("thread", "address,undefined")), self.sanitized)
+
+    @unittest.skipIf(shutil.which("valgrind") is None, "valgrind is not on the path")
+    def test_valgrind(self):
+        """Helgrind sees what threads do in the proved functions too: nothing but under the lock."""
+        program = self.counted("checked", "-g")
+        for name, words, calls in (("memcheck", self.MEMCHECK, "50"), ("helgrind", ("valgrind", "-q", "--tool=helgrind", "--error-exitcode=9"), "20")):
+            with self.subTest(name):
+                self.well(f"shared.c under {name}", *words, program, calls)
 
 
 class Progress(harness.Case):

@@ -13,6 +13,7 @@ if(NOT TARGET atomfs::static)
   add_library(atomfs::static STATIC IMPORTED)
   set_target_properties(atomfs::static PROPERTIES
     IMPORTED_LOCATION "${_atomfs_prefix}/lib/libatomfs.a"
+    INTERFACE_LINK_LIBRARIES "-pthread"
     INTERFACE_INCLUDE_DIRECTORIES "${_atomfs_prefix}/include")
 endif()
 

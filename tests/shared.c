@@ -1,0 +1,423 @@
+/* A tree that threads share, of embed/shared.c: what each function answers, and calls of threads that overlap. The argument is
+ * how many calls each thread makes.
+ *
+ * With COUNTED the source is compiled into this program, which then stands round each of its steps and each taking of its lock:
+ * it counts steps that wait and that help, lets other threads run, and has a thread stop before a step. What it counts has no
+ * lock of its own, so that a sanitizer of threads sees a step outside of the tree's. */
+#define _POSIX_C_SOURCE 200809L
+#include "is.h"
+#include <pthread.h>
+#include <sched.h>
+#include <semaphore.h>
+
+enum { THREADS = 8 };
+
+static atomfs_shared *shared;
+static atomfs_session *session, *other_session;
+static uint64_t number, wrote, seat;
+static size_t count, entries;
+static char out[20000];
+static struct atomfs_stat stat_;
+
+#ifdef COUNTED
+static uint64_t waits, helps;
+static sem_t gate, stopped, waited;
+/* How often this thread takes the lock before it stops, below 0 it never does; and how often it has taken it. */
+static _Thread_local int before_stop = -1, taken;
+
+static uint8_t counted_step(atomfs *fs, uint64_t on, uint8_t *did, uint64_t *about) {
+    uint8_t status = atomfs_step(fs, on, did, about);
+    helps += *did == ATOMFS_DID_HELP;
+    if (*did == ATOMFS_DID_WAIT) {
+        waits++;
+        sem_post(&waited);
+    }
+    return status;
+}
+
+static int passing_lock(pthread_mutex_t *lock) {
+    if (before_stop >= 0 && before_stop-- == 0) {
+        sem_post(&stopped);
+        sem_wait(&gate);
+    }
+    /* Seldom: what each costs is the time of all that runs on the machine. */
+    if (++taken % 127 == 0) sched_yield();
+    return pthread_mutex_lock(lock);
+}
+
+#define atomfs_step counted_step
+#define pthread_mutex_lock passing_lock
+#include "../embed/shared.c"
+#undef atomfs_step
+#undef pthread_mutex_lock
+#endif
+
+static void open_shared(size_t limit, uint8_t version) {
+    IS(atomfs_shared_open(&shared, limit, version), ATOMFS_OK);
+    IS(atomfs_shared_session(shared, &session, &seat), ATOMFS_OK);
+    IS(seat, 0);
+}
+
+static void close_shared(void) {
+    IS(atomfs_shared_close(&shared), ATOMFS_OK);
+    IS(shared == NULL, 1);
+    session = other_session = NULL;
+}
+
+static void each_call(void) {
+    open_shared(100, ATOMFS_V1);
+    IS(atomfs_shared_mkdir(session, PATH("/a"), &number), ATOMFS_OK);
+    IS(number, 1);
+    FAILS(atomfs_shared_mkdir(session, PATH("/a"), &number), EEXIST_);
+    IS(number, 2);
+    IS(atomfs_shared_mknod(session, PATH("/f"), NULL), ATOMFS_OK);
+    IS(atomfs_shared_write(session, PATH("/f"), 1, "hello", 5, &wrote, NULL), ATOMFS_OK);
+    IS(wrote, 5);
+    IS(atomfs_shared_read(session, PATH("/f"), 0, out, 4, &count, NULL), ATOMFS_OK);
+    SAYS(out, count, "\0hel");
+    IS(atomfs_shared_truncate(session, PATH("/f"), 3, NULL), ATOMFS_OK);
+    IS(atomfs_shared_stat(session, PATH("/f"), &stat_, NULL), ATOMFS_OK);
+    IS(stat_.is_dir, 0);
+    IS(stat_.size, 3);
+    IS(atomfs_shared_rename(session, PATH("/f"), PATH("/g"), NULL), ATOMFS_OK);
+    IS(atomfs_shared_exchange(session, PATH("/a"), PATH("/g"), NULL), ATOMFS_OK);
+    IS(atomfs_shared_readdir(session, PATH("/"), out, sizeof out, &count, NULL), ATOMFS_OK);
+    SAYS(out, count, "a\0g\0");
+    FAILS(atomfs_shared_readdir(session, PATH("/a"), out, sizeof out, &count, NULL), ENOTDIR_);
+    FAILS(atomfs_shared_readdir(session, PATH("/a"), NULL, 0, &count, NULL), ENOTDIR_);
+    FAILS(atomfs_shared_read(session, PATH("/g"), 0, out, 4, &count, NULL), EISDIR_);
+    FAILS(atomfs_shared_write(session, PATH("/x"), 0, "x", 1, &wrote, NULL), ENOENT_);
+    FAILS(atomfs_shared_stat(session, PATH("/x"), &stat_, NULL), ENOENT_);
+    IS(atomfs_shared_unlink(session, PATH("/a"), NULL), ATOMFS_OK);
+    IS(atomfs_shared_rmdir(session, PATH("/g"), &number), ATOMFS_OK);
+    IS(number, 17);
+    IS(atomfs_shared_mkdir(session, PATH("a"), NULL), ATOMFS_BAD_PATH);
+    close_shared();
+}
+
+static void sessions(void) {
+    IS(atomfs_shared_close(&shared), ATOMFS_CLOSED);
+    IS(atomfs_shared_session(shared, &session, NULL), ATOMFS_CLOSED);
+    IS(atomfs_shared_open(&shared, 0, ATOMFS_V1), ATOMFS_BAD_LIMIT);
+    IS(atomfs_shared_open(&shared, 1, 3), ATOMFS_BAD_VERSION);
+    IS(shared == NULL, 1);
+    open_shared(1, ATOMFS_V1);
+    IS(atomfs_shared_open(&shared, 1, ATOMFS_V1), ATOMFS_ALREADY_OPEN);
+    IS(atomfs_shared_session(shared, &session, NULL), ATOMFS_ALREADY_OPEN);
+    IS(atomfs_shared_session(shared, &other_session, &seat), ATOMFS_OK);
+    IS(seat, 1);
+    IS(atomfs_shared_mkdir(other_session, PATH("/a"), NULL), ATOMFS_FULL);
+    atomfs_session *ended = session;
+    IS(atomfs_shared_end(&session), ATOMFS_OK);
+    IS(session == NULL, 1);
+    IS(atomfs_shared_end(&ended), ATOMFS_NO_SEAT);
+    IS(atomfs_shared_session(shared, &session, &seat), ATOMFS_OK);
+    IS(seat, 0);
+    close_shared();
+}
+
+static void nulls(void) {
+    atomfs *fs;
+    IS(atomfs_shared_open(NULL, 1, ATOMFS_V1), ATOMFS_NULL);
+    IS(atomfs_shared_close(NULL), ATOMFS_NULL);
+    IS(atomfs_shared_lock(NULL, &fs), ATOMFS_CLOSED);
+    IS(atomfs_shared_unlock(NULL), ATOMFS_CLOSED);
+    open_shared(10, ATOMFS_V1);
+    IS(atomfs_shared_session(shared, NULL, NULL), ATOMFS_NULL);
+    IS(atomfs_shared_end(NULL), ATOMFS_NULL);
+    IS(atomfs_shared_end(&other_session), ATOMFS_NULL);
+    IS(atomfs_shared_lock(shared, NULL), ATOMFS_NULL);
+    IS(atomfs_shared_mkdir(NULL, PATH("/a"), NULL), ATOMFS_NULL);
+    IS(atomfs_shared_mkdir(session, NULL, 1, NULL), ATOMFS_NULL);
+    IS(atomfs_shared_rename(NULL, PATH("/a"), PATH("/b"), NULL), ATOMFS_NULL);
+    IS(atomfs_shared_rename(session, PATH("/a"), NULL, 1, NULL), ATOMFS_NULL);
+    IS(atomfs_shared_truncate(NULL, PATH("/a"), 0, NULL), ATOMFS_NULL);
+    IS(atomfs_shared_stat(NULL, PATH("/a"), &stat_, NULL), ATOMFS_NULL);
+    IS(atomfs_shared_stat(session, PATH("/a"), NULL, NULL), ATOMFS_NULL);
+    IS(atomfs_shared_readdir(NULL, PATH("/"), out, 1, &count, NULL), ATOMFS_NULL);
+    IS(atomfs_shared_readdir(session, PATH("/"), NULL, 1, &count, NULL), ATOMFS_NULL);
+    IS(atomfs_shared_readdir(session, PATH("/"), out, 1, NULL, NULL), ATOMFS_NULL);
+    IS(atomfs_shared_read(NULL, PATH("/"), 0, out, 1, &count, NULL), ATOMFS_NULL);
+    IS(atomfs_shared_read(session, PATH("/"), 0, NULL, 1, &count, NULL), ATOMFS_NULL);
+    IS(atomfs_shared_read(session, PATH("/"), 0, out, SIZE_MAX, &count, NULL), ATOMFS_BAD_LENGTH);
+    IS(atomfs_shared_write(NULL, PATH("/"), 0, "", 0, &wrote, NULL), ATOMFS_NULL);
+    IS(atomfs_shared_write(session, PATH("/"), 0, NULL, 1, &wrote, NULL), ATOMFS_NULL);
+    IS(atomfs_shared_write(session, PATH("/"), 0, "", 0, NULL, NULL), ATOMFS_NULL);
+    IS(atomfs_shared_lock(shared, &fs), ATOMFS_OK);
+    IS(atomfs_journal(fs, 0, NULL, 0, &count, &entries), ATOMFS_OK);
+    IS(entries, 0);
+    IS(atomfs_shared_unlock(shared), ATOMFS_OK);
+    close_shared();
+}
+
+/* A directory of as many and as long names as there may be: all are told, or none. */
+static void names(void) {
+    char path[] = "/0000000000000000000000000000000000000000000000000000000000000000";
+    size_t most = 256 * 65;
+    open_shared(300, ATOMFS_V2);
+    for (int i = 0; i < 256; i++) {
+        snprintf(path + 62, 4, "%03d", i);
+        IS(atomfs_shared_mknod(session, PATH(path), NULL), ATOMFS_OK);
+        IS(atomfs_shared_readdir(session, PATH("/"), NULL, 0, &count, NULL), ATOMFS_TOO_SMALL);
+        IS(count, 65 * ((size_t)i + 1));
+    }
+    memset(out, '.', sizeof out);
+    IS(atomfs_shared_readdir(session, PATH("/"), out, most - 1, &count, &number), ATOMFS_TOO_SMALL);
+    IS(count, most);
+    IS(out[0], '.');
+    IS(atomfs_shared_readdir(session, PATH("/"), out, most, &count, NULL), ATOMFS_OK);
+    IS(count, most);
+    for (size_t i = 0; i < most; i += 65) {
+        snprintf(path + 62, 4, "%03d", (int)(i / 65));
+        IS(strcmp(out + i, path + 1), 0);
+    }
+    IS(atomfs_shared_mkdir(session, PATH("/more"), NULL), ATOMFS_FAILED + ENOSPC_);
+    atomfs *fs;
+    IS(atomfs_shared_lock(shared, &fs), ATOMFS_OK);
+    IS(atomfs_reply_names(fs, number, NULL, 0, out, 70, &count), ATOMFS_OK);
+    IS(count, 65);
+    IS(atomfs_shared_unlock(shared), ATOMFS_OK);
+    close_shared();
+}
+
+/* ---- Calls of threads */
+
+typedef struct thread {
+    pthread_t id;
+    uint32_t drawn;
+    int calls;
+    int asks;
+} thread;
+
+static uint32_t draw(thread *self, uint32_t below) {
+    self->drawn = self->drawn * 1664525 + 1013904223;
+    return (self->drawn >> 8) % below;
+}
+
+/* A path of one to three names, of which there are three. */
+static size_t draw_path(thread *self, char *path) {
+    size_t length = 0;
+    for (uint32_t left = 1 + draw(self, 3); left > 0; left--) {
+        path[length++] = '/';
+        path[length++] = (char)('a' + draw(self, 3));
+    }
+    return length;
+}
+
+/* Makes a drawn call, and answers its status. */
+static uint8_t drawn_call(thread *self, atomfs_session *its, uint64_t *its_number) {
+    char path[8], other[8], room[64];
+    struct atomfs_stat found;
+    uint64_t its_wrote;
+    size_t its_count, length = draw_path(self, path), other_length = draw_path(self, other);
+    switch (draw(self, 16)) {
+    case 0: case 1: case 2: case 3: return atomfs_shared_mkdir(its, path, length, its_number);
+    case 4: case 5: return atomfs_shared_mknod(its, path, length, its_number);
+    case 6: return atomfs_shared_unlink(its, path, length, its_number);
+    case 7: return atomfs_shared_rmdir(its, path, length, its_number);
+    case 8: case 9: return atomfs_shared_rename(its, path, length, other, other_length, its_number);
+    case 10: return atomfs_shared_exchange(its, path, length, other, other_length, its_number);
+    case 11: return atomfs_shared_stat(its, path, length, &found, its_number);
+    case 12: return atomfs_shared_readdir(its, path, length, room, sizeof room, &its_count, its_number);
+    case 13: return atomfs_shared_read(its, path, length, draw(self, 9), room, sizeof room, &its_count, its_number);
+    case 14: return atomfs_shared_write(its, path, length, draw(self, 9), "bytes", 5, &its_wrote, its_number);
+    default: return atomfs_shared_truncate(its, path, length, draw(self, 9), its_number);
+    }
+}
+
+/* A thread with a session of its own. Where it asks, it asks now and then for the reply of its last call again. */
+static void *makes_calls(void *given) {
+    thread *self = given;
+    atomfs_session *its = NULL;
+    uint64_t its_number;
+    IS(atomfs_shared_session(shared, &its, NULL), ATOMFS_OK);
+    for (int i = 0; i < self->calls; i++) {
+        atomfs *fs;
+        uint8_t status = drawn_call(self, its, &its_number), again;
+        if (status != ATOMFS_OK && status < ATOMFS_FAILED) IS(status, ATOMFS_OK);
+        if (!self->asks || draw(self, 50) > 0) continue;
+        IS(atomfs_shared_lock(shared, &fs), ATOMFS_OK);
+        again = atomfs_reply_done(fs, its_number);
+        IS(atomfs_shared_unlock(shared), ATOMFS_OK);
+        if (again != ATOMFS_UNTOLD) IS(again, status);
+    }
+    IS(atomfs_shared_end(&its), ATOMFS_OK);
+    return NULL;
+}
+
+static void start(thread *threads, int calls, int asks, uint32_t seed) {
+    for (uint32_t i = 0; i < THREADS; i++) {
+        threads[i] = (thread){ .drawn = seed * THREADS + i, .calls = calls, .asks = asks };
+        IS(pthread_create(&threads[i].id, NULL, makes_calls, &threads[i]), 0);
+    }
+}
+
+static void join(thread *threads) {
+    for (int i = 0; i < THREADS; i++) IS(pthread_join(threads[i].id, NULL), 0);
+}
+
+/* The journal's text. The handle is lent. */
+static char *journal_of(atomfs *fs, size_t *length) {
+    size_t opening, lines;
+    IS(atomfs_opening(fs, NULL, 0, &opening), ATOMFS_TOO_SMALL);
+    IS(atomfs_journal(fs, 0, NULL, 0, &lines, &entries), ATOMFS_TOO_SMALL);
+    char *text = malloc(opening + lines + 1);
+    if (text == NULL) exit(1);
+    IS(atomfs_opening(fs, text, opening, &opening), ATOMFS_OK);
+    IS(atomfs_journal(fs, 0, text + opening, lines, &lines, &entries), ATOMFS_OK);
+    text[*length = opening + lines] = '\0';
+    return text;
+}
+
+/* How many calls of a journal begin where another is under way, and how many return. */
+static int overlapped(const char *text, int *returned) {
+    int under_way = 0, found = 0;
+    *returned = 0;
+    for (const char *line = text; line != NULL && *line != '\0'; line = strchr(line, '\n'), line += line != NULL) {
+        if (strncmp(line, "begin ", 6) == 0) found += under_way++ > 0;
+        if (strncmp(line, "return ", 7) == 0) under_way--, ++*returned;
+    }
+    IS(under_way, 0);
+    return found;
+}
+
+/* The threads' calls by a seed, and how many of them overlapped. */
+static int round_of_calls(int calls, uint32_t seed) {
+    thread threads[THREADS];
+    atomfs *fs;
+    uint64_t place;
+    uint8_t kind;
+    size_t length;
+    int returned;
+    IS(atomfs_shared_open(&shared, 1000, ATOMFS_V2), ATOMFS_OK);
+    start(threads, calls, 1, seed);
+    join(threads);
+    IS(atomfs_shared_lock(shared, &fs), ATOMFS_OK);
+    IS(atomfs_verdict(fs, &place, &kind), ATOMFS_OK);
+    IS(kind, ATOMFS_FAULT_NONE);
+    char *text = journal_of(fs, &length);
+    IS(atomfs_check(text, length, out, sizeof out, &count), ATOMFS_OK);
+    SAYS(out, count, "lawful\n");
+    int found = overlapped(text, &returned);
+    IS(returned, calls * THREADS);
+    free(text);
+    IS(atomfs_shared_unlock(shared), ATOMFS_OK);
+    close_shared();
+    return found;
+}
+
+/* Whether calls waited, and helped where there are many, as far as that is counted. */
+static int helped(int calls) {
+#ifdef COUNTED
+    return waits > 0 && (helps > 0 || calls < 1000);
+#else
+    return calls > 0;
+#endif
+}
+
+/* Rounds by one seed after the other, until calls overlapped and helped: at most 100. */
+static void drawn_calls(int calls) {
+    int found = 0;
+    for (uint32_t seed = 1; found == 0 || !helped(calls); seed++) {
+        IS(seed > 100, 0);
+        found += round_of_calls(calls, seed);
+    }
+}
+
+/* Checkpoints while threads make calls: none is under way at any, and each piece begins with the tree by which the last ended. */
+static void checkpoints(int calls) {
+    static const char opens[] = "atomfs-journal 3\nstart\n";
+    thread threads[THREADS];
+    uint64_t all = 0;
+    atomfs *fs;
+    char *last = NULL;
+    IS(atomfs_shared_open(&shared, 1000, ATOMFS_V2), ATOMFS_OK);
+    start(threads, calls, 0, 0);
+    while (all < (uint64_t)calls * THREADS) {
+        IS(atomfs_shared_lock(shared, &fs), ATOMFS_OK);
+        IS(atomfs_checkpoint(fs, NULL, 0, &count, &number), ATOMFS_TOO_SMALL);
+        char *text = malloc(count + 1);
+        if (text == NULL) exit(1);
+        IS(atomfs_checkpoint(fs, text, count, &count, &number), ATOMFS_OK);
+        text[count] = '\0';
+        all += number;
+        IS(strncmp(text, opens, sizeof opens - 1), 0);
+        if (last != NULL) IS(strncmp(text + sizeof opens - 1, last + 5, strlen(last + 5)), 0);
+        IS(atomfs_check(text, count, out, sizeof out, &count), ATOMFS_OK);
+        SAYS(out, count, "lawful\n");
+        free(text);
+        free(last);
+        IS(atomfs_tree(fs, NULL, 0, &count), ATOMFS_TOO_SMALL);
+        if ((last = malloc(count + 1)) == NULL) exit(1);
+        IS(atomfs_tree(fs, last, count, &count), ATOMFS_OK);
+        last[count] = '\0';
+        IS(atomfs_shared_unlock(shared), ATOMFS_OK);
+    }
+    free(last);
+    join(threads);
+    close_shared();
+}
+
+#ifdef COUNTED
+/* A thread that makes a file in /a/b, and stops once it holds /a/b alone. */
+static void *makes_file(void *given) {
+    (void)given;
+    before_stop = 6;
+    IS(atomfs_shared_mknod(session, PATH("/a/b/f"), NULL), ATOMFS_OK);
+    return NULL;
+}
+
+static void *looks(void *given) {
+    (void)given;
+    IS(atomfs_shared_stat(other_session, PATH("/z/b"), &stat_, NULL), ATOMFS_OK);
+    return NULL;
+}
+
+/* A rename above a call that stands half-way helps it, and does not wait; one that wants its node sleeps, and looks once. */
+static void helps_and_sleeps(void) {
+    pthread_t maker, looker;
+    atomfs_session *renames = NULL;
+    open_shared(10, ATOMFS_V1);
+    IS(atomfs_shared_session(shared, &other_session, NULL), ATOMFS_OK);
+    IS(atomfs_shared_session(shared, &renames, NULL), ATOMFS_OK);
+    IS(atomfs_shared_mkdir(session, PATH("/a"), NULL), ATOMFS_OK);
+    IS(atomfs_shared_mkdir(session, PATH("/a/b"), NULL), ATOMFS_OK);
+    IS(pthread_create(&maker, NULL, makes_file, NULL), 0);
+    IS(sem_wait(&stopped), 0);
+    IS(atomfs_shared_close(&shared), ATOMFS_UNDER_WAY);
+    IS(atomfs_shared_end(&session), ATOMFS_SEAT_BUSY);
+    IS(atomfs_shared_mkdir(session, PATH("/c"), NULL), ATOMFS_SEAT_BUSY);
+    IS(atomfs_shared_rename(renames, PATH("/a"), PATH("/z"), NULL), ATOMFS_OK);
+    IS(helps, 1);
+    IS(pthread_create(&looker, NULL, looks, NULL), 0);
+    IS(sem_wait(&waited), 0);
+    IS(sem_post(&gate), 0);
+    IS(pthread_join(maker, NULL), 0);
+    IS(pthread_join(looker, NULL), 0);
+    IS(waits, 1);
+    IS(stat_.size, 1);
+    atomfs *fs;
+    IS(atomfs_shared_lock(shared, &fs), ATOMFS_OK);
+    IS(atomfs_tree(fs, out, sizeof out, &count), ATOMFS_OK);
+    SAYS(out, count, "tree\ndir /\ndir /z\ndir /z/b\nfile /z/b/f -\n");
+    IS(atomfs_shared_unlock(shared), ATOMFS_OK);
+    close_shared();
+}
+#endif
+
+int main(int argc, char **argv) {
+    int calls = argc > 1 ? atoi(argv[1]) : 1000;
+    each_call();
+    sessions();
+    nulls();
+    names();
+#ifdef COUNTED
+    IS(sem_init(&gate, 0, 0) + sem_init(&stopped, 0, 0) + sem_init(&waited, 0, 0), 0);
+    helps_and_sleeps();
+    helps = waits = 0;
+#endif
+    drawn_calls(calls);
+    checkpoints(calls / 10);
+    puts("a shared tree: as it is to be");
+    return 0;
+}
