@@ -61,7 +61,7 @@ enum {
     ATOMFS_NO_MEMORY = 7,     /* out of memory */
     ATOMFS_NO_SEAT = 8,       /* there is no such seat */
     ATOMFS_SEAT_BUSY = 9,     /* the seat has a call under way */
-    ATOMFS_FULL = 10,         /* the call needs a node, and all are in use */
+    ATOMFS_FULL = 10,         /* the call needs a node, and all are in use; or a tree has more than there may be */
     ATOMFS_NO_REPLY = 11,     /* no call of this number has returned */
     ATOMFS_UNDER_WAY = 12,    /* a call is under way, the one of the least number is *number */
     ATOMFS_BAD_VERSION = 13,  /* the limits are neither ATOMFS_V1 nor ATOMFS_V2 */
@@ -166,6 +166,18 @@ uint8_t atomfs_open(atomfs *fs, size_t limit);
 /* The same by the limits of a version, ATOMFS_V1 or ATOMFS_V2. Paths, lines and files of the tree are bounded by them, and its
  * journal is of their version. OK, ALREADY_OPEN, BAD_LIMIT, BAD_VERSION, NO_MEMORY. By an error the handle stays as it was. */
 uint8_t atomfs_open_with(atomfs *fs, size_t limit, uint8_t version);
+
+/* Opens a closed handle at a tree, by the limits of a version: the text that atomfs_tree tells, or a journal of these limits, which
+ * opens at the tree at which it starts; its entries are read, and not made again. The handle has no seats and no calls, and its journal
+ * begins at that tree. It takes time by the bytes of the text.
+ * OK, ALREADY_OPEN, BAD_LIMIT, BAD_VERSION, NO_MEMORY; FULL, where the tree has more nodes than limit; a fault of the text
+ * (ATOMFS_BAD_HEADER and so on), where *line is its line, counted from 1. By an error the handle stays as it was. */
+uint8_t atomfs_open_from(atomfs *fs, size_t limit, uint8_t version, const char *text, size_t length, size_t *line);
+
+/* The same at the tree as it stands behind another handle, by its limits, without a text: a copy of its own. That handle stays as it
+ * was. OK, ALREADY_OPEN, BAD_LIMIT, NO_MEMORY; CLOSED, where the other handle is; UNDER_WAY, where *number is the least
+ * number of a call under way there; FULL, as above. By an error the handle stays as it was. */
+uint8_t atomfs_open_at(atomfs *fs, size_t limit, atomfs *other, uint64_t *number);
 
 /* Closes a handle, and frees its tree and its journal. OK, CLOSED. */
 uint8_t atomfs_close(atomfs *fs);

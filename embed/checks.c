@@ -9,6 +9,8 @@
 
 uint8_t PROVED(open)(atomfs *, size_t);
 uint8_t PROVED(open_with)(atomfs *, size_t, uint8_t);
+uint8_t PROVED(open_from)(atomfs *, size_t, uint8_t, const char *, size_t, size_t *);
+uint8_t PROVED(open_at)(atomfs *, size_t, atomfs *, uint64_t *);
 uint8_t PROVED(close)(atomfs *);
 uint8_t PROVED(seat)(atomfs *, uint64_t *);
 uint8_t PROVED(mkdir)(atomfs *, uint64_t, const char *, size_t, uint64_t *);
@@ -79,6 +81,24 @@ uint8_t atomfs_open(atomfs *fs, size_t limit) {
 uint8_t atomfs_open_with(atomfs *fs, size_t limit, uint8_t version) {
     uint8_t status = there(fs);
     return refused(status) ? status : PROVED(open_with)(fs, limit, version);
+}
+
+uint8_t atomfs_open_from(atomfs *fs, size_t limit, uint8_t version, const char *text, size_t length, size_t *line) {
+    uint8_t status;
+    if (refused(status = there(fs)) || refused(status = bytes_there(text, length)) || refused(status = there(line))) return status;
+    return PROVED(open_from)(fs, limit, version, from(text), length, line);
+}
+
+/* The proved function takes two handles. Of one that is given as both, a step on a seat that is not there says whether it is open. */
+uint8_t atomfs_open_at(atomfs *fs, size_t limit, atomfs *other, uint64_t *number) {
+    uint8_t status;
+    if (refused(status = there(fs)) || refused(status = there(other))) return status;
+    if (fs == other) {
+        uint8_t did;
+        uint64_t about;
+        return PROVED(step)(fs, UINT64_MAX, &did, &about) == ATOMFS_CLOSED ? ATOMFS_CLOSED : ATOMFS_ALREADY_OPEN;
+    }
+    return PROVED(open_at)(fs, limit, other, NUMBER_TO(number));
 }
 
 uint8_t atomfs_close(atomfs *fs) {

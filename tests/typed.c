@@ -654,6 +654,125 @@ static void branches(void) {
     IS(atomfs_close(&fs), ATOMFS_OK);
 }
 
+/* A tree that goes in by its text, or by the journal that starts at it, is the one that was told, and calls go on on it. */
+static void trees_in(void) {
+    uint8_t did;
+    uint64_t about;
+    static const char tree[] = "tree\ndir /\ndir /a\nfile /a/f 0068\ndir /b%20c\n";
+    static const char journal[] = "atomfs-journal 3\nstart\ndir /\ndir /a\nfile /a/f 0068\ndir /b%20c\nentries\n";
+    static const char first[] = "atomfs-journal 2\nstart\ndir /\ndir /a\nentries\nbegin 1 0 mkdir /b\ncommit 1\nreturn 1 ok\n";
+    IS(atomfs_open_from(&fs, 100, ATOMFS_V2, PATH(tree), &count), ATOMFS_OK);
+    IS(atomfs_tree(&fs, out, sizeof out, &count), ATOMFS_OK);
+    SAYS(out, count, tree);
+    IS(atomfs_opening(&fs, out, sizeof out, &count), ATOMFS_OK);
+    SAYS(out, count, journal);
+    IS(atomfs_step(&fs, 0, &did, &about), ATOMFS_NO_SEAT);
+    IS(atomfs_seat(&fs, &seat), ATOMFS_OK);
+    IS(seat, 0);
+    IS(atomfs_rename(&fs, seat, PATH("/a"), PATH("/b c/d"), &number), ATOMFS_OK);
+    IS(number, 1);
+    IS(atomfs_read(&fs, seat, PATH("/b c/d/f"), 0, out, sizeof out, &count, &number), ATOMFS_OK);
+    SAYS(out, count, "\0h");
+    IS(atomfs_verdict(&fs, &about, &did), ATOMFS_OK);
+    IS(did, ATOMFS_FAULT_NONE);
+    IS(atomfs_open_from(&fs, 100, ATOMFS_V2, PATH(tree), &count), ATOMFS_ALREADY_OPEN);
+    IS(atomfs_close(&fs), ATOMFS_OK);
+    IS(atomfs_open_from(&fs, 4, ATOMFS_V2, PATH(journal), &count), ATOMFS_OK);
+    IS(atomfs_seat(&fs, &seat), ATOMFS_OK);
+    IS(atomfs_mkdir(&fs, seat, PATH("/e"), &number), ATOMFS_FULL);
+    IS(atomfs_unlink(&fs, seat, PATH("/a/f"), &number), ATOMFS_OK);
+    IS(atomfs_mkdir(&fs, seat, PATH("/e"), &number), ATOMFS_OK);
+    IS(atomfs_close(&fs), ATOMFS_OK);
+    /* The calls of a journal are not made again. */
+    IS(atomfs_open_from(&fs, 100, ATOMFS_V1, PATH(first), &count), ATOMFS_OK);
+    IS(atomfs_tree(&fs, out, sizeof out, &count), ATOMFS_OK);
+    SAYS(out, count, "tree\ndir /\ndir /a\n");
+    IS(atomfs_close(&fs), ATOMFS_OK);
+    /* Empty lines, comments, and a last line without its end. */
+    IS(atomfs_open_from(&fs, 100, ATOMFS_V1, PATH("tree\n# all\n\ndir /\nfile /f -"), &count), ATOMFS_OK);
+    IS(atomfs_tree(&fs, out, sizeof out, &count), ATOMFS_OK);
+    SAYS(out, count, "tree\ndir /\nfile /f -\n");
+    IS(atomfs_close(&fs), ATOMFS_OK);
+}
+
+#define REFUSES(text, status, line)                                                                                    \
+    do {                                                                                                               \
+        count = 0;                                                                                                     \
+        IS(atomfs_open_from(&fs, 3, ATOMFS_V1, PATH(text), &count), status);                                           \
+        IS(count, line);                                                                                               \
+        IS(atomfs_seat(&fs, &seat), ATOMFS_CLOSED);                                                                    \
+    } while (0)
+
+/* What is no tree is told with its line, and the handle stays closed. */
+static void trees_refused(void) {
+    REFUSES("", ATOMFS_BAD_HEADER, 1);
+    REFUSES("tree", ATOMFS_BAD_HEADER, 1);
+    REFUSES("atomfs 1\n", ATOMFS_BAD_HEADER, 1);
+    REFUSES("atomfs-journal 3\nstart\ndir /\nentries\n", ATOMFS_BAD_HEADER, 1);
+    REFUSES("tree\n", ATOMFS_BAD_START, 2);
+    REFUSES("tree\ndir /a\n", ATOMFS_BAD_START, 2);
+    REFUSES("tree\ndir /\ndir /a\ndir /a\n", ATOMFS_BAD_START, 4);
+    REFUSES("tree\ndir /\ndir /b\ndir /a\n", ATOMFS_BAD_START, 4);
+    REFUSES("tree\ndir /\nfile /f -\ndir /f/a\n", ATOMFS_BAD_START, 4);
+    REFUSES("tree\ndir /\nfile /f 0\n", ATOMFS_BAD_START, 3);
+    REFUSES("tree\ndir /\ndir  /a\n", ATOMFS_BAD_START, 3);
+    REFUSES("tree\ndir /\ndir /012345678901234567890123456789012\n", ATOMFS_BAD_START, 3);
+    REFUSES("atomfs-journal 2\nstart\ndir /\ndir /a\n", ATOMFS_BAD_START, 5);
+    REFUSES("atomfs-journal 2\nstart\ndir /\ndir /a\nentries\nbegin\n", ATOMFS_BAD_LINE, 6);
+    REFUSES("tree\ndir /\ndir /a\ndir /a/b\ndir /c\n", ATOMFS_FULL, 0);
+    IS(atomfs_open_from(&fs, 0, ATOMFS_V1, PATH("tree\ndir /\n"), &count), ATOMFS_BAD_LIMIT);
+    IS(atomfs_open_from(&fs, ATOMFS_NODE_LIMIT + 1, ATOMFS_V1, PATH("tree\ndir /\n"), &count), ATOMFS_BAD_LIMIT);
+    IS(atomfs_open_from(&fs, 1, 3, PATH("tree\ndir /\n"), &count), ATOMFS_BAD_VERSION);
+    IS(atomfs_open_from(NULL, 1, ATOMFS_V1, PATH("tree\ndir /\n"), &count), ATOMFS_NULL);
+    IS(atomfs_open_from(&fs, 1, ATOMFS_V1, NULL, 1, &count), ATOMFS_NULL);
+    IS(atomfs_open_from(&fs, 1, ATOMFS_V1, PATH("tree\ndir /\n"), NULL), ATOMFS_NULL);
+    IS(atomfs_open_from(&fs, 1, ATOMFS_V1, "", SIZE_MAX / 2 + 1, &count), ATOMFS_BAD_LENGTH);
+}
+
+/* A second tree begins where another stands, and neither sees what the other does from then on. */
+static void second_trees(void) {
+    atomfs copy = ATOMFS_INIT, third = ATOMFS_INIT;
+    IS(atomfs_open_with(&fs, 100, ATOMFS_V2), ATOMFS_OK);
+    IS(atomfs_seat(&fs, &seat), ATOMFS_OK);
+    IS(atomfs_mkdir(&fs, seat, PATH("/a"), &number), ATOMFS_OK);
+    IS(atomfs_write_file(&fs, seat, PATH("/a/f"), "hello", 5), ATOMFS_OK);
+    IS(atomfs_open_at(&copy, 3, &fs, &number), ATOMFS_OK);
+    IS(atomfs_tree(&copy, out, sizeof out, &count), ATOMFS_OK);
+    SAYS(out, count, "tree\ndir /\ndir /a\nfile /a/f 68656c6c6f\n");
+    IS(atomfs_journal(&copy, 0, out, sizeof out, &count, &entries), ATOMFS_OK);
+    IS(entries, 0);
+    IS(atomfs_seat(&copy, &other_seat), ATOMFS_OK);
+    IS(other_seat, 0);
+    IS(atomfs_write_file(&copy, 0, PATH("/a/f"), "j", 1), ATOMFS_OK);
+    IS(atomfs_mkdir(&copy, 0, PATH("/b"), &number), ATOMFS_FULL);
+    IS(atomfs_unlink(&fs, seat, PATH("/a/f"), &number), ATOMFS_OK);
+    IS(atomfs_read_file(&copy, 0, PATH("/a/f"), out, sizeof out, &count), ATOMFS_OK);
+    SAYS(out, count, "j");
+    IS(atomfs_tree(&fs, out, sizeof out, &count), ATOMFS_OK);
+    SAYS(out, count, "tree\ndir /\ndir /a\n");
+    /* Of the copy that began at a tree, too, and by its limits. */
+    IS(atomfs_open_at(&third, 100, &copy, NULL), ATOMFS_OK);
+    IS(atomfs_opening(&third, out, sizeof out, &count), ATOMFS_OK);
+    SAYS(out, count, "atomfs-journal 3\nstart\ndir /\ndir /a\nfile /a/f 6a\nentries\n");
+    IS(atomfs_open_at(&third, 100, &copy, NULL), ATOMFS_ALREADY_OPEN);
+    IS(atomfs_open_at(&third, 100, &third, NULL), ATOMFS_ALREADY_OPEN);
+    IS(atomfs_close(&third), ATOMFS_OK);
+    IS(atomfs_open_at(&third, 100, &third, NULL), ATOMFS_CLOSED);
+    IS(atomfs_seat(&third, &other_seat), ATOMFS_CLOSED);
+    IS(atomfs_open_at(&third, 2, &copy, NULL), ATOMFS_FULL);
+    IS(atomfs_open_at(&third, 0, &copy, NULL), ATOMFS_BAD_LIMIT);
+    IS(atomfs_begin(&copy, 0, PATH("mkdir /a/g"), &number), ATOMFS_FULL);
+    IS(atomfs_begin(&copy, 0, PATH("rmdir /a"), &number), ATOMFS_OK);
+    wrote = 0;
+    IS(atomfs_open_at(&third, 100, &copy, &wrote), ATOMFS_UNDER_WAY);
+    IS(wrote, number);
+    IS(atomfs_close(&copy), ATOMFS_OK);
+    IS(atomfs_open_at(&third, 100, &copy, NULL), ATOMFS_CLOSED);
+    IS(atomfs_open_at(NULL, 100, &fs, NULL), ATOMFS_NULL);
+    IS(atomfs_open_at(&third, 100, NULL, NULL), ATOMFS_NULL);
+    IS(atomfs_close(&fs), ATOMFS_OK);
+}
+
 /* A closed handle is told to be closed, by every function with a handle. */
 static void closed(void) {
     atomfs_request request = { ATOMFS_CALL_STAT, PATH("/"), NULL, 0, 0, 0, NULL, 0 };
@@ -761,6 +880,9 @@ int main(void) {
     whole_files();
     whole_files_later();
     branches();
+    trees_in();
+    trees_refused();
+    second_trees();
     closed();
     both_limits();
     words();

@@ -1,6 +1,7 @@
 -- What exports say of the core behind a handle, and of the bytes that a caller gives.
 use Rattle.std.specs.Prelude.{◌≡◌, ◌<◌, ◌≤◌, ◌⊎◌, ℕ, eqb, if◌then◌else◌, [], Result, Ok, Err, List, Option, Some, None, IsSome, IsSomeAnd, IfSome, length}
 use Rattle.fs_calls.specs.Outcomes.{play}
+use Rattle.fs_calls.specs.Starts.{Start}
 use Rattle.fs_calls.specs.Sights.{tree_shapes}
 use Rattle.fs_nodes.specs.Graphs.{graph_shapes}
 use Rattle.fs_nodes.specs.Stores.{graph_of}
@@ -9,10 +10,12 @@ use Rattle.fs_names.specs.Keys.{Key}
 use Rattle.fs_names.specs.Limits.{name_limit}
 use Rattle.fs_names.specs.Reading.{reading}
 use Rattle.fs_names.specs.declared.fault.PathFault.{PathFault}
+use Rattle.fs_names.specs.declared.limits.TheConstants.{NODE_LIMIT}
 use Rattle.fs_names.specs.declared.limits.Limits.{Limits}
 use Rattle.fs_names.specs.declared.limits.Limits.TheVariants.{V1, V2}
-use Rattle.fs_machine.specs.States.{begun_again, empty}
+use Rattle.fs_machine.specs.States.{begun_again, empty, fresh}
 use Rattle.fs_core.specs.CoreValues.{CoreValue, state_of, IsAtRest}
+use Rattle.fs_words.specs.declared.fault.ScriptFault.{ScriptFault}
 use Rattle.fs_script.specs.Journals.{journal_text}
 use Rattle.fs_names.specs.declared.kind.Kind.{Kind}
 use Rattle.fs_names.specs.declared.kind.Kind.TheVariants.{Dir, File}
@@ -25,8 +28,8 @@ use Rattle.fs_embed.specs.Keeping.{After}
 use Rattle.fs_embed.specs.Requests.{Asked}
 use Rattle.fs_embed.specs.Texts.{IsCopied, IsReply, HasNoReply, IsShown, reply_text, names_text}
 use Rattle.fs_embed.specs.declared.calls.NotBegun.{NotBegun}
-use Rattle.fs_embed.specs.Statuses.{IsReturned, IsRefusal, failed_status, begin_status, path_status}
-use Rattle.fs_embed.specs.declared.status.TheConstants.{OK, TOO_SMALL, UNTOLD, WAITS, CLOSED, NO_MEMORY, NO_REPLY, BAD_VERSION, FAILED}
+use Rattle.fs_embed.specs.Statuses.{IsReturned, IsRefusal, failed_status, fault_status, begin_status, path_status}
+use Rattle.fs_embed.specs.declared.status.TheConstants.{OK, TOO_SMALL, UNTOLD, WAITS, CLOSED, ALREADY_OPEN, BAD_LIMIT, NO_MEMORY, FULL, NO_REPLY, BAD_VERSION, FAILED}
 use Rattle.fs_timeline.specs.declared.verdict.Verdict.{Verdict}
 use Rattle.fs_timeline.specs.declared.verdict.Verdict.TheVariants.{Lawful, Fault}
 use Rattle.fs_timeline.specs.declared.verdict.FaultKind.{FaultKind}
@@ -55,6 +58,19 @@ TellsPath (Some limits) bytes status = (status ≡ reading_status (reading (name
 -- a core before anything began, without seats
 abbrev pub IsOpened : Limits → ℕ → CoreValue → Type 0
 IsOpened limits limit core = (state_of core ≡ empty limits limit) × (core.seats ≡ [])
+
+-- a core that begins at a start, whose tree its nodes spell, without seats and entries
+abbrev pub IsOpenedAt : Start → ℕ → CoreValue → Type 0
+IsOpenedAt start limit core = (state_of core ≡ fresh limit start (graph_of core.store)) × (graph_shapes (graph_of core.store) ≡ tree_shapes start.tree) × (core.seats ≡ [])
+
+-- a status says why a handle is not opened, whatever is to be opened: it is open, or no core has this limit
+abbrev pub IsNotToOpen : Option CoreValue → ℕ → ℕ → Type 0
+IsNotToOpen held limit status = (IsSome held × (status ≡ ALREADY_OPEN)) ⊎ ((held ≡ None) × (status ≡ BAD_LIMIT) × ((limit ≡ 0) ⊎ (NODE_LIMIT < limit)))
+
+-- a status says why a handle is not opened at what was read: nothing is to be opened, the text has a fault, whose line is told, the tree has more nodes than the limit, or memory ran out
+abbrev pub IsToldStart : Result Start ScriptFault → Option CoreValue → ℕ → ℕ → ℕ → Type 0
+IsToldStart given held limit status line =
+    IsNotToOpen held limit status ⊎ ((fault : ScriptFault) × (given ≡ Err fault) × (status ≡ fault_status fault.kind) × (line ≡ fault.line)) ⊎ ((start : Start) × (given ≡ Ok start) × (status ≡ FULL) × (limit < length start.tree)) ⊎ (status ≡ NO_MEMORY)
 
 -- the handle is open before and after, and what became of the core is such
 abbrev pub Goes : (CoreValue → CoreValue → Type 0) → Option CoreValue → Option CoreValue → Type 0

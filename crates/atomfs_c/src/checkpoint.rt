@@ -41,7 +41,7 @@ pub extern "C" fn atomfs_opening(
 }
 
 /// Tells why a journal did not begin again, and the least number of a call under way.
-fn tell_why_not(why: &NoCheckpoint, number: &mut u64) -> u8
+pub fn tell_why_not(why: &NoCheckpoint, number: &mut u64) -> u8
     ensures { IsToldWhyNot why.now result number.new }
 {
     match why {

@@ -1,11 +1,11 @@
 //! Handles of C's, and the exports that open and close them.
 
-ghost use Rattle.std.specs.Prelude.{◌≡◌, ◌≢◌, ◌<◌, ◌++◌, ◌∷◌, [], ◌⊎◌, ◌↔◌, Some, None, is_some, IsSome, IsSomeAnd, MatchOption, length};
+ghost use Rattle.std.specs.Prelude.{◌≡◌, ◌≢◌, ◌<◌, ◌≤◌, ◌++◌, ◌∷◌, [], ◌⊎◌, ◌↔◌, Some, None, is_some, IsSome, IsSomeAnd, MatchOption, length};
 ghost use Rattle.fs_names.specs.declared.limits.TheConstants.{NODE_LIMIT};
 ghost use Rattle.fs_names.specs.declared.limits.Limits.TheVariants as Limits;
 ghost use Rattle.fs_core.specs.CoreValues.{state_of};
 ghost use Rattle.fs_embed.specs.Statuses.{IsOfOpen};
-ghost use Rattle.atomfs_c.specs.Exports.{IsOpened, limits_of, to_keep, Goes, ToldIfClosed, IsLawful, IsSpelled};
+ghost use Rattle.atomfs_c.specs.Exports.{IsNotToOpen, IsOpened, limits_of, to_keep, Goes, ToldIfClosed, IsLawful, IsSpelled};
 
 use crate::held::Held;
 use crate::parts::Parts;
@@ -90,6 +90,36 @@ pub fn to_keep(most: u32) -> Option<u64>
     Some(most as u64)
 }
 
+/// Gives a closed handle a core, all calls of which are kept.
+pub fn give(alloc: Global, handle: &mut Handle, core: Core) -> u8
+    ensures given { result ≡ OK → handle.new.held.core ≡ Some core }
+    ensures only { (result ≡ OK) ⊎ (result ≡ NO_MEMORY) }
+    ensures keeps_all { result ≡ OK → handle.new.most ≡ KEEP_ALL }
+    ensures refused { result ≢ OK → (handle.new.held.core ≡ handle.old.held.core) × (handle.new.most ≡ handle.old.most) }
+{
+    match Box::new(alloc, core) {
+        Ok(core) => {
+            handle.most = KEEP_ALL;
+            put(handle, core);
+            OK
+        }
+        Err(_) => NO_MEMORY,
+    }
+}
+
+/// Why a handle is not opened, before anything else is looked at: it is open, or no core has this limit.
+pub fn not_to_open(handle: &Handle, limit: usize) -> Option<u8>
+    ensures { MatchOption result ((handle.now.held.core ≡ None) × (1 ≤ limit) × (limit ≤ NODE_LIMIT)) (λ status. IsNotToOpen handle.now.held.core limit status) }
+{
+    if handle.is_open {
+        return Some(ALREADY_OPEN);
+    }
+    if limit == 0 || limit > NODE_LIMIT {
+        return Some(BAD_LIMIT);
+    }
+    None
+}
+
 /// Opens a closed handle: a core of no seats and no entries, for at most `limit` nodes, by these limits. All its calls are kept.
 fn open(alloc: Global, handle: &mut Handle, limit: usize, limits: Limits) -> u8
     ensures opened { result ≡ OK → (handle.old.held.core ≡ None) × IsSomeAnd handle.new.held.core (IsOpened limits limit) }
@@ -100,21 +130,11 @@ fn open(alloc: Global, handle: &mut Handle, limit: usize, limits: Limits) -> u8
     ensures keeps_all { result ≡ OK → handle.new.most ≡ KEEP_ALL }
     ensures refused { result ≢ OK → (CLOSED < result) × (handle.new.held.core ≡ handle.old.held.core) × (handle.new.most ≡ handle.old.most) }
 {
-    if handle.is_open {
-        return ALREADY_OPEN;
+    if let Some(status) = not_to_open(handle, limit) {
+        return status;
     }
-    if limit == 0 || limit > NODE_LIMIT {
-        return BAD_LIMIT;
-    }
-    let Ok(core) = Core::with_limits(alloc, limit, limits) else {
-        return NO_MEMORY;
-    };
-    match Box::new(alloc, core) {
-        Ok(core) => {
-            handle.most = KEEP_ALL;
-            put(handle, core);
-            OK
-        }
+    match Core::with_limits(alloc, limit, limits) {
+        Ok(core) => give(alloc, handle, core),
         Err(_) => NO_MEMORY,
     }
 }

@@ -20,6 +20,7 @@ mod held;
 mod parts;
 mod replies;
 mod runs;
+mod starting;
 mod texts;
 mod told;
 mod typed;
