@@ -32,7 +32,7 @@ fn refuse(alloc: Global, core: &mut Core, one: &Call, other: &Call) -> Result<()
 }
 
 /// Both seats go on to the returns of their calls, the second one ahead.
-fn end(core: &mut Core)
+pub fn end(core: &mut Core)
     requires { length core.old.seats ≡ 2 }
     ensures { length core.new.seats ≡ 2 }
 {

@@ -2,7 +2,7 @@
 //! each other (`names`); whether calls and replies are the same, and what texts are made of (`words`); where a walk and the
 //! heads of a rename stand, and a call that is cancelled (`walks`); the nodes, holders, commits and parts of a core (`cores`),
 //! and its checkpoints (`checkpoints`); parts of the runners, and the fault that no run ends with (`parts`); rows of trees, and
-//! a journal that begins at a tree (`rows`); files at both sets of limits (`limits`).
+//! a journal that begins at a tree (`rows`); cores that begin at one (`starts`); files at both sets of limits (`limits`).
 //!
 //! The lines of the folder `calls/` are written with their answers, as worked tables; the other modules compare.
 #![tactic(auto)]
@@ -13,6 +13,7 @@ mod limits;
 mod names;
 mod parts;
 mod rows;
+mod starts;
 mod transcript;
 mod walks;
 mod words;
@@ -31,6 +32,7 @@ pub fn run<R: Files + AllocGlobal + Print>(rt: &R) -> Result<()> {
     checkpoints::compare(alloc)?;
     parts::compare(alloc)?;
     rows::compare(alloc)?;
+    starts::compare(alloc)?;
     limits::compare(alloc)?;
     println!(rt;
         "walks, a core, parts of the runners, rows of trees, limits of files: as they should be"

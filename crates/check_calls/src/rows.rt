@@ -1,5 +1,6 @@
 //! Trees that are made of rows and told as rows again, rows that are no tree, and journals that begin at a tree.
 
+use crate::starts::core_comes_out;
 use anyhow::{Result, bail, ensure};
 use fs_calls::Call;
 use fs_journal::check_from;
@@ -10,15 +11,15 @@ use fs_timeline::{FaultKind, Verdict};
 use std::alloc::Global;
 
 /// A row as it is written: its path, its kind and its bytes.
-type Line = (&'static [u8], Kind, &'static [u8]);
+pub type Line = (&'static [u8], Kind, &'static [u8]);
 
-const ROOT: Line = (b"/", Kind::Dir, b"");
+pub const ROOT: Line = (b"/", Kind::Dir, b"");
 
-const A: Line = (b"/a", Kind::Dir, b"");
+pub const A: Line = (b"/a", Kind::Dir, b"");
 
-const A_F: Line = (b"/a/f", Kind::File, b"hi");
+pub const A_F: Line = (b"/a/f", Kind::File, b"hi");
 
-const B: Line = (b"/b", Kind::Dir, b"");
+pub const B: Line = (b"/b", Kind::Dir, b"");
 
 /// Rows, and the place of the first that no tree has there.
 const TABLE: [(&[Line], Option<usize>); 15] = [
@@ -60,7 +61,7 @@ fn row_of(alloc: Global, text: &[u8], kind: Kind, bytes: Vec<u8>) -> Result<Row>
 }
 
 /// The rows that are written so.
-fn rows_of(alloc: Global, lines: &[Line]) -> Result<Vec<Row>> {
+pub fn rows_of(alloc: Global, lines: &[Line]) -> Result<Vec<Row>> {
     let mut rows = Vec::new(alloc);
     for (path, kind, bytes) in lines {
         rows.push(row_of(alloc, path, *kind, Vec::from_slice(alloc, bytes)?)?)?;
@@ -82,7 +83,7 @@ fn are_same(told: &[Row], rows: &[Row]) -> bool {
 }
 
 /// Whether a tree tells these rows.
-fn tells(alloc: Global, tree: &SeqTree, rows: &[Row]) -> Result<bool> {
+pub fn tells(alloc: Global, tree: &SeqTree, rows: &[Row]) -> Result<bool> {
     Ok(are_same(&tree.rows(alloc)?, rows))
 }
 
@@ -101,10 +102,10 @@ fn comes_out(alloc: Global, rows: &[Row], limits: Limits, bad: Option<usize>) ->
     }
 }
 
-/// What comes of rows.
+/// What comes of rows: a tree, and a core that begins at it.
 fn compare_rows(alloc: Global, rows: &[Row], limits: Limits, bad: Option<usize>) -> Result<()> {
     ensure!(
-        comes_out(alloc, rows, limits, bad)?,
+        comes_out(alloc, rows, limits, bad)? && core_comes_out(alloc, rows, limits, bad)?,
         "the same rows, or one that is told at its place"
     );
     Ok(())

@@ -57,6 +57,12 @@ fn reply_in(entries: &[Entry]) -> Result<&Reply> {
     }
 }
 
+/// Whether a reply is the one that a text spells.
+pub fn is_reply(alloc: Global, reply: &Reply, text: &str) -> Result<bool> {
+    let due = return_of(alloc, text)?;
+    Ok(reply_in(&due)?.same(reply))
+}
+
 /// Whether two replies are the same.
 pub fn same(alloc: Global, text: &str) -> Result<String> {
     let (first, second) = sides(text)?;
