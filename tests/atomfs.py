@@ -95,6 +95,8 @@ class Library:
         for name, arguments in {
             "open": [handle, size],
             "open_with": [handle, size, ctypes.c_uint8],
+            "open_from": [handle, size, ctypes.c_uint8, *text, sizes],
+            "open_at": [handle, size, handle, numbers],
             "close": [handle],
             "seat": [handle, numbers],
             "begin": [handle, number, *text, numbers],
@@ -152,9 +154,16 @@ class Library:
 class Tree:
     """A tree of at most so many nodes, its root included, by the limits of a version. It is to be closed, as by `with`."""
 
-    def __init__(self, library, limit, version=1):
+    def __init__(self, library, limit, version=1, text=None, other=None):
+        """An empty one; one that opens at the tree of a text; or one that opens where another stands, by the limits of that."""
         self.library, self.handle = library, Handle()
-        self.done(library.atomfs_open_with(self.handle, limit, version))
+        line, number = ctypes.c_size_t(), ctypes.c_uint64()
+        if text is not None:
+            self.done(library.atomfs_open_from(self.handle, limit, version, text, len(text), line), line.value)
+        elif other is not None:
+            self.done(library.atomfs_open_at(self.handle, limit, other.handle, number), number.value)
+        else:
+            self.done(library.atomfs_open_with(self.handle, limit, version))
 
     def __enter__(self):
         return self

@@ -534,6 +534,28 @@ class Library(Case):
         rows = ("verdict", (0, 0)), ("forget", len(LISTS["one seat"]))
         self.each(((f"{name}, growth {number}", name, wanted, number) for name, wanted in rows for number in range(1, 1 + self.looked_at(name, wanted))), self.looked_at)
 
+    def begun_at(self, how, number=0):
+        """A tree that opens at another one where the growth of a number is refused, and another such: how many there are, and whether one was opened."""
+        with self.behind_calls() as tree:
+            given = {"text": tree.tree()} if how == "open_from" else {"other": tree}
+            (status, second), growths, refusals = self.refuses(number, lambda: atomfs.Tree(self.library, 100, **given))
+            self.assertIn(status, (Status.OK, Status.NO_MEMORY) if refusals else (Status.OK,))
+            if status == Status.NO_MEMORY:
+                tree.is_unchanged(how)
+                second = atomfs.Tree(self.library, 100, **given)
+            with second:
+                self.same("the tree of the second", second.tree(), tree.wanted.tree())
+                self.same("a call of the second", second.begin(second.seat(), b"stat /"), 1)
+            tree.stands()
+        return growths, status == Status.OK
+
+    def test_open_at_a_tree(self):
+        """By a text, and where another tree stands. What can do without a smaller block does so."""
+        for how in ("open_from", "open_at"):
+            growths, opened = self.begun_at(how)
+            self.assertTrue(opened)
+            self.assertFalse(all([self.begun_at(how, number)[1] for number in range(1, 1 + growths)]))
+
     def kept(self, number=0):
         """A call of a tree that forgets, where the growth of a number is refused, and another one. Whether what stood before stayed, and the call went on."""
         with self.behind_calls() as tree:
