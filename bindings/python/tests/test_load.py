@@ -1,10 +1,12 @@
 """Trees that come from directories, zips and dictionaries, and go there; snapshots, and what differs."""
+import copy
 import errno
 import io
 import os
 import pathlib
 import pickle
 import tempfile
+import threading
 import unittest
 import zipfile
 
@@ -141,6 +143,44 @@ class Texts(OfLoads):
         self.assertEqual((again.to_dict(), again.limit, again.calls), (FILES, 20, 0))
         self.assertEqual(Tree.from_text("tree\ndir /\n").to_dict(), {})
 
+    def test_begins_there(self):
+        """No call is made for it: the journal starts at the tree, whose seat 0 is this thread's."""
+        for limits, header in ((Limits.V1, "atomfs-journal 2"), (Limits.V2, "atomfs-journal 3")):
+            with self.subTest(limits):
+                text = "tree\ndir /\ndir /d\nfile /d/f 0068\n"
+                tree = self.kept(Tree.from_text(text, limits=limits))
+                self.assertEqual((tree.tree(), tree.limits, tree.calls, tree.calls_before), (text, limits, 0, 0))
+                tree.unlink("/d/f")
+                first = "start\ndir /\ndir /d\nfile /d/f 0068\nentries\nbegin 1 0 unlink /d/f\n"
+                self.assertTrue(tree.journal().startswith(f"{header}\n{first}"))
+                self.assertEqual(tree.seat().number, 1)
+
+    def test_other_orders(self):
+        """Each directory comes before what is in it, and else lines may stand in any order."""
+        tree = self.kept(Tree.from_text("tree\ndir /\nfile /b 62\ndir /%61\ndir /c\nfile /a/f -\n"))
+        self.assertEqual((tree.tree(), tree.calls), ("tree\ndir /\ndir /a\nfile /a/f -\nfile /b 62\ndir /c\n", 0))
+
+    def test_limits(self):
+        """A tree of more nodes than the limit, a name and a file that the limits do not allow, and a limit that is none."""
+        text = "tree\ndir /\ndir /a\ndir /a/b\ndir /c\n"
+        self.assertEqual(len(self.kept(Tree.from_text(text, 4))), 4)
+        with self.assertRaisesRegex(OSError, "All 3 nodes of the tree are in use: '/'") as raised:
+            Tree.from_text(text, 3)
+        self.assertEqual(raised.exception.errno, errno.ENOSPC)
+        for line, words in ((f"dir /{'n' * 33}", "Path has a name of more than 32 bytes"), (f"file /f {'00' * 65_537}", "more than 65,536 bytes")):
+            self.assertEqual(len(self.kept(Tree.from_text(f"tree\ndir /\n{line}\n"))), 2)
+            with self.assertRaisesRegex(OSError, words):
+                Tree.from_text(f"tree\ndir /\n{line}\n", limits=Limits.V1)
+        self.assertRaises(ValueError, Tree.from_text, text, 0)
+
+    def test_a_long_text(self):
+        """It may have more bytes than a script or a journal."""
+        tree = self.kept(Tree())
+        for name in "abcdefghi":
+            tree.write_bytes(f"/{name}", name.encode() * 1_048_576)
+        self.assertGreater(len(tree.tree()), 16_777_216)
+        self.assertEqual(self.kept(Tree.from_text(tree.tree())).tree(), tree.tree())
+
     def test_refused(self):
         start = "tree\ndir /\n"
         for text, kind, words in (
@@ -155,9 +195,137 @@ class Texts(OfLoads):
             (start + "file /f -\n\n", ValueError, "line 4 is none"),
             (start + "dir /a/b\n", FileNotFoundError, "/a/b"),
             (start + "dir /a/..\n", OSError, "A name of the path is . or .."),
+            (start + "# a comment\n", ValueError, "line 3 is none"),
+            ("\n" + start, ValueError, "line 1 is none"),
+            ("atomfs-journal 3\nstart\ndir /\nentries\n", ValueError, "line 1 is none"),
+            (start + "dir /\N{SNOWMAN}\n", ValueError, "line 3 is none"),
+            (start + "file /f 6A\n", ValueError, "line 3 is none"),
+            (start + "dir /a\ndir /a\n", FileExistsError, "/a"),
+            (start + "file /f -\ndir /f/a\n", NotADirectoryError, "/f/a"),
         ):
             with self.subTest(text), self.assertRaisesRegex(kind, words):
                 Tree.from_text(text)
+
+
+class Housed(Tree):
+    """A tree that has made a call before it is copied into."""
+
+    def __init__(self, *given, **more):
+        super().__init__(*given, **more)
+        self.mkdir("/home")
+
+
+class Seated(Tree):
+    """A tree that has another seat from the beginning."""
+
+    def __init__(self, *given, **more):
+        super().__init__(*given, **more)
+        self.writer = self.seat("writer")
+
+
+class Named(Tree):
+    """A tree whose copies have more than the tree."""
+
+    name = "none"
+
+    def __reduce__(self):
+        return named, (super().__reduce__(), self.name)
+
+
+def named(reduced, name):
+    make, given = reduced
+    tree = make(*given)
+    tree.name = name
+    return tree
+
+
+class Narrow(Tree):
+    """A tree with a limit of its own."""
+
+    most = 10
+
+    def __init__(self, limit=0, **more):
+        super().__init__(self.most, **more)
+
+
+COPIES = (copy.copy, copy.deepcopy, lambda tree: pickle.loads(pickle.dumps(tree)))
+
+
+class Copies(OfLoads):
+    def test_begin_there(self):
+        """No call is made for a copy: its journal starts at the tree, whose seat 0 is this thread's, and another thread has a seat of its own."""
+        tree = self.kept(Tree.from_dict(FILES, 50))
+        tree.mkdir("/new")
+        for copied in COPIES:
+            other = self.kept(copied(tree))
+            self.assertEqual((other.tree(), other.limit, other.calls, other.calls_before), (tree.tree(), 50, 0, 0))
+            other.mkdir("/c")
+            thread = threading.Thread(target=other.rmdir, args=("/c",))
+            thread.start()
+            thread.join()
+            self.assertEqual([line for line in other.journal().splitlines() if "begin" in line], ["begin 1 0 mkdir /c", "begin 2 1 rmdir /c"])
+            self.assertFalse(tree.exists("/c"))
+
+    def test_keep(self):
+        tree = self.kept(Tree(journal=atomfs.LAST(7)))
+        for copied in COPIES:
+            other = self.kept(copied(tree))
+            for _ in range(20):
+                other.stat("/")
+            self.assertEqual((other.keeps, other.calls + other.calls_before), (atomfs.LAST(7), 20))
+            self.assertLessEqual(other.calls, 8)
+
+    def test_under_way(self):
+        """While a call is under way a copy has what has been committed."""
+        tree = self.kept(Tree())
+        seats = tree.seat(), tree.seat()
+        seats[0].begin.mkdir("/a")
+        seats[1].begin.mkdir("/b")
+        while seats[0].step().did != atomfs.Did.COMMIT:
+            pass
+        for copied in COPIES:
+            self.assertEqual(list(self.kept(copied(tree))), ["/", "/a"])
+        for seat in seats:
+            seat.finish()
+
+    def test_deep(self):
+        """A path of more than 64 names, which a rename has made."""
+        tree = self.kept(Tree())
+        tree.makedirs("/a" * 40)
+        tree.makedirs("/b" * 40)
+        tree.rename("/a", "/b" * 40 + "/a")
+        for copied in (*COPIES, lambda tree: Tree.from_text(tree.tree())):
+            self.assertEqual(self.kept(copied(tree)).tree(), tree.tree())
+
+    def test_subclasses(self):
+        """What a subclass does when it is made stays done, but for its tree; and it may reduce itself."""
+        housed, seated, other = self.kept(Housed(20)), self.kept(Seated(20)), self.kept(Named(20))
+        housed.rename("/home", "/h")
+        seated.mkdir("/a")
+        other.name = "given"
+        for copied in COPIES:
+            one, two, three = (self.kept(copied(tree)) for tree in (housed, seated, other))
+            self.assertEqual((list(one), one.limit, one.calls, type(one)), (["/", "/h"], 20, 0, Housed))
+            self.assertEqual((list(two), two.writer.number, two.writer.tree is two), (["/", "/a"], 1, True))
+            two.writer.begin.mkdir("/b")
+            two.writer.finish()
+            self.assertIn("# seat 1 writer\n", two.journal())
+            self.assertEqual((three.name, type(three)), ("given", Named))
+        self.assertEqual(list(self.kept(Housed.from_text("tree\ndir /\ndir /x\n"))), ["/", "/x"])
+
+    def test_refused(self):
+        tree = self.kept(Narrow())
+        tree.makedirs("/a/b")
+        self.addCleanup(setattr, Narrow, "most", Narrow.most)
+        Narrow.most = 2
+        for copied in COPIES:
+            with self.assertRaisesRegex(OSError, "All 2 nodes of the tree are in use: '/'"):
+                copied(tree)
+        self.assertEqual(list(tree), ["/", "/a", "/a/b"])
+        closed = Tree()
+        closed.close()
+        for copied in COPIES:
+            self.assertRaises(atomfs.ClosedError, copied, closed)
 
 
 class Snapshots(OfLoads):

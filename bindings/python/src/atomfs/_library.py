@@ -159,6 +159,8 @@ _ON = [_AT, _NUMBER, *_GIVEN]
 
 _ARGUMENTS: Dict[str, List[Any]] = {
     "open_with": [_AT, _SIZE, ctypes.c_uint8],
+    "open_from": [_AT, _SIZE, ctypes.c_uint8, *_GIVEN, _AT],
+    "open_at": [_AT, _SIZE, _AT, _AT],
     "close": [_AT],
     "seat": [_AT, _AT],
     **dict.fromkeys(("mkdir", "mknod", "unlink", "rmdir"), [*_ON, _AT]),
@@ -190,7 +192,7 @@ _ARGUMENTS: Dict[str, List[Any]] = {
 
 
 # What may take long, and lets other threads of Python run meanwhile. A call takes less time than it takes to let them.
-_LONG = {"close", "journal", "checkpoint", "forget", "verdict", "tree", "run", "check"}
+_LONG = {"open_from", "open_at", "close", "journal", "checkpoint", "forget", "verdict", "tree", "run", "check"}
 
 
 class Library:

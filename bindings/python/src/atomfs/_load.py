@@ -2,6 +2,7 @@
 from __future__ import annotations
 
 import contextlib
+import ctypes
 import errno
 import os
 import re
@@ -12,7 +13,7 @@ from typing import IO, TYPE_CHECKING, Any, Callable, Dict, Iterator, List, Mappi
 from . import _rows
 from ._errors import error_at
 from ._journal import ALL, Journal
-from ._library import Limits, Status
+from ._library import Limits, Status, library
 from ._walk import parent_of
 
 if TYPE_CHECKING:
@@ -104,29 +105,77 @@ def into(tree: _Tree) -> Iterator[_Tree]:
     """A new tree that is filled: its journal begins behind that. Where it cannot be filled, it is closed."""
     try:
         yield tree
-        tree.checkpoint()
+        if tree.calls:
+            tree.checkpoint()
     except BaseException:
         tree.close()
         raise
 
 
-def of_snapshot(kind: Type[_Tree], limit: int, snapshot: Snapshot, journal: Journal = ALL) -> _Tree:
-    """A new tree of this kind that is as the snapshot, and keeps as many calls as it is told."""
-    with into(kind(limit, limits=snapshot.limits, journal=journal)) as tree:
-        restore(tree, snapshot)
+class Now:
+    """A tree as it is when a copy is made of it, which takes no text. Pickled it is a snapshot."""
+
+    def __init__(self, tree: Tree) -> None:
+        self.tree, self.limits = tree, tree.limits
+
+    def __deepcopy__(self, memo: object) -> Now:
+        return self
+
+    def __reduce__(self) -> Tuple[Type[Snapshot], Tuple[Limits, str]]:
+        return Snapshot, (self.limits, self.tree.tree())
+
+
+def of_snapshot(kind: Type[_Tree], limit: int, start: Union[Snapshot, Now], journal: Journal = ALL) -> _Tree:
+    """A new tree of this kind that is as the snapshot, or as another tree is now, and keeps as many calls as it is told."""
+    with into(kind(limit, limits=start.limits, journal=journal)) as tree:
+        if not _begun(tree, start):
+            restore(tree, _formed(start if isinstance(start, Snapshot) else start.tree.snapshot()))
     return tree
 
 
-def of_text(limits: Limits, text: str) -> Snapshot:
-    """The snapshot of a text, once each of its lines has its form."""
-    lines = text.splitlines(keepends=True)
+def _begun(tree: Tree, start: Union[Snapshot, Now]) -> bool:
+    """Whether a tree that is as it was made begins there now, by one call.
+
+    Else calls go on: a subclass has made some, a call is under way on the other tree, or the text is none that the library reads, of
+    which they tell why.
+    """
+    if start.limits is not tree.limits or not tree._is_new():
+        return False
+    status = _begun_at(tree, start.tree) if isinstance(start, Now) else _begun_from(tree, start.text)
+    if status and status != Status.UNDER_WAY and status < Status.BAD_HEADER:
+        raise error_at(tree, status, ("/",))
+    return not status
+
+
+def _begun_at(tree: Tree, other: Tree) -> int:
+    number = ctypes.c_uint64()
+    with other.lock:
+        return tree._opened_again(lambda at: library().open_at(at, tree.limit, other._at, ctypes.addressof(number)))
+
+
+def _begun_from(tree: Tree, text: str) -> int:
+    if not _is_told(text):
+        return Status.BAD_START
+    line, given = ctypes.c_size_t(), text.encode("ascii")
+    words = given, len(given), ctypes.addressof(line)
+    return tree._opened_again(lambda at: library().open_from(at, tree.limit, tree.limits.value, *words))
+
+
+def _is_told(text: str) -> bool:
+    """Whether a text may be one that a tree tells: the library reads journals, comments, empty lines and a line without its end too."""
+    return text.isascii() and text.startswith("tree\n") and text.endswith("\n") and "\n\n" not in text and "\n#" not in text
+
+
+def _formed(snapshot: Snapshot) -> Snapshot:
+    """The snapshot, once each line of its text has its form."""
+    lines = snapshot.text.splitlines(keepends=True)
     for number, line in enumerate(lines, 1):
         due = {1: "tree\\n", 2: "dir /\\n"}.get(number, "(dir /[!-~]+|file /[!-~]+ (-|(?:[0-9a-f]{2})+))\\n")
         if not re.fullmatch(due, line):
             raise ValueError(f"line {number} is none of the text of a tree")
     if len(lines) < 2:
         raise ValueError(f"line {len(lines) + 1} of the text of a tree is missing")
-    return Snapshot(limits, text)
+    return snapshot
 
 
 def put(tree: Tree, path: str, data: Node) -> None:

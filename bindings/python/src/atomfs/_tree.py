@@ -152,7 +152,27 @@ class Tree:
 
     def __reduce__(self) -> Any:
         # A copy, a deep copy and an unpickled tree begin a journal of their own at the tree as it is now.
-        return _load.of_snapshot, (self.__class__, self.limit, self.snapshot(), self.keeps)
+        return _load.of_snapshot, (self.__class__, self.limit, _load.Now(self), self.keeps)
+
+    def _is_new(self) -> bool:
+        """Whether the tree is as it was made: without calls, and with no seat but the first."""
+        did, about = ctypes.c_uint8(), ctypes.c_uint64()
+        with self.lock:
+            status = self._library.step(self._at, 1, ctypes.addressof(did), ctypes.addressof(about))
+            return status == Status.NO_SEAT and not self.calls and not self.calls_before
+
+    def _opened_again(self, opens: Callable[[int], int]) -> int:
+        """Opens another handle, which comes in the place of that of a new tree. Where it stays closed, the tree is as before."""
+        handle = Handle()
+        at = ctypes.addressof(handle)
+        if status := opens(at):
+            return status
+        with self.lock:
+            self._library.close(self._at)
+            self._handle, self._at = handle, at
+            self._mine = _seats.Mine(self._library, at, [])
+            kept: int = self._library.keep(at, self.keeps.most)
+        return kept
 
     # ---- In and out: a new tree begins its journal behind what it is filled with, and is closed where that fails
 
@@ -189,7 +209,7 @@ class Tree:
     @classmethod
     def from_text(cls: Type[_Self], text: str, limit: int = NODE_LIMIT, *, limits: Limits = Limits.V2) -> _Self:
         """A tree by its text, as `tree()` tells it. A line that is none is a `ValueError` with its number."""
-        return _load.of_snapshot(cls, limit, _load.of_text(limits, text))
+        return _load.of_snapshot(cls, limit, Snapshot(limits, text))
 
     def to_dict(self) -> Dict[str, Optional[bytes]]:
         """The bytes of each file by its path, and None by that of each empty directory: of one moment, and no call."""
