@@ -222,7 +222,7 @@ pub enum ErrorKind {
     UnderWay(u64),
     /// The path is none.
     BadPath(PathFault),
-    /// The call needs a node, and all are in use.
+    /// The call needs a node, and all are in use; or a tree has more nodes than it may have.
     Full,
     /// Out of memory.
     OutOfMemory,
@@ -236,7 +236,7 @@ pub enum ErrorKind {
     SeatBusy,
     /// The last call of the seat has not returned, or none was begun since the last checkpoint.
     NoReply,
-    /// A script or a journal is none: the status and the line.
+    /// A script, a journal or the text of a tree is none: the status and the line.
     BadText(u8, usize),
     /// The options to open a file by contradict each other, or ask for no access.
     BadOptions,

@@ -61,6 +61,20 @@ pub type OnPaths =
 
 extern "C" {
     pub fn atomfs_open_with(fs: *mut Handle, limit: usize, version: u8) -> u8;
+    pub fn atomfs_open_from(
+        fs: *mut Handle,
+        limit: usize,
+        version: u8,
+        text: *const u8,
+        length: usize,
+        line: *mut usize,
+    ) -> u8;
+    pub fn atomfs_open_at(
+        fs: *mut Handle,
+        limit: usize,
+        other: *mut Handle,
+        number: *mut u64,
+    ) -> u8;
     pub fn atomfs_close(fs: *mut Handle) -> u8;
     pub fn atomfs_seat(fs: *mut Handle, seat: *mut u64) -> u8;
 

@@ -41,6 +41,8 @@ pub struct Tree {
     id: u64,
     limit: usize,
     limits: Limits,
+    /// How many calls the journal keeps, as `keep` has said it last.
+    keeps: Journal,
     /// How many calls stand in the journal.
     calls: u64,
     /// How many there were before these.
@@ -108,16 +110,83 @@ impl Tree {
     /// # Ok::<(), atomfs::Error>(())
     /// ```
     pub fn with_limits(limit: usize, limits: Limits) -> Result<Tree, Error> {
+        let mut tree = Tree::closed(limit, limits);
+        done(unsafe { ffi::atomfs_open_with(tree.handle, limit, limits as u8) })?;
+        tree.own()?;
+        Ok(tree)
+    }
+
+    /// A tree for at most so many nodes, by its text, as [`text_of_tree`](Tree::text_of_tree) tells it by these limits, or by a journal,
+    /// at whose start it begins: the calls of that are read, and not made. Its own journal begins at what it has.
+    ///
+    /// `ErrorKind::BadText` tells the line of what is none, and `ErrorKind::Full` that it has more nodes.
+    ///
+    /// ```
+    /// use atomfs::{ErrorKind, Limits, Tree, NODE_LIMIT};
+    ///
+    /// let mut tree = Tree::from_text("tree\ndir /\nfile /f 6869\n", NODE_LIMIT, Limits::V2)?;
+    /// assert_eq!(tree.read_to_end("/f")?, b"hi");
+    /// assert_eq!(tree.journal()?.lines().next(), Some("atomfs-journal 3"));
+    /// let error = Tree::from_text("tree\ndir /\ndir /a/b\n", NODE_LIMIT, Limits::V2).unwrap_err();
+    /// assert!(matches!(error.kind(), ErrorKind::BadText(_, 3)));
+    /// # Ok::<(), atomfs::Error>(())
+    /// ```
+    pub fn from_text(text: impl AsRef<[u8]>, limit: usize, limits: Limits) -> Result<Tree, Error> {
+        let (mut tree, text, mut line) = (Tree::closed(limit, limits), text.as_ref(), 0);
+        let status = unsafe {
+            ffi::atomfs_open_from(
+                tree.handle,
+                limit,
+                limits as u8,
+                text.as_ptr(),
+                text.len(),
+                &mut line,
+            )
+        };
+        match status {
+            OK => {}
+            ffi::BAD_HEADER.. => return Err(Error::of_text(status, line)),
+            _ => return Err(Error::of(status, 0)),
+        }
+        tree.own()?;
+        Ok(tree)
+    }
+
+    /// Another tree, which is as this one now, by the same limits, and keeps as many calls. Its journal begins there, and from then on
+    /// each goes its own way. `ErrorKind::UnderWay` tells the number of a call that is under way.
+    ///
+    /// ```
+    /// let mut tree = atomfs::Tree::new()?;
+    /// tree.mkdir("/a")?;
+    /// let mut other = tree.try_clone()?;
+    /// tree.rmdir("/a")?;
+    /// assert!(other.stat("/a")?.is_dir);
+    /// # Ok::<(), atomfs::Error>(())
+    /// ```
+    pub fn try_clone(&self) -> Result<Tree, Error> {
+        let (mut tree, mut number) = (Tree::closed(self.limit, self.limits), 0);
+        match unsafe { ffi::atomfs_open_at(tree.handle, self.limit, self.handle, &mut number) } {
+            OK => {}
+            status => return Err(Error::of(status, number)),
+        }
+        tree.keep(self.keeps)?;
+        tree.own()?;
+        Ok(tree)
+    }
+
+    /// A tree that is to be opened.
+    fn closed(limit: usize, limits: Limits) -> Tree {
         let handle = Box::new(Handle {
             is_open: 0,
             most: KEEP_ALL,
             at: ptr::null_mut(),
         });
-        let mut tree = Tree {
+        Tree {
             handle: Box::into_raw(handle),
             id: TREES.fetch_add(1, Ordering::Relaxed),
             limit,
             limits,
+            keeps: Journal::All,
             calls: 0,
             before: 0,
             room: vec![0; ROOM],
@@ -125,10 +194,7 @@ impl Tree {
             last: Vec::new(),
             free: Vec::new(),
             sleepers: BTreeMap::new(),
-        };
-        done(unsafe { ffi::atomfs_open_with(tree.handle, limit, limits as u8) })?;
-        tree.own()?;
-        Ok(tree)
+        }
     }
 
     /// Makes an empty directory.
@@ -636,7 +702,9 @@ impl Tree {
             Journal::All => KEEP_ALL,
             Journal::Last(most) => most.min(KEEP_ALL - 1),
         };
-        done(unsafe { ffi::atomfs_keep(self.handle, most) })
+        done(unsafe { ffi::atomfs_keep(self.handle, most) })?;
+        self.keeps = journal;
+        Ok(())
     }
 
     /// Lets the journal begin again at the tree as it stands, and answers how many calls are forgotten.

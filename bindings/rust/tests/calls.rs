@@ -216,6 +216,96 @@ fn words_of_texts() {
     );
 }
 
+/// A tree of a text, or of the journal that starts at it, is the one that was told, and its journal begins there.
+#[test]
+fn from_texts() {
+    let text = "tree\ndir /\ndir /a\nfile /a/f 0068\n";
+    for (limits, number) in [(Limits::V1, 2), (Limits::V2, 3)] {
+        let start =
+            format!("atomfs-journal {number}\nstart\ndir /\ndir /a\nfile /a/f 0068\nentries\n");
+        let journal = format!("{start}begin 1 0 mkdir /b\ncommit 1\nreturn 1 ok\n");
+        for given in [text, &start, &journal] {
+            let mut tree = Tree::from_text(given, 3, limits).unwrap();
+            assert_eq!(tree.text_of_tree().unwrap(), text);
+            assert_eq!(tree.journal().unwrap(), start);
+            assert_eq!(kind(tree.mkdir("/b")), Err(ErrorKind::Full));
+            tree.unlink("/a/f").unwrap();
+            tree.mkdir("/b").unwrap();
+            assert!(tree.journal().unwrap().contains("begin 1 0 unlink /a/f\n"));
+            assert_eq!(tree.check().unwrap(), "lawful");
+            let long = "/".to_string() + &"n".repeat(limits.name_bytes() + 1);
+            let error = tree.rmdir(long.as_str()).unwrap_err();
+            assert_eq!(error, ErrorKind::BadPath(PathFault::NameTooLong));
+        }
+    }
+}
+
+/// What is no tree is told with its line.
+#[test]
+fn from_texts_refused() {
+    let long = format!("tree\ndir /\ndir /{}\n", "n".repeat(33));
+    let rows = [
+        ("", "line 1: BadHeader: "),
+        (
+            "atomfs-journal 3\nstart\ndir /\nentries\n",
+            "line 1: BadHeader: ",
+        ),
+        ("tree\n", "line 2: BadStart: "),
+        ("tree\ndir /\ndir /a/b\n", "line 3: BadStart: "),
+        ("tree\ndir /\ndir /b\ndir /a\n", "line 4: BadStart: "),
+        (&long, "line 3: BadStart: "),
+        ("atomfs-journal 1\nbegin\n", "line 2: BadLine: "),
+    ];
+    for (text, words) in rows {
+        let error = Tree::from_text(text, NODE_LIMIT, Limits::V1).unwrap_err();
+        assert!(error.to_string().starts_with(words), "{text:?}: {error}");
+        assert!(matches!(error.kind(), ErrorKind::BadText(..)));
+    }
+    Tree::from_text(long, NODE_LIMIT, Limits::V2).unwrap();
+    let text = "tree\ndir /\ndir /a\ndir /b\n";
+    for (limit, wanted) in [
+        (2, ErrorKind::Full),
+        (0, ErrorKind::BadLimit),
+        (NODE_LIMIT + 1, ErrorKind::BadLimit),
+    ] {
+        let came = Tree::from_text(text, limit, Limits::V2);
+        assert_eq!(kind(came.map(|_| ())), Err(wanted));
+    }
+}
+
+/// A clone is as its tree at that moment, by the same limits, and keeps as many calls.
+#[test]
+fn clones() {
+    let mut tree = Tree::with_limits(3, Limits::V1).unwrap();
+    tree.mkdir("/a").unwrap();
+    tree.write_file("/a/f", "hello").unwrap();
+    tree.keep(Journal::Last(1)).unwrap();
+    let mut other = tree.try_clone().unwrap();
+    assert_eq!(other.text_of_tree(), tree.text_of_tree());
+    let start = "atomfs-journal 2\nstart\ndir /\ndir /a\nfile /a/f 68656c6c6f\nentries\n";
+    assert_eq!(other.journal().unwrap(), start);
+    assert_eq!(kind(other.mkdir("/b")), Err(ErrorKind::Full));
+    other.unlink("/a/f").unwrap();
+    for _ in 0..5 {
+        other.stat("/a").unwrap();
+    }
+    assert_eq!(other.calls_before(), 4);
+    assert_eq!(tree.read_to_end("/a/f").unwrap(), b"hello");
+    assert_eq!(
+        kind(tree.truncate("/a/f", 65_537)),
+        Err(ErrorKind::Failed(Errno::EFBIG))
+    );
+    let (seat, foreign) = (tree.seat().unwrap(), other.seat().unwrap());
+    assert_eq!(kind(tree.step(foreign)), Err(ErrorKind::ForeignSeat));
+    let number = tree.begin(seat, &Call::rmdir("/a")).unwrap();
+    assert_eq!(
+        kind(tree.try_clone().map(|_| ())),
+        Err(ErrorKind::UnderWay(number))
+    );
+    assert!(tree.finish(seat).is_err());
+    assert!(tree.try_clone().is_ok());
+}
+
 /// A journal that no text could hold is checked as it stands.
 #[test]
 fn a_large_journal() {
