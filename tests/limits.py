@@ -22,6 +22,8 @@ STACK = 128 * 1024
 # The largest file by the second limits.
 FILE_BY_SECOND = 1_048_576
 ROOM = 268_435_456
+# The most bytes that are held for each event of a run that is traced, drawn or scheduled.
+EACH_EVENT = 64
 RUN, CHECK, SEEDS = ("run",), ("check",), ("seeds", "--seed", "1", "--runs", "3")
 LAWFUL = Outcome(0, b"lawful\n")
 LAWFUL_SEEDS = Outcome(0, b"seed 1 lawful\nseed 2 lawful\nseed 3 lawful\n")
@@ -128,6 +130,14 @@ def files(count):
     return each_file(count, f"truncate {{}} {FILE}")
 
 
+def crowd(count, calls):
+    """The lines of a script of so many threads, which meet so often at one place: nearly all events are waits."""
+    yield "atomfs 1"
+    for number in range(count):
+        yield from (f"thread t{number}", *["stat /d/q"] * calls)
+    yield from ("schedule", "finish")
+
+
 def much():
     """Rows of runs that hold many replies, files and long paths."""
     for what, make, few in (("full reads", reads, 1_000), ("full files", files, 1_000), ("levels", deep, 5_000)):
@@ -135,6 +145,15 @@ def much():
             yield f"{count} {what}", script(make(count)), RUN, well(counts(sum(1 for _ in make(count))))
             if make is not deep:
                 yield f"{count} {what}, drawn", script(make(count)), SEEDS, LAWFUL_SEEDS
+
+
+# Runs a command, and tells its status and the most bytes that it held on the last line of standard error.
+HELD = """import os, subprocess, sys
+child = subprocess.Popen(sys.argv[1:])
+_, status, usage = os.wait4(child.pid, 0)
+child.returncode = os.waitstatus_to_exitcode(status)
+print(child.returncode, 1024 * usage.ru_maxrss, file=sys.stderr)
+"""
 
 
 class Limits(Case):
@@ -239,6 +258,27 @@ class Limits(Case):
 
     def test_much_to_hold(self):
         self.each(much(), self.ends)
+
+    def held(self, words):
+        """The status of a process, and the most bytes that it held. It is started by a small one, since what it starts from counts."""
+        with open(self.given, "rb") as source, open(self.made, "wb") as sink:
+            done = subprocess.run([sys.executable, "-c", HELD, program(), *words], stdin=source, stdout=sink, stderr=subprocess.PIPE, check=True, timeout=MOST_SECONDS)
+        return map(int, done.stderr.split(b"\n")[-2].split())
+
+    def test_room_of_events(self):
+        """What is held of a run that is told is its text, and of a picture a few numbers for each mark; a schedule ends where its events are too many."""
+        with open(self.given, "w") as given:
+            given.writelines(f"{line}\n" for line in crowd(THREADS, 32))
+        events = None
+        for words, wanted in ((("trace", "--every"), 0), (("trace",), 0), (("draw",), 0), (("schedule", "--robin"), 4)):
+            status, most = self.held(words)
+            # The last line before the tree has the number of the last event.
+            events = events or int(self.end(4_096).split(b"\ntree\n")[0].splitlines()[-1].split()[0])
+            with self.subTest(" ".join(words)):
+                self.assertEqual(status, wanted)
+                self.assertLessEqual(most / events, EACH_EVENT)
+                if self.measures:
+                    print(f"{' '.join(words)}: {events} events, {most} bytes", flush=True)
 
     def room(self, calls, fits):
         """So many calls on each of 5,000 files, for whose bytes alone there is room."""

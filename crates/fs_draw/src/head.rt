@@ -229,7 +229,7 @@ fn which_occur(scene: &Scene) -> Occurring {
         }
     }
     for card in &scene.cards {
-        signs.unreturned = signs.unreturned || card.reply.is_empty();
+        signs.unreturned = signs.unreturned || card.reply.is_none();
     }
     signs
 }

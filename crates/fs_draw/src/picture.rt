@@ -8,7 +8,6 @@ use crate::ink::Ink;
 use crate::row_text::Canvas;
 use fs_layout::{Frame, Places, ROW_GAP, Rows, add, bands_of, frame_of, heading_width, places_of};
 use fs_scene::Scene;
-use fs_words::Addition;
 use std::alloc::{AllocError, Global};
 
 /// The least width of a picture.
@@ -43,8 +42,15 @@ fn write_rows(canvas: &Canvas<'_>, top: u64, ink: &mut Ink) -> Result<u64, Alloc
     Ok(y)
 }
 
-/// What stands in a picture between the beginning of its first tag and its last one.
-fn middle_of(alloc: Global, scene: &Scene) -> Result<Vec<u8>, AllocError> {
+/// What stands in a picture between the beginning of its first tag and its last one: the head, which tells how high all is that
+/// stands below it, and that.
+#[derive(Drop)]
+struct Middle {
+    head: Vec<u8>,
+    body: Vec<u8>,
+}
+
+fn middle_of(alloc: Global, scene: &Scene) -> Result<Middle, AllocError> {
     let heading = heading_of(alloc, scene)?;
     let wide = frame_of(scene.lanes.as_slice());
     let places = places_of(alloc, scene, wide)?;
@@ -68,20 +74,25 @@ fn middle_of(alloc: Global, scene: &Scene) -> Result<Vec<u8>, AllocError> {
     if below {
         y = write_legend(alloc, scene, frame.width, add(y, ROW_GAP), &mut body)?;
     }
-    let mut ink = Ink::new(alloc);
-    write_head(scene, frame.width, add(y, 8), heading.as_slice(), &mut ink)?;
-    ink.raw(body.into_text().as_slice())?;
-    Ok(ink.into_text())
+    let mut head = Ink::new(alloc);
+    write_head(scene, frame.width, add(y, 8), heading.as_slice(), &mut head)?;
+    Ok(Middle {
+        head: head.into_text(),
+        body: body.into_text(),
+    })
 }
 
-/// The picture of a scene, as the text of an SVG file. It is a function of the scene.
+/// The picture of a scene, as the text of an SVG file. It is a function of the scene. The head is made behind what stands below it,
+/// and then put before that, without a second text as long as all of it.
 pub(crate) fn picture_of(alloc: Global, scene: &Scene) -> Result<Vec<u8>, AllocError>
     ensures { IfOk result (λ text. IsPicture text.items) }
 {
     let middle = middle_of(alloc, scene)?;
-    let mut text = Addition::new(Vec::new(alloc));
-    text.push(b"<svg ")?;
-    text.push(middle.as_slice())?;
-    text.push(b"</svg>\n")?;
-    Ok(text.kept())
+    let mut text = middle.body;
+    let below = text.len();
+    text.extend_from_slice(b"<svg ")?;
+    text.extend_from_slice(middle.head.as_slice())?;
+    text.as_mut_slice().rotate_left(below);
+    text.extend_from_slice(b"</svg>\n")?;
+    Ok(text)
 }

@@ -82,11 +82,11 @@ impl<'a> Canvas<'a> {
             ) {
                 let fits = match last {
                     None => true,
-                    Some(x) => mark.at % 5 == 0 && place.x >= add(x, AXIS_STEP),
+                    Some(x) => mark.at % 5 == 0 && *place >= add(x, AXIS_STEP),
                 };
-                if fits && is_clear(place.x, mark.at, words) {
-                    axis.push((place.x, mark.at))?;
-                    last = Some(place.x);
+                if fits && is_clear(*place, mark.at, words) {
+                    axis.push((*place, mark.at))?;
+                    last = Some(*place);
                 }
             }
         }
@@ -284,8 +284,8 @@ impl<'a> Canvas<'a> {
             _ => return Ok(()),
         };
         let x = match self.places.marks.get(at) {
-            Some(place) if fault.mark.is_some() => place.x,
-            Some(place) => add(place.x, 12),
+            Some(place) if fault.mark.is_some() => *place,
+            Some(place) => add(*place, 12),
             None => self.frame.left,
         };
         ink.with(b"<path class=\"r\" d=\"M ", x)?;

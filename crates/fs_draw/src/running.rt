@@ -13,7 +13,7 @@ use crate::fault::DrawFault;
 use crate::picture::picture_of;
 use fs_io::{Made, Sink, Source, transform};
 use fs_journal::check_from;
-use fs_scene::{Scene, around, scene_of_journal, scene_of_run};
+use fs_scene::{Scene, Strip, around, scene_of_journal, scene_of_run};
 use fs_sched::{RunFault, Schedule, between, is_lawful, journal_in, script_in, watch};
 use fs_story::Teller;
 use std::alloc::{AllocError, Global};
@@ -37,21 +37,18 @@ fn of_script(alloc: Global, text: &[u8], schedule: Schedule) -> Result<Drawing, 
     ensures drawn { IfOk result (λ drawing. IsOfRun schedule text.now drawing.well) }
     ensures fault { (call : Option ℕ) → IfErr result (IsFaultBy false schedule call text.now) }
 {
-    let script = match script_in(alloc, text) {
-        Ok(script) => script,
-        Err(fault) => return Err(DrawFault::Run(fault)),
-    };
-    let Ok(mut teller) = Teller::new(alloc, &script, false) else {
+    let script = script_in(alloc, text)?;
+    let Ok(strip) = Strip::new(alloc, &script) else {
         return Err(out_of_memory());
     };
-    let ran = match watch(alloc, &script, schedule, &mut teller) {
-        Ok(ran) => ran,
-        Err(fault) => return Err(DrawFault::Run(fault)),
+    let Ok(mut teller) = Teller::new(alloc, &script, false, strip) else {
+        return Err(out_of_memory());
     };
+    let ran = watch(alloc, &script, schedule, &mut teller)?;
     let Ok(story) = teller.story() else {
         return Err(out_of_memory());
     };
-    let Ok(scene) = scene_of_run(alloc, &script, &story) else {
+    let Ok(scene) = scene_of_run(alloc, &script, story) else {
         return Err(out_of_memory());
     };
     Ok(Drawing {
@@ -65,10 +62,7 @@ fn of_journal(alloc: Global, text: &[u8]) -> Result<Drawing, DrawFault>
     ensures drawn { IfOk result (λ drawing. IsOfJournal text.now drawing.well) }
     ensures fault { (schedule : Schedule) (call : Option ℕ) → IfErr result (IsFaultBy true schedule call text.now) }
 {
-    let journal = match journal_in(alloc, text) {
-        Ok(journal) => journal,
-        Err(fault) => return Err(DrawFault::Run(fault)),
-    };
+    let journal = journal_in(alloc, text)?;
     let Ok(verdict) = check_from(alloc, &journal.start, journal.entries.as_slice()) else {
         return Err(out_of_memory());
     };
@@ -148,19 +142,26 @@ pub fn draw_input<R: Source, W: Sink>(
     requires writes { W.failures writer.old < 2 ^ 64 - 1 }
 
     // What is written is a picture of a run of the script that was read, or of the journal, by its first bytes; and the answer how that went.
-    ensures ran { IfOk result (λ well. (text : List ℕ) × IfSome (R.remaining reader.old) (λ input. IsPictureOf schedule input well text) × Appends (W.contents writer.old) (W.contents writer.new) text) }
+    ensures ran { IfOk result (λ well. (text : List ℕ)
+        × IfSome (R.remaining reader.old) (λ input. IsPictureOf schedule input well text)
+        × Appends (W.contents writer.old) (W.contents writer.new) text) }
     ensures end { OnOk result (IsAtEnd (R.remaining reader.new)) }
-    ensures input { (f : ScriptFault) → result ≡ Err (DrawFault.Run (RunFault.Input f)) → IfSome (R.remaining reader.old) (λ input. HasFault input f) }
+    ensures input { (f : ScriptFault) → result ≡ Err (DrawFault.Run (RunFault.Input f))
+        → IfSome (R.remaining reader.old) (λ input. HasFault input f) }
     ensures full { result ≢ Err (DrawFault.Run RunFault.Full) }
     ensures no_call { (number : ℕ) → result ≡ Err (DrawFault.NoCall number) → call ≡ Some number }
 
     // `UnderWay` comes where the script comes to a checkpoint while calls are under way; then it has no run.
-    ensures under_way { (c : ℕ) → result ≡ Err (DrawFault.Run (RunFault.UnderWay c)) → IfSome (R.remaining reader.old) (λ input. ReachesStop schedule input (RunFault.UnderWay c)) }
+    ensures under_way { (c : ℕ) → result ≡ Err (DrawFault.Run (RunFault.UnderWay c))
+        → IfSome (R.remaining reader.old) (λ input. ReachesStop schedule input (RunFault.UnderWay c)) }
 
     // A device is blamed only where it failed in this call; after a failed write a beginning of the picture stands, and after every
     // other error nothing was written.
-    ensures devices { KeepsDevices R.failures W.failures reader.old reader.new writer.old writer.new (DrawFault.Run RunFault.Read) (DrawFault.Run RunFault.Write) result }
-    ensures beginning { IsErrOf result (DrawFault.Run RunFault.Write) → (well : Bool) × (text : List ℕ) × IfSome (R.remaining reader.old) (λ input. IsPictureOf schedule input well text) × WritesBeginning text (W.contents writer.old) (W.contents writer.new) }
+    ensures devices { KeepsDevices R.failures W.failures reader.old reader.new writer.old writer.new
+        (DrawFault.Run RunFault.Read) (DrawFault.Run RunFault.Write) result }
+    ensures beginning { IsErrOf result (DrawFault.Run RunFault.Write) → (well : Bool) × (text : List ℕ)
+        × IfSome (R.remaining reader.old) (λ input. IsPictureOf schedule input well text)
+        × WritesBeginning text (W.contents writer.old) (W.contents writer.new) }
 {
     let ended = transform(
         alloc,

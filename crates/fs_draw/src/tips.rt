@@ -13,9 +13,9 @@ fn write_call(alloc: Global, scene: &Scene, card: &Card, ink: &mut Ink) -> Resul
     };
     let mut words = Vec::new(alloc);
     push_cut(card.words.as_slice(), call_width, &mut words)?;
-    if !card.reply.is_empty() {
+    if !card.reply.is_none() {
         words.extend_from_slice(&[b' ', ARROW, b' '])?;
-        push_cut(card.reply.as_slice(), reply_width, &mut words)?;
+        push_cut(card.reply.words.as_slice(), reply_width, &mut words)?;
     }
     ink.with(b"#", card.number)?;
     ink.raw(b" ")?;
@@ -34,7 +34,7 @@ fn write_lane(scene: &Scene, card: &Card, ink: &mut Ink) -> Result<(), AllocErro
         b", entries "
     })?;
     ink.number(card.first)?;
-    if card.reply.is_empty() {
+    if card.reply.is_none() {
         return ink.raw(b" on, did not return");
     }
     ink.with(b" to ", card.last)
@@ -72,9 +72,9 @@ pub(crate) fn write_tip(
     write_call(alloc, scene, card, ink)?;
     write_lane(scene, card, ink)?;
     write_commit(scene, card, ink)?;
-    if !card.due.is_empty() {
+    if !card.due.is_none() {
         let mut due = Vec::new(alloc);
-        push_cut(card.due.as_slice(), 80, &mut due)?;
+        push_cut(card.due.words.as_slice(), 80, &mut due)?;
         ink.raw(b"\ndue: ")?;
         ink.words(due.as_slice())?;
     }

@@ -31,7 +31,7 @@ pub struct Hold {
     pub from: u64,
     pub to: u64,
     pub holder: u64,
-    pub node: usize,
+    pub node: u32,
     pub name: Vec<u8>,
 }
 
@@ -141,7 +141,7 @@ impl Live {
     }
 
     /// The slot for a node: that in which the call waits for it, else a free one.
-    fn slot_for(&self, node: usize) -> usize {
+    fn slot_for(&self, node: u32) -> usize {
         match &self.wait {
             Some(wait) if wait.node == node => wait.slot,
             _ => self.free_slot(),
@@ -188,7 +188,7 @@ impl Live {
         Ok(())
     }
 
-    fn let_go(&mut self, node: usize, x: u64) -> Result<(), AllocError> {
+    fn let_go(&mut self, node: u32, x: u64) -> Result<(), AllocError> {
         let Some(at) = self.held.iter().position(|hold| hold.node == node) else {
             return Ok(());
         };
@@ -322,7 +322,7 @@ impl Rows {
         alloc: Global,
         lane: usize,
         x: u64,
-        node: usize,
+        node: u32,
         holder: u64,
         name: &[u8],
     ) -> Result<(), AllocError> {
@@ -414,26 +414,26 @@ impl Rows {
         x: u64,
         row: &mut Row,
     ) -> Result<(), AllocError> {
-        let Some(card) = scene.cards.get(mark.card) else {
+        let Some(card) = scene.card_of(mark) else {
             return Ok(());
         };
         let lane = card.lane;
         self.pass_by(lane, mark, x)?;
         match mark.what {
-            What::Begin => self.begin(alloc, mark.card, lane, x, row),
-            What::Take(node) => self.hold(alloc, lane, x, node, 0, mark.name.as_slice()),
+            What::Begin => self.begin(alloc, mark.card as usize, lane, x, row),
+            What::Take(node) => self.hold(alloc, lane, x, node, 0, scene.name_of(mark)),
             What::Wait(node, holder) => {
-                self.hold(alloc, lane, x, node, holder, mark.name.as_slice())
+                self.hold(alloc, lane, x, node, u64::from(holder), scene.name_of(mark))
             }
             What::LetGo(node) => self.let_go(lane, node, x),
-            What::Help(helped) => self.help(scene, helped, lane, x, row),
+            What::Help(helped) => self.help(scene, helped as usize, lane, x, row),
             What::Commit => self.pass(card, x, Part::Done, Some(false)),
             What::Carry => self.pass(card, x, Part::Done, None),
             What::Return => self.end(lane, x, row),
         }
     }
 
-    fn let_go(&mut self, lane: usize, node: usize, x: u64) -> Result<(), AllocError> {
+    fn let_go(&mut self, lane: usize, node: u32, x: u64) -> Result<(), AllocError> {
         if lane < self.lanes.len() {
             self.lanes[lane].let_go(node, x)
         } else {
@@ -511,13 +511,11 @@ impl Rows {
             first: self.next,
             end: self.next,
         };
-        for at in self.next..places.marks.len().min(scene.marks.len()) {
-            let place: Place = places.marks[at];
-            if place.row != number {
-                break;
+        row.end = places.end_of(number).min(scene.marks.len());
+        for at in self.next..row.end {
+            if let (Some(x), Some(mark)) = (places.marks.get(at), scene.marks.get(at)) {
+                self.mark(alloc, scene, mark, *x, &mut row)?;
             }
-            self.mark(alloc, scene, &scene.marks[at], place.x, &mut row)?;
-            row.end = at.saturating_add(1);
         }
         self.next = row.end;
         let is_last = number.saturating_add(1) >= places.rows;
@@ -534,7 +532,7 @@ impl Rows {
 /// Where the last of so many marks stands.
 fn last_x(places: &Places, end: usize) -> u64 {
     match places.marks.get(end.saturating_sub(1)) {
-        Some(place) => place.x,
+        Some(x) => *x,
         None => 0,
     }
 }

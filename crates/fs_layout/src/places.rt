@@ -6,7 +6,7 @@ use crate::space::{
 use fs_scene::{Card, Mark, Scene, What, label_of};
 use std::alloc::{AllocError, Global};
 
-/// The place of a mark or of a checkpoint.
+/// The place of a checkpoint.
 #[derive(Clone, Copy, Debug)]
 pub struct Place {
     pub row: usize,
@@ -16,7 +16,7 @@ pub struct Place {
 /// A node that a call holds: its number, where it was taken, and how wide its name is.
 #[derive(Clone, Copy)]
 struct Taken {
-    node: usize,
+    node: u32,
     x: u64,
     width: u64,
 }
@@ -51,13 +51,25 @@ struct Placing {
     checkpoints: Vec<Place>,
 }
 
-/// The places of marks and of checkpoints, how many rows there are, and where the last row ends.
+/// How far from the left each mark stands, how many marks stand in the rows up to each one; the places of checkpoints, how many
+/// rows there are, and where the last row ends.
 #[derive(Drop)]
 pub struct Places {
-    pub marks: Vec<Place>,
+    pub marks: Vec<u64>,
+    pub row_ends: Vec<usize>,
     pub checkpoints: Vec<Place>,
     pub rows: usize,
     pub end: u64,
+}
+
+impl Places {
+    /// Where the marks of a row end.
+    pub fn end_of(&self, row: usize) -> usize {
+        match self.row_ends.get(row) {
+            Some(end) => *end,
+            None => self.marks.len(),
+        }
+    }
 }
 
 /// Where the number of a commit ends whose dot stands here.
@@ -82,7 +94,7 @@ impl Lane {
     }
 
     /// Where a let go of a node may stand, so that the node's name fits its box.
-    fn box_end(&self, node: usize) -> u64 {
+    fn box_end(&self, node: u32) -> u64 {
         for one in &self.taken {
             if one.node == node {
                 return add(add(one.x, one.width), 6);
@@ -91,7 +103,7 @@ impl Lane {
         0
     }
 
-    fn let_go(&mut self, node: usize) {
+    fn let_go(&mut self, node: u32) {
         if let Some(at) = self.taken.iter().position(|one| one.node == node) {
             let _ = self.taken.swap_remove(at);
         }
@@ -226,6 +238,7 @@ impl Placing {
         &mut self,
         lane: usize,
         mark: &Mark,
+        name: &[u8],
         x: u64,
         label: u64,
         order: u64,
@@ -239,7 +252,7 @@ impl Placing {
         one.ended = mark.what == What::Return;
         match mark.what {
             What::Begin => {
-                one.current = Some(mark.card);
+                one.current = Some(mark.card as usize);
                 one.label_end = add(x, label);
                 self.labels_end = self.labels_end.max(one.label_end);
                 one.taken.clear();
@@ -247,7 +260,7 @@ impl Placing {
             What::Take(node) => one.taken.push(Taken {
                 node,
                 x,
-                width: small_width(mark.name.len().min(8)),
+                width: small_width(name.len().min(8)),
             })?,
             What::LetGo(node) => one.let_go(node),
             What::Commit => one.number_end = number_end(x, order),
@@ -287,7 +300,7 @@ fn width_at(alloc: Global, card: &Card, what: What) -> Result<u64, AllocError> {
 /// The call that a mark gives its place to.
 fn other_card(scene: &Scene, what: What) -> Option<&Card> {
     match what {
-        What::Help(card) => scene.cards.get(card),
+        What::Help(card) => scene.cards.get(card as usize),
         _ => None,
     }
 }
@@ -304,14 +317,15 @@ fn count_before(scene: &Scene, placed: usize, at: u64) -> usize {
     count
 }
 
-/// Where the next mark stands. The checkpoints before it are placed first.
+/// Where the next mark stands in the row that is reached then, and how far what it needs goes. The checkpoints before it are placed
+/// first.
 fn place_mark(
     alloc: Global,
     scene: &Scene,
     placing: &mut Placing,
     mark: &Mark,
     card: &Card,
-) -> Result<(Place, u64), AllocError> {
+) -> Result<(u64, u64), AllocError> {
     let label = width_at(alloc, card, mark.what)?;
     let (other, order) = match other_card(scene, mark.what) {
         Some(other) => (Some(other.lane), other.order),
@@ -325,28 +339,32 @@ fn place_mark(
         placing.turn(alloc, scene)?;
         x = placing.next_x(card.lane, mark.what, other);
     }
-    placing.put(card.lane, mark, x, label, order)?;
+    placing.put(card.lane, mark, scene.name_of(mark), x, label, order)?;
     if let Some(lane) = other {
         placing.put_given(lane, x, order);
     }
-    Ok((
-        Place {
-            row: placing.row,
-            x,
-        },
-        add(x, need),
-    ))
+    Ok((x, add(x, need)))
+}
+
+/// The rows up to one end at so many marks, as far as they have no end yet.
+fn end_rows(row: usize, marks: usize, row_ends: &mut Vec<usize>) -> Result<(), AllocError> {
+    for _ in row_ends.len()..row {
+        row_ends.push(marks)?;
+    }
+    Ok(())
 }
 
 /// The places of all marks and checkpoints of a scene.
 pub fn places_of(alloc: Global, scene: &Scene, frame: Frame) -> Result<Places, AllocError> {
     let mut placing = Placing::new(alloc, scene, frame)?;
     let mut marks = Vec::new(alloc);
+    let mut row_ends = Vec::new(alloc);
     let mut end = frame.left;
     for mark in &scene.marks {
-        if let Some(card) = scene.cards.get(mark.card) {
-            let (found, reach) = place_mark(alloc, scene, &mut placing, mark, card)?;
-            marks.push(found)?;
+        if let Some(card) = scene.card_of(mark) {
+            let (x, reach) = place_mark(alloc, scene, &mut placing, mark, card)?;
+            end_rows(placing.row, marks.len(), &mut row_ends)?;
+            marks.push(x)?;
             end = end.max(reach);
         }
     }
@@ -357,6 +375,7 @@ pub fn places_of(alloc: Global, scene: &Scene, frame: Frame) -> Result<Places, A
     }
     Ok(Places {
         marks,
+        row_ends,
         checkpoints: placing.checkpoints,
         rows: placing.row.saturating_add(1),
         end,

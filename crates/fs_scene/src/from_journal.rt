@@ -1,11 +1,10 @@
 //! The scene of a journal.
 
-use crate::scene::{Card, Fault, Mark, Scene, What};
+use crate::scene::{Card, Fault, Mark, Reported, Scene, What, short};
 use fs_calls::Call;
 use fs_names::{CallNo, SeatNo};
 use fs_sched::{call_of, due_reply, kind_text, push_verdict};
 use fs_script::Journal;
-use fs_text::{write_call, write_reply};
 use fs_timeline::{Entry, FaultKind, Verdict};
 use fs_words::Addition;
 use std::alloc::{AllocError, Global};
@@ -80,6 +79,7 @@ impl Reading {
                 lanes: names,
                 cards: Vec::new(alloc),
                 marks: Vec::new(alloc),
+                names: Vec::new(alloc),
                 checkpoints: Vec::new(alloc),
                 fault: fault_of(alloc, verdict)?,
                 is_run: false,
@@ -94,14 +94,13 @@ impl Reading {
     }
 
     fn push_mark(&mut self, at: u64, card: usize, what: What) -> Result<(), AllocError> {
-        self.scene.note(at, card, what, self.commits);
-        self.scene.marks.push(Mark {
+        let mark = Mark {
             at,
-            card,
+            card: short(card),
+            name: None,
             what,
-            name: Vec::new(self.alloc),
-        })?;
-        Ok(())
+        };
+        self.scene.push_mark(mark, self.commits)
     }
 
     /// Whether the seat of a lane is busy, and that it is so from here on.
@@ -124,13 +123,11 @@ impl Reading {
         lane: usize,
         call: &Call,
     ) -> Result<usize, AllocError> {
-        let mut words = Vec::new(self.alloc);
-        write_call(self.alloc, call, &mut words)?;
+        let mut one = Card::new(self.alloc, number.get(), lane);
+        one.tell(self.alloc, call)?;
         let card = self.scene.cards.len();
         self.cards.insert(number.get(), card)?;
-        self.scene
-            .cards
-            .push(Card::new(self.alloc, number.get(), lane, words))?;
+        self.scene.cards.push(one)?;
         self.push_mark(at, card, What::Begin)?;
         Ok(card)
     }
@@ -160,7 +157,7 @@ impl Reading {
     fn find(&self, number: CallNo) -> Option<(usize, bool, bool)> {
         let at = *self.cards.get(&number.get())?;
         let card = self.scene.cards.get(at)?;
-        Some((at, card.order > 0, !card.reply.is_empty()))
+        Some((at, card.order > 0, !card.reply.is_none()))
     }
 
     fn commit(&mut self, at: u64, number: CallNo) -> Result<bool, AllocError> {
@@ -184,7 +181,7 @@ impl Reading {
                     return Ok(false);
                 };
                 if let Some(card) = self.scene.cards.get_mut(place) {
-                    write_reply(self.alloc, reply, &mut card.reply)?;
+                    card.reply = Reported::of(self.alloc, reply)?;
                     let lane = card.lane;
                     let _ = self.set_busy(lane, false);
                 }
@@ -272,10 +269,10 @@ fn set_due(alloc: Global, journal: &Journal, scene: &mut Scene) -> Result<(), Al
         return Ok(());
     };
     if let Some(Entry::Return(number, _)) = journal.entries.as_slice().get(*place) {
-        let mut due = Vec::new(alloc);
-        if let Some(reply) = due_reply(alloc, journal, *number)? {
-            write_reply(alloc, &reply, &mut due)?;
-        }
+        let due = match due_reply(alloc, journal, *number)? {
+            Some(reply) => Reported::of(alloc, &reply)?,
+            None => Reported::none(alloc),
+        };
         let wrong = number.get();
         if let Some(at) = scene.cards.iter().position(|card| card.number == wrong) {
             scene.cards[at].due = due;

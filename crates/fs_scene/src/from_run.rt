@@ -1,26 +1,27 @@
 //! The scene of a script's run.
 
 use crate::labels::last_name;
-use crate::scene::{Card, Mark, Scene, What};
+use crate::scene::{Card, Mark, Reported, Scene, What, short};
+use fs_calls::Reply;
 use fs_script::Script;
-use fs_story::{Deed, Line, Story};
-use fs_text::{write_call, write_reply};
+use fs_story::{CallPlace, Deed, Line, Page, Story};
 use std::alloc::{AllocError, Global};
+use std::collections::BTreeMap;
 
 /// How far a run is told: how many calls began, how many of them before the last checkpoint, and how many commits there were
 /// behind that.
 #[derive(Clone, Copy)]
 struct SoFar {
-    begun: usize,
-    before: usize,
+    begun: u32,
+    before: u32,
     commits: u64,
 }
 
 impl SoFar {
     /// The place of a call among the calls, by its number, which counts from 1 behind each checkpoint.
-    fn card_of(&self, number: u64) -> usize {
+    fn card_of(&self, number: u64) -> u32 {
         self.before
-            .saturating_add(number.saturating_sub(1) as usize)
+            .saturating_add(short(number.saturating_sub(1) as usize))
     }
 
     /// The numbers of calls and of commits begin again.
@@ -44,9 +45,9 @@ fn what_of(line: &Line, so_far: &SoFar) -> Option<What> {
     Some(match line.deed {
         Deed::Idles | Deed::Checkpoint => return None,
         Deed::Begins => What::Begin,
-        Deed::Takes(node) => What::Take(node.get()),
-        Deed::Waits(node, holder) => What::Wait(node.get(), holder.get()),
-        Deed::LetsGo(node) => What::LetGo(node.get()),
+        Deed::Takes(node) => What::Take(short(node.get())),
+        Deed::Waits(node, holder) => What::Wait(short(node.get()), short(holder.get() as usize)),
+        Deed::LetsGo(node) => What::LetGo(short(node.get())),
         Deed::Helps(helped) => What::Help(so_far.card_of(helped.get())),
         Deed::Commits => What::Commit,
         Deed::CarriesOut => What::Carry,
@@ -55,8 +56,8 @@ fn what_of(line: &Line, so_far: &SoFar) -> Option<What> {
 }
 
 /// The last name of the node that a call takes or waits for; no bytes where a line tells of neither.
-fn name_of<'s>(line: &Line, story: &'s Story) -> &'s [u8] {
-    match story.words.get(line.path.from..line.path.end) {
+fn name_of<'s>(line: &Line, words: &'s [u8]) -> &'s [u8] {
+    match words.get(line.path.from..line.path.end) {
         Some(path) => last_name(path),
         None => &[],
     }
@@ -73,76 +74,132 @@ fn lanes_of(alloc: Global, script: &Script) -> Result<Vec<Vec<u8>>, AllocError> 
     Ok(lanes)
 }
 
-/// The calls that began, in the order of their begins.
-fn cards_of(alloc: Global, script: &Script, story: &Story) -> Result<Vec<Card>, AllocError> {
-    let lists = script.lists.as_slice();
-    let mut cards = Vec::new(alloc);
-    for i in 0..story.calls.len() {
-        let place = story.calls[i];
-        let mut words = Vec::new(alloc);
-        if let Some(list) = lists.get(place.seat) {
-            if let Some(call) = list.as_slice().get(place.at) {
-                write_call(alloc, call, &mut words)?;
-            }
-        }
-        let mut card = Card::new(alloc, place.number, place.seat, words);
-        if let Some(Some(reply)) = story.replies.get(i) {
-            write_reply(alloc, reply, &mut card.reply)?;
-        }
-        cards.push(card)?;
-    }
-    Ok(cards)
+/// The scene of a run so far, of which the calls have no words yet, and where the last name of each node stands among the names.
+#[derive(Drop)]
+pub struct Strip {
+    alloc: Global,
+    scene: Scene,
+    places: BTreeMap<u32, u32>,
+    so_far: SoFar,
 }
 
-/// Adds a line of the story.
-fn add_line(
-    alloc: Global,
-    line: &Line,
-    story: &Story,
-    so_far: &mut SoFar,
-    scene: &mut Scene,
-) -> Result<(), AllocError> {
-    if line.deed == Deed::Checkpoint {
-        so_far.checkpoint();
-        scene.checkpoints.push(line.number as u64)?;
-        return Ok(());
+impl Strip {
+    /// Before the first moment of a run of a script.
+    pub fn new(alloc: Global, script: &Script) -> Result<Strip, AllocError> {
+        Ok(Strip {
+            alloc,
+            scene: Scene {
+                lanes: lanes_of(alloc, script)?,
+                calls: 0,
+                cards: Vec::new(alloc),
+                marks: Vec::new(alloc),
+                names: Vec::new(alloc),
+                checkpoints: Vec::new(alloc),
+                fault: None,
+                is_run: true,
+                around: None,
+            },
+            places: BTreeMap::new(alloc),
+            so_far: SoFar {
+                begun: 0,
+                before: 0,
+                commits: 0,
+            },
+        })
     }
-    let Some(what) = what_of(line, so_far) else {
-        return Ok(());
-    };
-    so_far.note(what);
-    let at = line.number as u64;
-    let card = so_far.card_of(line.call);
-    scene.note(at, card, what, so_far.commits);
-    scene.marks.push(Mark {
-        at,
-        card,
-        what,
-        name: Vec::from_slice(alloc, name_of(line, story))?,
-    })?;
+
+    /// A call does this at an event, to a node of this name.
+    fn mark(&mut self, line: &Line, what: What, name: &[u8]) -> Result<(), AllocError> {
+        if let (What::Begin, Some(lane)) = (what, line.seat) {
+            self.scene
+                .cards
+                .push(Card::new(self.alloc, line.call, lane))?;
+        }
+        self.so_far.note(what);
+        let mark = Mark {
+            at: line.number as u64,
+            card: self.so_far.card_of(line.call),
+            name: self.place_of(what, name)?,
+            what,
+        };
+        self.scene.push_mark(mark, self.so_far.commits)
+    }
+
+    /// Where the name of the node of which a call tells stands among the names: where the node had this one before, there.
+    fn place_of(&mut self, what: What, name: &[u8]) -> Result<Option<u32>, AllocError> {
+        let (What::Take(node) | What::Wait(node, _)) = what else {
+            return Ok(None);
+        };
+        if let Some(place) = self.places.get(&node) {
+            if let Some(old) = self.scene.names.get(*place as usize) {
+                if old.as_slice() == name {
+                    return Ok(Some(*place));
+                }
+            }
+        }
+        let place = short(self.scene.names.len());
+        self.places.insert(node, place)?;
+        self.scene.names.push(Vec::from_slice(self.alloc, name)?)?;
+        Ok(Some(place))
+    }
+}
+
+impl Page for Strip {
+    ghost Has = { λ _ _ _. Unit {0} };
+
+    fn show(&mut self, line: Line, words: &[u8]) -> Result<(), AllocError> {
+        if line.deed == Deed::Checkpoint {
+            self.so_far.checkpoint();
+            self.scene.checkpoints.push(line.number as u64)?;
+            return Ok(());
+        }
+        match what_of(&line, &self.so_far) {
+            Some(what) => self.mark(&line, what, name_of(&line, words)),
+            None => Ok(()),
+        }
+    }
+}
+
+/// Adds the words of the calls that began, and of what they returned.
+fn add_words(
+    alloc: Global,
+    script: &Script,
+    calls: &[CallPlace],
+    replies: &[Option<Reply>],
+    cards: &mut Vec<Card>,
+) -> Result<(), AllocError> {
+    for i in 0..calls.len().min(cards.len()) {
+        let place = calls[i];
+        if let Some(call) = script.lists.of(place.seat).get(place.at) {
+            cards[i].tell(alloc, call)?;
+        }
+        if let Some(Some(reply)) = replies.get(i) {
+            cards[i].reply = Reported::of(alloc, reply)?;
+        }
+    }
     Ok(())
 }
 
 /// The scene of a run that was told: all its pieces, one after the other.
-pub fn scene_of_run(alloc: Global, script: &Script, story: &Story) -> Result<Scene, AllocError> {
-    let cards = cards_of(alloc, script, story)?;
-    let mut scene = Scene {
-        lanes: lanes_of(alloc, script)?,
-        calls: cards.len(),
-        cards,
-        marks: Vec::new(alloc),
-        checkpoints: Vec::new(alloc),
-        fault: None,
-        is_run: true,
-        around: None,
-    };
-    let mut so_far = SoFar {
-        begun: 0,
-        before: 0,
-        commits: 0,
-    };
-    for line in &story.lines {
-        add_line(alloc, line, story, &mut so_far, &mut scene)?;
-    }
+pub fn scene_of_run(
+    alloc: Global,
+    script: &Script,
+    story: Story<Strip>,
+) -> Result<Scene, AllocError> {
+    let Story {
+        page,
+        calls,
+        replies,
+        ..
+    } = story;
+    let mut scene = page.scene;
+    add_words(
+        alloc,
+        script,
+        calls.as_slice(),
+        replies.as_slice(),
+        &mut scene.cards,
+    )?;
+    scene.calls = scene.cards.len();
     Ok(scene)
 }

@@ -1,6 +1,7 @@
 //! The words of labels, cut where they are long. A `%` with its two digits stays whole.
 
 use crate::scene::{ARROW, Card, ELLIPSIS};
+use fs_text::errno_text;
 use itoa::Buffer;
 use std::alloc::{AllocError, Global};
 
@@ -93,11 +94,6 @@ fn push_last_name(path: &[u8], most: usize, label: &mut Vec<u8>) -> Result<(), A
     }
 }
 
-/// Whether a call of these words has two paths.
-fn has_two_paths(words: &[u8]) -> bool {
-    words.starts_with(b"rename ") || words.starts_with(b"exchange ")
-}
-
 fn push_word(word: &[u8], path_width: usize, label: &mut Vec<u8>) -> Result<(), AllocError> {
     if word.starts_with(b"/") {
         push_path(word, path_width, label)
@@ -117,8 +113,9 @@ fn word_end(words: &[u8], from: usize) -> usize {
 }
 
 /// Adds the words of a call, each cut by itself.
-fn push_call(words: &[u8], label: &mut Vec<u8>) -> Result<(), AllocError> {
-    let path_width = if has_two_paths(words) {
+fn push_call(card: &Card, label: &mut Vec<u8>) -> Result<(), AllocError> {
+    let words = card.words.as_slice();
+    let path_width = if card.has_two_paths {
         PATHS_WIDTH
     } else {
         PATH_WIDTH
@@ -159,38 +156,29 @@ impl Label {
     }
 }
 
-/// The word of an error, where a reply's words tell one.
-fn errno_in(reply: &[u8]) -> Option<&[u8]> {
-    if reply.starts_with(b"failed ") {
-        reply.get(7..)
-    } else {
-        None
-    }
-}
-
 /// Adds a reply to a label.
 fn push_reply(card: &Card, label: &mut Label) -> Result<(), AllocError> {
-    if card.reply.is_empty() {
+    if card.reply.is_none() {
         return Ok(());
     }
     label.plain.push(b' ')?;
-    match errno_in(card.reply.as_slice()) {
+    match card.reply.errno {
         Some(errno) => {
             label.failure.extend_from_slice(&[ARROW, b' '])?;
-            label.failure.extend_from_slice(errno)?;
+            label.failure.extend_from_slice(errno_text(errno))?;
         }
         None => {
             label.plain.extend_from_slice(&[ARROW, b' '])?;
-            push_cut(card.reply.as_slice(), REPLY_WIDTH, &mut label.plain)?;
+            push_cut(card.reply.words.as_slice(), REPLY_WIDTH, &mut label.plain)?;
         }
     }
-    if card.due.is_empty() {
+    if card.due.is_none() {
         return Ok(());
     }
     label.failure.extend_from_slice(b", due ")?;
-    match errno_in(card.due.as_slice()) {
-        Some(errno) => label.failure.extend_from_slice(errno),
-        None => push_cut(card.due.as_slice(), REPLY_WIDTH, &mut label.failure),
+    match card.due.errno {
+        Some(errno) => label.failure.extend_from_slice(errno_text(errno)),
+        None => push_cut(card.due.words.as_slice(), REPLY_WIDTH, &mut label.failure),
     }
 }
 
@@ -215,7 +203,7 @@ pub fn label_of(alloc: Global, card: &Card, again: bool, short: bool) -> Result<
     push_number(card.number, &mut label.plain)?;
     if !(again && short) {
         label.plain.push(b' ')?;
-        push_call(card.words.as_slice(), &mut label.plain)?;
+        push_call(card, &mut label.plain)?;
         push_reply(card, &mut label)?;
     }
     push_fault(card, &mut label)?;

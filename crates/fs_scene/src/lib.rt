@@ -1,6 +1,6 @@
 //! What a picture shows: lanes, calls, and the marks of what they did, in order.
 //!
-//! A `Scene` is made of a run that was recorded (`scene_of_run`) or of a journal (`scene_of_journal`), and cut down to a call and
+//! A `Scene` is made of a run as it is told (`Strip`, `scene_of_run`) or of a journal (`scene_of_journal`), and cut down to a call and
 //! those that overlap it (`around`). `label_of` and its like give the words of a call as they stand in a picture, cut where they
 //! are too long. That each function is safe and ends is proved; what is in a scene is tested, by pictures.
 #![tactic(auto)]
@@ -12,7 +12,7 @@ mod overlap;
 mod scene;
 
 pub use from_journal::scene_of_journal;
-pub use from_run::scene_of_run;
+pub use from_run::{Strip, scene_of_run};
 pub use labels::{Label, label_of, last_name, push_cut, push_number};
 pub use overlap::around;
-pub use scene::{ARROW, Card, ELLIPSIS, Fault, Mark, Scene, What};
+pub use scene::{ARROW, Card, ELLIPSIS, Fault, Mark, Reported, Scene, What};

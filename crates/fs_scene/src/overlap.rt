@@ -1,11 +1,11 @@
 //! One call, and those that overlap it.
 
-use crate::scene::{Card, Fault, Mark, Scene, What};
+use crate::scene::{Card, Fault, Mark, Scene, What, short};
 use std::alloc::{AllocError, Global};
 
 /// Whether two calls overlap: neither ended before the other began. A call that did not return has no end.
 fn overlap(one: &Card, other: &Card) -> bool {
-    let before = |card: &Card, than: &Card| !card.reply.is_empty() && card.last < than.first;
+    let before = |card: &Card, than: &Card| !card.reply.is_none() && card.last < than.first;
     !before(one, other) && !before(other, one)
 }
 
@@ -102,23 +102,12 @@ fn lanes_kept(alloc: Global, scene: &Scene, kept: &[bool]) -> Result<Vec<bool>, 
 
 /// A mark of calls that have new places.
 fn mark_at(mark: Mark, cards: &[Option<usize>]) -> Option<Mark> {
-    let Mark {
-        at,
-        card,
-        what,
-        name,
-    } = mark;
-    let card = place_in(cards, card)?;
-    let what = match what {
-        What::Help(helped) => What::Help(place_in(cards, helped)?),
-        _ => what,
+    let card = short(place_in(cards, mark.card as usize)?);
+    let what = match mark.what {
+        What::Help(helped) => What::Help(short(place_in(cards, helped as usize)?)),
+        what => what,
     };
-    Some(Mark {
-        at,
-        card,
-        what,
-        name,
-    })
+    Some(Mark { card, what, ..mark })
 }
 
 /// The scene of the call of a number and those that overlap it, or help a call that is shown, or are helped by one; none where
@@ -210,6 +199,7 @@ fn moved(
         lanes: names,
         cards: old,
         marks: all,
+        names: of_nodes,
         checkpoints,
         fault,
         is_run,
@@ -235,6 +225,7 @@ fn moved(
         cards: moved_cards(alloc, old, cards, lanes)?,
         checkpoints: between(alloc, checkpoints.as_slice(), marks.as_slice())?,
         marks,
+        names: of_nodes,
         fault: moved_fault(fault, fault_at),
         is_run,
         calls,

@@ -1,6 +1,8 @@
 //! What is drawn: lanes, calls, and the marks of what they did, in order.
 
-use std::alloc::Global;
+use fs_calls::{Call, Errno, Reply, Target};
+use fs_text::{write_call, write_reply};
+use std::alloc::{AllocError, Global};
 
 /// A sign in a text that is no byte of it: something was left out here.
 pub const ELLIPSIS: u8 = 1;
@@ -14,13 +16,13 @@ pub enum What {
     /// It began.
     Begin,
     /// It took the node of this number.
-    Take(usize),
+    Take(u32),
     /// It waits for the node of this number, which the call of the second one holds.
-    Wait(usize, u64),
+    Wait(u32, u32),
     /// It let the node of this number go.
-    LetGo(usize),
+    LetGo(u32),
     /// It gave the call at this place among the calls its place.
-    Help(usize),
+    Help(u32),
     /// It took its place.
     Commit,
     /// It made its change, whose place another call gave it.
@@ -29,17 +31,59 @@ pub enum What {
     Return,
 }
 
-/// Something that a call did: the number of the entry or the event, the place of the call among the calls, and the last name
-/// of the node of which it tells.
-#[derive(Drop)]
-pub struct Mark {
-    pub at: u64,
-    pub card: usize,
-    pub what: What,
-    pub name: Vec<u8>,
+/// A place among the calls, or a number of a node or a call, as a mark has it: no text has room for so many calls that one is
+/// longer, and no tree for so many nodes.
+pub(crate) fn short(number: usize) -> u32 {
+    if number > u32::MAX as usize {
+        return u32::MAX;
+    }
+    number as u32
 }
 
-/// A call: its number, which counts from 1 behind each checkpoint, its lane, its words, its reply's words (none where it did not
+/// Something that a call did: the number of the entry or the event, the place of the call among the calls, and where the last name
+/// of the node of which it tells stands among the names; none where it tells of no node. A run has many: the numbers are as short as those of calls and nodes.
+#[derive(Clone, Copy, Debug)]
+pub struct Mark {
+    pub at: u64,
+    pub card: u32,
+    pub name: Option<u32>,
+    pub what: What,
+}
+
+/// The words of a reply, and the error that it tells; no words where there is none.
+#[derive(Drop)]
+pub struct Reported {
+    pub words: Vec<u8>,
+    pub errno: Option<Errno>,
+}
+
+impl Reported {
+    /// No reply. It takes no memory.
+    pub fn none(alloc: Global) -> Reported {
+        Reported {
+            words: Vec::new(alloc),
+            errno: None,
+        }
+    }
+
+    /// A reply.
+    pub fn of(alloc: Global, reply: &Reply) -> Result<Reported, AllocError> {
+        let mut words = Vec::new(alloc);
+        write_reply(alloc, reply, &mut words)?;
+        let errno = match reply {
+            Reply::Failed(errno) => Some(*errno),
+            _ => None,
+        };
+        Ok(Reported { words, errno })
+    }
+
+    /// Whether there is none.
+    pub fn is_none(&self) -> bool {
+        self.words.is_empty()
+    }
+}
+
+/// A call: its number, which counts from 1 behind each checkpoint, its lane, its words, its reply (none where it did not
 /// return), the reply that was due where it is another one, the kind of the fault where an entry of it has another fault, and where
 /// it began, ended, took its place and was carried out. Numbers that are not there are 0.
 #[derive(Drop)]
@@ -47,8 +91,9 @@ pub struct Card {
     pub number: u64,
     pub lane: usize,
     pub words: Vec<u8>,
-    pub reply: Vec<u8>,
-    pub due: Vec<u8>,
+    pub has_two_paths: bool,
+    pub reply: Reported,
+    pub due: Reported,
     pub fault: Vec<u8>,
     pub first: u64,
     pub last: u64,
@@ -59,14 +104,15 @@ pub struct Card {
 }
 
 impl Card {
-    /// A call of which nothing is told yet but its number, its lane and its words.
-    pub fn new(alloc: Global, number: u64, lane: usize, words: Vec<u8>) -> Card {
+    /// A call of which nothing is told yet but its number and its lane.
+    pub fn new(alloc: Global, number: u64, lane: usize) -> Card {
         Card {
             number,
             lane,
-            words,
-            reply: Vec::new(alloc),
-            due: Vec::new(alloc),
+            words: Vec::new(alloc),
+            has_two_paths: false,
+            reply: Reported::none(alloc),
+            due: Reported::none(alloc),
             fault: Vec::new(alloc),
             first: 0,
             last: 0,
@@ -75,6 +121,12 @@ impl Card {
             helper: None,
             carried: 0,
         }
+    }
+
+    /// Tells which call it is.
+    pub fn tell(&mut self, alloc: Global, call: &Call) -> Result<(), AllocError> {
+        self.has_two_paths = matches!(call.target(), Target::Pair(_, _, _));
+        write_call(alloc, call, &mut self.words)
     }
 }
 
@@ -85,13 +137,14 @@ pub struct Fault {
     pub mark: Option<usize>,
 }
 
-/// What is drawn: the names of the lanes, the calls in the order of their begins, the marks, and of each checkpoint the number of
-/// the event behind it; whether it is a run, of which each event is told; and how many calls there are in all.
+/// What is drawn: the names of the lanes, the calls in the order of their begins, the marks, the names of which they tell, and of
+/// each checkpoint the number of the event behind it; whether it is a run, of which each event is told; and how many calls there are in all.
 #[derive(Drop)]
 pub struct Scene {
     pub lanes: Vec<Vec<u8>>,
     pub cards: Vec<Card>,
     pub marks: Vec<Mark>,
+    pub names: Vec<Vec<u8>>,
     pub checkpoints: Vec<u64>,
     pub fault: Option<Fault>,
     pub is_run: bool,
@@ -120,8 +173,31 @@ impl Scene {
         self.lanes.len() > 16
     }
 
+    /// The last name of the node of which a mark tells; no bytes where it tells of none.
+    pub fn name_of(&self, mark: &Mark) -> &[u8] {
+        let Some(place) = mark.name else {
+            return &[];
+        };
+        match self.names.get(place as usize) {
+            Some(name) => name.as_slice(),
+            None => &[],
+        }
+    }
+
+    /// The call of a mark.
+    pub fn card_of(&self, mark: &Mark) -> Option<&Card> {
+        self.cards.get(mark.card as usize)
+    }
+
+    /// Adds a mark, and notes at its call what it tells of that.
+    pub fn push_mark(&mut self, mark: Mark, commits: u64) -> Result<(), AllocError> {
+        self.note(mark.at, mark.card as usize, mark.what, commits);
+        self.marks.push(mark)?;
+        Ok(())
+    }
+
     /// Notes at a call what a mark tells of it.
-    pub fn note(&mut self, at: u64, card: usize, what: What, commits: u64) {
+    fn note(&mut self, at: u64, card: usize, what: What, commits: u64) {
         if card < self.cards.len() {
             let one = &mut self.cards[card];
             one.last = at;
@@ -136,6 +212,7 @@ impl Scene {
             }
         }
         if let What::Help(helped) = what {
+            let helped = helped as usize;
             if helped < self.cards.len() {
                 let other = &mut self.cards[helped];
                 other.order = commits;

@@ -3,7 +3,7 @@ use Rattle.std.proofs.Common.{◌≡◌, ℕ, ◌+◌, ◌<◌, ◌≤◌, ◌==
 use Rattle.std.specs.Prelude.{if◌then◌else◌}
 use Rattle.std.proofs.lemmas.Bool.{eqb-true, eqb-false}
 use Rattle.std.proofs.lemmas.List.{map-append, at_drop_more, at_drop_all, get_or-set_same, get_or-set_other}
-use Rattle.fs_story.specs.Shown.{deed_shown, deed_told, last_wait, number_after, shown, shown_from, shown_one, wait_of, with_moment}
+use Rattle.fs_story.specs.Shown.{deed_told, last_wait, number_after, shown, shown_from, shown_one, wait_of, with_moment, Adds, Saying}
 use Rattle.fs_story.specs.code.Waiting.{AreWaits, with_moments, number_behind, HasShown}
 use Rattle.fs_story.specs.declared.shown.Waits.{Waits}
 use Rattle.fs_story.specs.declared.story.Teller.{Teller}
@@ -27,17 +27,17 @@ number_more number [] m = refl
 number_more number (x ∷ ms) m = number_more (number_after number x) ms m
 
 -- a teller that goes on by a moment has shown it too
-pub shows_more : (every : Bool) (ms : List Moment) (m : Moment) (old new : Teller) → HasShown every old ms → new.every ≡ old.every → new.number ≡ number_after old.number m → ((before : List Told) → AreWaits old.waits before → AreWaits new.waits (with_moment before m))
-    → ((before : List Told) → AreWaits old.waits before → map deed_shown new.page.lines.items ≡ map deed_shown old.page.lines.items ++ map deed_told (shown_one old.every before old.number m)) → HasShown every new (ms ++ m ∷ [])
-shows_more every ms m old new has every_is number waits lines = record {
-  every_is = every_is ∙ has.every_is;
-  number = number ∙ ap (λ (n : ℕ). number_after n m) has.number ∙ sym (number_more 1 ms m);
-  waits = subst (AreWaits new.waits) (sym (with_more [] ms m)) (waits (with_moments [] ms) has.waits);
-  lines = lines (with_moments [] ms) has.waits
-      ∙ ap₂ (λ (b : Bool) (n : ℕ). map deed_shown old.page.lines.items ++ map deed_told (shown_one b (with_moments [] ms) n m)) has.every_is has.number
-      ∙ ap (λ l. l ++ map deed_told (shown_one every (with_moments [] ms) (number_behind 1 ms) m)) has.lines
+pub shows_more : {P : Type 0} (has : P → P → List Saying → Type 0) (every : Bool) (start : P) (ms : List Moment) (m : Moment) (old new : Teller P) → HasShown has every start old ms → new.every ≡ old.every → new.number ≡ number_after old.number m
+    → ((before : List Told) → AreWaits old.waits before → AreWaits new.waits (with_moment before m)) → ((before : List Told) → AreWaits old.waits before → Adds has old.page (map deed_told (shown_one old.every before old.number m)) new.page) → HasShown has every start new (ms ++ m ∷ [])
+shows_more has every start ms m old new shown_so every_is number waits page = record {
+  every_is = every_is ∙ shown_so.every_is;
+  number = number ∙ ap (λ (n : ℕ). number_after n m) shown_so.number ∙ sym (number_more 1 ms m);
+  waits = subst (AreWaits new.waits) (sym (with_more [] ms m)) (waits (with_moments [] ms) shown_so.waits);
+  page = subst (has start new.page)
+      (ap₂ (λ (b : Bool) (n : ℕ). map deed_told (shown every ms) ++ map deed_told (shown_one b (with_moments [] ms) n m)) shown_so.every_is shown_so.number
       ∙ sym (map-append deed_told (shown_from every [] 1 ms) (shown_one every (with_moments [] ms) (number_behind 1 ms) m))
-      ∙ ap (map deed_told) (sym (shown_more every [] 1 ms m));
+      ∙ ap (map deed_told) (sym (shown_more every [] 1 ms m)))
+      (page (with_moments [] ms) shown_so.waits start (map deed_told (shown every ms)) shown_so.page);
 }
 
 -- the wait of one thread is set, and those of the others stay

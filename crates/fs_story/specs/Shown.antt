@@ -2,9 +2,9 @@
 use Rattle.std.specs.Prelude.{ℕ, ◌≡◌, map, Bool, true, false, ◌==◌, ◌&&◌, ◌||◌, not, ◌+◌, List, [], ◌∷◌, ◌++◌, Option, Some, None, if◌then◌else◌}
 use Rattle.fs_machine.specs.declared.answers.Stepped.{Stepped}
 use Rattle.fs_machine.specs.declared.answers.Stepped.TheVariants as step
-use Rattle.fs_story.specs.declared.story.Deed.{Deed}
-use Rattle.fs_story.specs.declared.story.Deed.TheVariants as deed
-use Rattle.fs_story.specs.declared.story.Line.{Line}
+use Rattle.fs_story.specs.declared.page.Deed.{Deed}
+use Rattle.fs_story.specs.declared.page.Deed.TheVariants as deed
+use Rattle.fs_story.specs.declared.page.Line.{Line}
 use Rattle.fs_story.specs.declared.story.Story.{Story}
 use Rattle.fs_witness.specs.declared.moments.Answer.{Answer}
 use Rattle.fs_witness.specs.declared.moments.Answer.TheVariants.{Spent, Begun, Stepped as OfStep}
@@ -84,14 +84,22 @@ abbrev pub seat_at : Moment → Option ℕ
 seat_at (Event t) = Some t.seat
 seat_at (Checkpoint entries) = None
 
--- what is told of a numbered moment: its number, the seat of its thread, and what it did
-abbrev pub deed_told : ℕ × Moment → ℕ × (Option ℕ × Deed)
+-- what is told of a moment that is shown: its number, the seat of its thread, and what it did
+abbrev pub Saying : Type 0
+Saying = ℕ × (Option ℕ × Deed)
+
+-- the same of a numbered moment
+abbrev pub deed_told : ℕ × Moment → Saying
 deed_told event = (event.0, (seat_at event.1, deed_at event.1))
 
 -- what a line says of its moment
-abbrev pub deed_shown : Line → ℕ × (Option ℕ × Deed)
+abbrev pub deed_shown : Line → Saying
 deed_shown line = (line.number, (line.seat, line.deed))
 
--- a story tells what is to be shown of moments, and nothing else
-abbrev pub Tells : Bool → Story → List Moment → Type 0
-Tells every story ms = map deed_shown story.lines.items ≡ map deed_told (shown every ms)
+-- what has something told has this told besides
+abbrev pub Adds : {P : Type 0} → (P → P → List Saying → Type 0) → P → List Saying → P → Type 0
+Adds has old more new = (start : _) (told : List Saying) → has start old told → has start new (told ++ more)
+
+-- a story's page has told what is to be shown of moments, and nothing else
+abbrev pub Tells : {P : Type 0} → (P → P → List Saying → Type 0) → Bool → P → Story P → List Moment → Type 0
+Tells has every start story ms = has start story.page (map deed_told (shown every ms))

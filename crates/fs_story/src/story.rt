@@ -1,14 +1,15 @@
 //! The events of a run, told in words.
 
-ghost use Rattle.std.specs.Prelude.{◌≡◌, ◌∷◌, ◌++◌, [], Bool, List, None, map, IfOk, OnOk};
+ghost use Rattle.std.specs.Prelude.{◌≡◌, ◌∷◌, [], Bool, List, None, map, IfOk, OnOk};
 ghost use Rattle.fs_witness.specs.declared.moments.Moment.{Moment};
 ghost use Rattle.fs_witness.specs.declared.moments.Moment.TheVariants.{Event};
 ghost use Rattle.fs_witness.specs.declared.moments.Told.{Told};
-ghost use Rattle.fs_story.specs.Shown.{deed_of, deed_of_step, deed_shown, deed_told, shown_one, Tells};
-ghost use Rattle.fs_story.specs.code.Waiting.{AreWaits, HasShown};
+ghost use Rattle.fs_story.specs.Shown.{deed_of, deed_of_step, deed_told, shown_one, Adds, Tells};
+ghost use Rattle.fs_story.specs.code.Waiting.{AreWaits, GoesOn, HasShown};
 
 use crate::effect::{Effect, effect_of};
 use crate::holdings::{Held, let_go, meaning, position, take};
+use crate::page::{Deed, Line, Page, Part};
 use crate::paths::{path_of, paths_of};
 use crate::shown::Waits;
 use fs_calls::{Call, Reply};
@@ -21,64 +22,6 @@ use fs_text::{errno_text, write_call, write_reply};
 use fs_witness::{Answer, Moment, Told, Witness};
 use itoa::Buffer;
 use std::alloc::{AllocError, Global};
-
-/// What a moment of a run did.
-#[derive(Clone, Copy, Debug, PartialEq, Eq)]
-pub enum Deed {
-    /// Nothing: the thread has nothing to do any more.
-    Idles,
-    /// The call begins.
-    Begins,
-    /// The call takes this node.
-    Takes(NodeNo),
-    /// The call waits for this node, which the other call holds.
-    Waits(NodeNo, CallNo),
-    /// The call lets this node go.
-    LetsGo(NodeNo),
-    /// The call gives the other one its place.
-    Helps(CallNo),
-    /// The call takes its place, and makes its change.
-    Commits,
-    /// The call makes its change, whose place another one gave it.
-    CarriesOut,
-    /// The call returns.
-    Returns,
-    /// The journal begins again, and so do the numbers of calls.
-    Checkpoint,
-}
-
-/// A moment that is shown.
-#[derive(Drop)]
-pub struct Line {
-    /// The number of the event in the run, counted from 1; of a checkpoint, that of the event behind it.
-    pub number: usize,
-    /// The seat of its thread; none of a checkpoint.
-    pub seat: Option<usize>,
-    /// The number of its call; 0 where there is none.
-    pub call: u64,
-    /// What it did.
-    pub deed: Deed,
-    /// Where its words end in the words of the story.
-    pub end: usize,
-    /// Where the path of its node stands in the words of the story; of no bytes where it has no node.
-    pub path: Part,
-}
-
-/// A part of the words of a story: where it begins, and where it ends.
-#[derive(Clone, Copy, Debug, PartialEq, Eq)]
-pub struct Part {
-    pub from: usize,
-    pub end: usize,
-}
-
-impl Part {
-    /// No words.
-    pub fn none() -> Part
-        ensures { result ≡ record { from = 0; end = 0 } }
-    {
-        Part { from: 0, end: 0 }
-    }
-}
 
 /// A call of a run: its number, its thread, and its place among the calls of that.
 #[derive(Clone, Copy, Debug)]
@@ -95,22 +38,14 @@ pub struct Standing {
     pub call: u64,
 }
 
-/// The moments of a run that are shown, with their words one after the other; the calls in the order in which they began, with
-/// what each returned; and how far each thread came.
+/// A run that was told: the page with the moments that are shown, the calls in the order in which they began, with what each
+/// returned, and how far each thread came.
 #[derive(Drop)]
-pub struct Story {
-    pub lines: Vec<Line>,
-    pub words: Vec<u8>,
+pub struct Story<P> {
+    pub page: P,
     pub calls: Vec<CallPlace>,
     pub replies: Vec<Option<Reply>>,
     pub threads: Vec<Standing>,
-}
-
-/// The lines so far, and their words one after the other.
-#[derive(Drop)]
-struct Page {
-    lines: Vec<Line>,
-    words: Vec<u8>,
 }
 
 /// What an event did, and where the words have the path of its node.
@@ -577,103 +512,113 @@ impl<'a> Voice<'a> {
         }
     }
 
-    /// Shows an event, which is counted from 1.
-    fn show(
+    /// Shows an event, which is counted from 1, on a page.
+    fn show<P: Page>(
         &mut self,
         store: &Store,
         number: usize,
         told: Told,
-        page: &mut Page,
+        words: &mut Vec<u8>,
+        page: &mut P,
     ) -> Result<(), AllocError>
-        ensures { OnOk result (map deed_shown page.new.lines.items ≡ map deed_shown page.old.lines.items ++ deed_told (number, Event told) ∷ []) }
+        ensures { OnOk result (Adds P.Has page.old (deed_told (number, Event told) ∷ []) page.new) }
     {
         let seat = told.seat;
         let before = self.under_way(seat);
-        let said = self.tell(store, &told, &mut page.words)?;
+        let said = self.tell(store, &told, words)?;
         let call = if said.deed == Deed::Begins {
             self.under_way(seat)
         } else {
             before
         };
-        page.lines.push(Line {
+        let line = Line {
             number,
             seat: Some(seat),
             call,
             deed: said.deed,
-            end: page.words.len(),
             path: said.path,
-        })?;
+        };
+        page.show(line, words.as_slice())?;
         self.keep_reply(call, told.answer);
         Ok(())
     }
 
-    /// Shows a checkpoint, before the event of a number.
-    fn show_checkpoint(&mut self, number: usize, page: &mut Page) -> Result<(), AllocError>
-        ensures { OnOk result (map deed_shown page.new.lines.items ≡ map deed_shown page.old.lines.items ++ (number, (None, Deed.Checkpoint)) ∷ []) }
-    {
+    /// The calls from here on begin behind a checkpoint.
+    fn checkpoint(&mut self) {
         self.before = self.calls.len();
-        page.words.extend_from_slice(b", the next call is #1")?;
-        page.lines.push(Line {
-            number,
-            seat: None,
-            call: 0,
-            deed: Deed::Checkpoint,
-            end: page.words.len(),
-            path: Part::none(),
-        })?;
-        Ok(())
     }
 }
 
-/// Tells a run as its moments come: each event, or those that tell something new, and each checkpoint.
+/// Shows a checkpoint, before the event of a number, on a page.
+fn show_checkpoint<P: Page>(number: usize, page: &mut P) -> Result<(), AllocError>
+    ensures { OnOk result (Adds P.Has page.old ((number, (None, Deed.Checkpoint)) ∷ []) page.new) }
+{
+    let line = Line {
+        number,
+        seat: None,
+        call: 0,
+        deed: Deed::Checkpoint,
+        path: Part::none(),
+    };
+    page.show(line, b", the next call is #1")
+}
+
+/// Tells a run as its moments come: each event, or those that tell something new, and each checkpoint. A page is shown each
+/// where it comes, and the teller keeps none of them.
 #[derive(Drop)]
-pub struct Teller<'a> {
+pub struct Teller<'a, P> {
     voice: Voice<'a>,
     every: bool,
     number: usize,
     waits: Waits,
-    page: Page,
+    words: Vec<u8>,
+    page: P,
 }
 
-impl<'a> Teller<'a> {
+impl<'a, P: Page> Teller<'a, P> {
     /// Before the first moment of a run of a script. It shows every event, or those that tell something new.
-    pub fn new(alloc: Global, script: &'a Script, every: bool) -> Result<Teller<'a>, AllocError>
-        ensures { IfOk result (λ teller. HasShown every teller []) }
+    pub fn new(
+        alloc: Global,
+        script: &'a Script,
+        every: bool,
+        page: P,
+    ) -> Result<Teller<'a, P>, AllocError>
+        ensures { (start : P) → P.Has start page [] → IfOk result (λ teller. HasShown P.Has every start teller []) }
     {
         Ok(Teller {
             voice: Voice::new(alloc, script)?,
             every,
             number: 1,
             waits: Waits::new(alloc),
-            page: Page {
-                lines: Vec::new(alloc),
-                words: Vec::new(alloc),
-            },
+            words: Vec::new(alloc),
+            page,
         })
     }
 
     /// Goes on by an event, and shows it where it tells something new or every one is asked for.
     fn go_on(&mut self, store: &Store, told: Told) -> Result<(), AllocError>
         ensures waits { (before : List Told) → AreWaits self.old.waits before → OnOk result (AreWaits self.new.waits (told ∷ before)) }
-        ensures lines { (before : List Told) → AreWaits self.old.waits before → OnOk result (map deed_shown self.new.page.lines.items ≡ map deed_shown self.old.page.lines.items ++ map deed_told (shown_one self.old.every before self.old.number (Event told))) }
+        ensures page { (before : List Told) → AreWaits self.old.waits before → OnOk result (Adds P.Has self.old.page (map deed_told (shown_one self.old.every before self.old.number (Event told))) self.new.page) }
         ensures every { self.new.every ≡ self.old.every }
         ensures number { self.new.number ≡ self.old.number }
     {
         let news = self.waits.is_news(&told)?;
         if self.every || news {
-            return self.voice.show(store, self.number, told, &mut self.page);
+            self.words.clear();
+            return self
+                .voice
+                .show(store, self.number, told, &mut self.words, &mut self.page);
         }
         Ok(())
     }
 
     /// What was told.
-    pub fn story(self) -> Result<Story, AllocError>
-        ensures { (every : Bool) (ms : List Moment) → HasShown every self.entry ms → IfOk result (λ story. Tells every story ms) }
+    pub fn story(self) -> Result<Story<P>, AllocError>
+        ensures { (every : Bool) (start : P) (ms : List Moment) → HasShown P.Has every start self.entry ms → IfOk result (λ story. Tells P.Has every start story ms) }
     {
         let threads = standings(self.voice.alloc, self.voice.threads.as_slice())?;
         Ok(Story {
-            lines: self.page.lines,
-            words: self.page.words,
+            page: self.page,
             calls: self.voice.calls,
             replies: self.voice.replies,
             threads,
@@ -681,8 +626,8 @@ impl<'a> Teller<'a> {
     }
 }
 
-impl<'a> Witness for Teller<'a> {
-    ghost Told = { λ first teller ms. HasShown first.every teller ms };
+impl<'a, P: Page> Witness for Teller<'a, P> {
+    ghost Told = { λ first teller ms. GoesOn P.Has first teller ms };
 
     fn begins(&mut self, _calls: usize) {}
 
@@ -697,7 +642,10 @@ impl<'a> Witness for Teller<'a> {
                 self.number += 1;
                 Ok(())
             }
-            Moment::Checkpoint(_) => self.voice.show_checkpoint(self.number, &mut self.page),
+            Moment::Checkpoint(_) => {
+                self.voice.checkpoint();
+                show_checkpoint(self.number, &mut self.page)
+            }
         }
     }
 

@@ -9,16 +9,20 @@ use Rattle.fs_witness.specs.declared.moments.Moment.{Moment}
 use Rattle.fs_sched.specs.Watching.{Watches}
 use Rattle.fs_sched.specs.declared.schedule.Schedule.{Schedule}
 use Rattle.fs_sched.specs.declared.watching.Ran.{Ran}
-use Rattle.fs_story.specs.code.Waiting.{HasShown}
+use Rattle.fs_story.specs.code.Waiting.{GoesOn, HasShown}
 use Rattle.fs_story.specs.declared.story.Teller.{Teller}
 use Rattle.fs_trace.specs.Traces.{IsTraceOf, IsTraceText}
+use Rattle.fs_trace.specs.code.LineTexts.{HasLines}
+use Rattle.fs_trace.specs.declared.trace_text.TraceLines.{TraceLines}
 
 -- what a teller has shown of a run is what the run's moments are
-pub told_all : (every : Bool) (schedule : Schedule) (script : Script) (old new : Teller) (ran : Ran) → HasShown every old [] → (w : Watches (λ (first : Teller) teller ms. HasShown first.every teller ms) schedule script old ran new) → HasShown every new w.moments
-told_all every schedule script old new ran none w = subst (λ (b : Bool). HasShown b new w.moments) none.every_is (w.hears old [] (subst (λ (b : Bool). HasShown b old []) (sym none.every_is) none))
+pub told_all : (every : Bool) (schedule : Schedule) (script : Script) (start : TraceLines) (old new : Teller TraceLines) (ran : Ran) → HasShown HasLines every start old []
+    → (w : Watches (λ (first : Teller TraceLines) teller ms. GoesOn HasLines first teller ms) schedule script old ran new) → HasShown HasLines every start new w.moments
+told_all every schedule script start old new ran none w = w.hears old [] (λ e s begins. begins) every start none
 
 -- its trace is one of the script that was read
-pub trace_made : (schedule : Schedule) (every : Bool) (given text made : List ℕ) (script : Script) (old new : Teller) (ran : Ran) → given ≡ text → script_of given ≡ Ok script → (w : Watches (λ (first : Teller) teller ms. HasShown first.every teller ms) schedule script old ran new) → IsTraceText every script.names w.moments (state_of ran.core) made → IsTraceOf schedule every text ran.end made
+pub trace_made : (schedule : Schedule) (every : Bool) (given text made : List ℕ) (script : Script) (old new : Teller TraceLines) (ran : Ran) → given ≡ text → script_of given ≡ Ok script
+    → (w : Watches (λ (first : Teller TraceLines) teller ms. GoesOn HasLines first teller ms) schedule script old ran new) → IsTraceText every script.names w.moments (state_of ran.core) made → IsTraceOf schedule every text ran.end made
 trace_made schedule every given text made script old new ran e is w trace = (
   script,
   sym (ap script_of e) ∙ is,

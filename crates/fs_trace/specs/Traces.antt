@@ -17,8 +17,8 @@ use Rattle.fs_witness.specs.Moments.{entries_told}
 use Rattle.fs_sched.specs.Moments.{TellsRun}
 use Rattle.fs_sched.specs.Gives.{given_words}
 use Rattle.fs_story.specs.Shown.{shown, deed_told}
-use Rattle.fs_story.specs.declared.story.Deed.{Deed}
-use Rattle.fs_story.specs.declared.story.Deed.TheVariants as deed
+use Rattle.fs_story.specs.declared.page.Deed.{Deed}
+use Rattle.fs_story.specs.declared.page.Deed.TheVariants as deed
 use Rattle.fs_witness.specs.declared.moments.Answer.{Answer}
 use Rattle.fs_witness.specs.declared.moments.Answer.TheVariants.{Spent}
 use Rattle.fs_witness.specs.declared.moments.Moment.{Moment}

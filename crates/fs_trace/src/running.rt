@@ -11,7 +11,7 @@ ghost use Rattle.fs_trace.specs.code.Mades.{MakesSchedule, MakesTrace};
 
 use crate::fault::ScheduleFault;
 use crate::script_text::{RunWords, script_text};
-use crate::trace_text::trace_text;
+use crate::trace_text::{TraceLines, trace_text};
 use fs_io::{Made, Sink, Source, transform};
 use fs_sched::{RunEnd, RunFault, Schedule, between, script_in, watch};
 use fs_story::Teller;
@@ -28,7 +28,10 @@ fn trace_of(
 {
     let script = script_in(alloc, text.as_slice())?;
     drop(text);
-    let Ok(mut teller) = Teller::new(alloc, &script, every) else {
+    let Ok(lines) = TraceLines::new(alloc, &script.names) else {
+        return Err(RunFault::OutOfMemory);
+    };
+    let Ok(mut teller) = Teller::new(alloc, &script, every, lines) else {
         return Err(RunFault::OutOfMemory);
     };
     let ran = watch(alloc, &script, schedule, &mut teller)?;
@@ -42,22 +45,15 @@ fn trace_of(
 fn schedule_of(alloc: Global, text: Vec<u8>, schedule: Schedule) -> Result<Made<()>, ScheduleFault>
     ensures { MakesSchedule schedule text.items result }
 {
-    let script = match script_in(alloc, text.as_slice()) {
-        Ok(script) => script,
-        Err(fault) => return Err(ScheduleFault::Run(fault)),
-    };
+    let script = script_in(alloc, text.as_slice())?;
     let mut words = RunWords::new(alloc);
     let ran = watch(alloc, &script, schedule, &mut words);
     if words.are_too_many() {
         return Err(ScheduleFault::TooManyEvents);
     }
-    if let Err(fault) = ran {
-        return Err(ScheduleFault::Run(fault));
-    }
-    match script_text(alloc, text.as_slice(), &script, words) {
-        Ok(text) => Ok(Made { text, end: () }),
-        Err(fault) => Err(fault),
-    }
+    ran?;
+    let text = script_text(alloc, text.as_slice(), &script, words)?;
+    Ok(Made { text, end: () })
 }
 
 /// Reads a script to its end, runs it by a schedule, and writes the trace of the run: a line for each event, or for each that
@@ -74,18 +70,25 @@ pub fn trace_script<R: Source, W: Sink>(
     requires writes { W.failures writer.old < 2 ^ 64 - 1 }
 
     // What is written is the trace of a run of the script that was read.
-    ensures ran { IfOk result (λ end. (text : List ℕ) × IfSome (R.remaining reader.old) (λ input. IsTraceOf schedule every input end text) × Appends (W.contents writer.old) (W.contents writer.new) text) }
+    ensures ran { IfOk result (λ end. (text : List ℕ)
+        × IfSome (R.remaining reader.old) (λ input. IsTraceOf schedule every input end text)
+        × Appends (W.contents writer.old) (W.contents writer.new) text) }
     ensures end { OnOk result (IsAtEnd (R.remaining reader.new)) }
-    ensures input { (f : ScriptFault) → result ≡ Err (RunFault.Input f) → IfSome (R.remaining reader.old) (λ input. script_of input ≡ Err f) }
+    ensures input { (f : ScriptFault) → result ≡ Err (RunFault.Input f)
+        → IfSome (R.remaining reader.old) (λ input. script_of input ≡ Err f) }
     ensures full { result ≢ Err RunFault.Full }
 
     // `UnderWay` comes where the script comes to a checkpoint while calls are under way; then it has no run.
-    ensures under_way { (call : ℕ) → result ≡ Err (RunFault.UnderWay call) → IfSome (R.remaining reader.old) (λ input. ReachesStop schedule input (RunFault.UnderWay call)) }
+    ensures under_way { (call : ℕ) → result ≡ Err (RunFault.UnderWay call)
+        → IfSome (R.remaining reader.old) (λ input. ReachesStop schedule input (RunFault.UnderWay call)) }
 
     // A device is blamed only where it failed in this call; after a failed write a beginning of the text stands, and after every
     // other error nothing was written.
-    ensures devices { KeepsDevices R.failures W.failures reader.old reader.new writer.old writer.new RunFault.Read RunFault.Write result }
-    ensures beginning { IsErrOf result RunFault.Write → (end : RunEnd) × (text : List ℕ) × IfSome (R.remaining reader.old) (λ input. IsTraceOf schedule every input end text) × WritesBeginning text (W.contents writer.old) (W.contents writer.new) }
+    ensures devices { KeepsDevices R.failures W.failures reader.old reader.new writer.old writer.new
+        RunFault.Read RunFault.Write result }
+    ensures beginning { IsErrOf result RunFault.Write → (end : RunEnd) × (text : List ℕ)
+        × IfSome (R.remaining reader.old) (λ input. IsTraceOf schedule every input end text)
+        × WritesBeginning text (W.contents writer.old) (W.contents writer.new) }
 {
     let ended = transform(
         alloc,
@@ -114,18 +117,25 @@ pub fn schedule_script<R: Source, W: Sink>(
     requires writes { W.failures writer.old < 2 ^ 64 - 1 }
 
     // What is written is the script that was read, with the moments of a run of it as its words.
-    ensures ran { OnOk result ((text : List ℕ) × IfSome (R.remaining reader.old) (λ input. IsScheduleOf schedule input text) × Appends (W.contents writer.old) (W.contents writer.new) text) }
+    ensures ran { OnOk result ((text : List ℕ)
+        × IfSome (R.remaining reader.old) (λ input. IsScheduleOf schedule input text)
+        × Appends (W.contents writer.old) (W.contents writer.new) text) }
     ensures end { OnOk result (IsAtEnd (R.remaining reader.new)) }
-    ensures input { (f : ScriptFault) → result ≡ Err (ScheduleFault.Run (RunFault.Input f)) → IfSome (R.remaining reader.old) (λ input. script_of input ≡ Err f) }
+    ensures input { (f : ScriptFault) → result ≡ Err (ScheduleFault.Run (RunFault.Input f))
+        → IfSome (R.remaining reader.old) (λ input. script_of input ≡ Err f) }
     ensures full { result ≢ Err (ScheduleFault.Run RunFault.Full) }
 
     // `UnderWay` comes where the script comes to a checkpoint while calls are under way; then it has no run.
-    ensures under_way { (call : ℕ) → result ≡ Err (ScheduleFault.Run (RunFault.UnderWay call)) → IfSome (R.remaining reader.old) (λ input. ReachesStop schedule input (RunFault.UnderWay call)) }
+    ensures under_way { (call : ℕ) → result ≡ Err (ScheduleFault.Run (RunFault.UnderWay call))
+        → IfSome (R.remaining reader.old) (λ input. ReachesStop schedule input (RunFault.UnderWay call)) }
 
     // A device is blamed only where it failed in this call; after a failed write a beginning of the text stands, and after every
     // other error nothing was written.
-    ensures devices { KeepsDevices R.failures W.failures reader.old reader.new writer.old writer.new (ScheduleFault.Run RunFault.Read) (ScheduleFault.Run RunFault.Write) result }
-    ensures beginning { IsErrOf result (ScheduleFault.Run RunFault.Write) → (text : List ℕ) × IfSome (R.remaining reader.old) (λ input. IsScheduleOf schedule input text) × WritesBeginning text (W.contents writer.old) (W.contents writer.new) }
+    ensures devices { KeepsDevices R.failures W.failures reader.old reader.new writer.old writer.new
+        (ScheduleFault.Run RunFault.Read) (ScheduleFault.Run RunFault.Write) result }
+    ensures beginning { IsErrOf result (ScheduleFault.Run RunFault.Write) → (text : List ℕ)
+        × IfSome (R.remaining reader.old) (λ input. IsScheduleOf schedule input text)
+        × WritesBeginning text (W.contents writer.old) (W.contents writer.new) }
 {
     let ended = transform(
         alloc,

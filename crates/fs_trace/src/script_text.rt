@@ -233,7 +233,8 @@ fn with_words(
     names: &ThreadNames,
     words: &[Word],
 ) -> Result<Vec<u8>, AllocError>
-    ensures { (moments : List Moment) → given_words words.now ≡ busy_words moments → IfOk result (λ text. IsScheduleText input.now names.now moments text.items) }
+    ensures { (moments : List Moment) → given_words words.now ≡ busy_words moments
+        → IfOk result (λ text. IsScheduleText input.now names.now moments text.items) }
 {
     let mut text = Vec::from_slice(alloc, blocks_of(input))?;
     push_words(alloc, names, words, &mut text)?;
@@ -248,7 +249,8 @@ pub(crate) fn script_text(
     script: &Script,
     words: RunWords,
 ) -> Result<Vec<u8>, ScheduleFault>
-    ensures made { (moments : List Moment) → given_words words.words.items ≡ busy_words moments → IfOk result (λ text. IsScheduleText input.now script.now.names moments text.items) }
+    ensures made { (moments : List Moment) → given_words words.words.items ≡ busy_words moments
+        → IfOk result (λ text. IsScheduleText input.now script.now.names moments text.items) }
     ensures fault { (schedule : Schedule) (given : List ℕ) → IfErr result (IsFaultOfSchedule schedule given) }
 {
     match with_words(alloc, input, &script.names, words.words.as_slice()) {

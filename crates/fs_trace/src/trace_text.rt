@@ -7,14 +7,14 @@ ghost use Rattle.fs_witness.specs.declared.moments.Moment.{Moment};
 ghost use Rattle.fs_story.specs.Shown.{deed_shown, Tells};
 ghost use Rattle.fs_story.specs.code.Waiting.{HasShown};
 ghost use Rattle.fs_trace.specs.Traces.{head_of, line_head, thread_line, IsTraceText};
-ghost use Rattle.fs_trace.specs.code.LineTexts.{AddsLine, AddsLines, IsTraceHead};
+ghost use Rattle.fs_trace.specs.code.LineTexts.{AddsLine, HasLines, IsTraceHead, IsTraceStart};
 
 use crate::script_text::name_of;
 use fs_calls::Call;
 use fs_core::Core;
 use fs_sched::{counts_of, push_counts};
 use fs_script::{Script, ThreadNames, write_tree};
-use fs_story::{Deed, Line, Standing, Story, Teller};
+use fs_story::{Deed, Line, Page, Standing, Story, Teller};
 use fs_text::write_call;
 use fs_words::Addition;
 use std::alloc::{AllocError, Global};
@@ -64,25 +64,30 @@ fn push_line(line: &Line, words: &[u8], text: &mut Addition) -> Result<(), Alloc
     text.push(b"\n")
 }
 
-/// The words between two places; none where there is no such part.
-fn words_between(words: &[u8], from: usize, end: usize) -> &[u8] {
-    match words.get(from..end) {
-        Some(words) => words,
-        None => &[],
+/// The text of a trace so far, to which each line is added as it comes.
+#[derive(Drop)]
+pub(crate) struct TraceLines {
+    text: Addition,
+}
+
+impl TraceLines {
+    /// Before the first line.
+    pub(crate) fn new(alloc: Global, names: &ThreadNames) -> Result<TraceLines, AllocError>
+        ensures { IfOk result (λ lines. IsTraceStart names.now lines) }
+    {
+        let mut text = Addition::new(Vec::new(alloc));
+        text.push(b"atomfs-trace 1\n")?;
+        push_threads(names, &mut text)?;
+        Ok(TraceLines { text })
     }
 }
 
-/// The lines, with their words.
-fn push_lines(lines: &[Line], words: &[u8], text: &mut Addition) -> Result<(), AllocError>
-    ensures ok { OnOk result (AddsLines (map line_head (map deed_shown lines.now)) text.old.added text.new.added) }
-    ensures before { text.new.before ≡ text.old.before }
-{
-    let mut from = 0;
-    for line in lines {
-        push_line(line, words_between(words, from, line.end), text)?;
-        from = line.end;
+impl Page for TraceLines {
+    ghost Has = { HasLines };
+
+    fn show(&mut self, line: Line, words: &[u8]) -> Result<(), AllocError> {
+        push_line(&line, words, &mut self.text)
     }
-    Ok(())
 }
 
 /// The line of a call that did not return; the number is that of a call that began.
@@ -130,11 +135,11 @@ fn push_left_of(
 }
 
 /// The lines of all calls that did not return.
-fn left_text(alloc: Global, script: &Script, story: &Story) -> Result<Vec<u8>, AllocError> {
+fn left_text(alloc: Global, script: &Script, threads: &[Standing]) -> Result<Vec<u8>, AllocError> {
     let mut text = Addition::new(Vec::new(alloc));
     let lists = script.lists.as_slice();
     for seat in 0..lists.len() {
-        if let (Some(name), Some(standing)) = (script.names.name(seat), story.threads.get(seat)) {
+        if let (Some(name), Some(standing)) = (script.names.name(seat), threads.get(seat)) {
             push_left_of(alloc, name, lists[seat].as_slice(), *standing, &mut text)?;
         }
     }
@@ -142,14 +147,17 @@ fn left_text(alloc: Global, script: &Script, story: &Story) -> Result<Vec<u8>, A
 }
 
 /// The text of a trace up to its tree: the threads, each moment that is shown, and what did not return.
-fn head_text(alloc: Global, script: &Script, story: &Story) -> Result<Vec<u8>, AllocError>
-    ensures { (every : Bool) (moments : List Moment) → Tells every story.now moments → IfOk result (λ head. IsTraceHead every script.now.names moments head.items) }
+fn head_text(
+    alloc: Global,
+    script: &Script,
+    story: Story<TraceLines>,
+) -> Result<Vec<u8>, AllocError>
+    ensures { (every : Bool) (start : TraceLines) (moments : List Moment)
+        → IsTraceStart script.now.names start → Tells HasLines every start story moments
+        → IfOk result (λ head. IsTraceHead every script.now.names moments head.items) }
 {
-    let mut head = Addition::new(Vec::new(alloc));
-    head.push(b"atomfs-trace 1\n")?;
-    push_threads(&script.names, &mut head)?;
-    push_lines(story.lines.as_slice(), story.words.as_slice(), &mut head)?;
-    let left = left_text(alloc, script, story)?;
+    let left = left_text(alloc, script, story.threads.as_slice())?;
+    let mut head = story.page.text;
     head.push(left.as_slice())?;
     Ok(head.kept())
 }
@@ -159,13 +167,15 @@ fn head_text(alloc: Global, script: &Script, story: &Story) -> Result<Vec<u8>, A
 pub(crate) fn trace_text<'a>(
     alloc: Global,
     script: &Script,
-    teller: Teller<'a>,
+    teller: Teller<'a, TraceLines>,
     core: &Core,
 ) -> Result<Vec<u8>, AllocError>
-    ensures { (every : Bool) (moments : List Moment) → HasShown every teller.entry moments → IfOk result (λ text. IsTraceText every script.now.names moments (state_of core.now) text.items) }
+    ensures { (every : Bool) (start : TraceLines) (moments : List Moment)
+        → IsTraceStart script.now.names start → HasShown HasLines every start teller.entry moments
+        → IfOk result (λ text. IsTraceText every script.now.names moments (state_of core.now) text.items) }
 {
     let story = teller.story()?;
-    let mut text = head_text(alloc, script, &story)?;
+    let mut text = head_text(alloc, script, story)?;
     write_tree(alloc, core.store(), &mut text)?;
     let mut last = Addition::new(text);
     push_counts(counts_of(core.timeline()), &mut last)?;

@@ -1,22 +1,28 @@
-use Rattle.std.proofs.Common.{[], refl, sym, ap, ◌∙◌, subst}
+use Rattle.std.proofs.Common.{◌≡◌, Result, Err, [], sym, ap, ◌∙◌, subst, rules}
+use Rattle.fs_io.specs.declared.shell.Made.{Made}
 use Rattle.fs_script.specs.Script.{script_of}
 use Rattle.fs_trace.specs.Traces.{IsScheduleText}
+use Rattle.fs_trace.specs.code.Mades.{MakesSchedule}
+use Rattle.fs_trace.specs.declared.fault.ScheduleFault.{ScheduleFault}
 use Rattle.fs_trace.proofs.running.schedule_of.Goals as goal
 
-pub returns-in-Ok-script_text : goal.returns-in-Ok-script_text
-returns-in-Ok-script_text c =
-    let watched = c.in_default.ensures.watches in
+pub returns-in_err-text : goal.returns-in_err-text
+returns-in_err-text c =
+    let e : ◌≡◌ {A = Result (Made (Unit {0})) ScheduleFault} c.from_residual-in_err-text.result (Err c.in_err-text.field-0.0) = search rules in
+    subst (MakesSchedule c.args.schedule c.args.text.items) (sym e) (record { script = tt; fault = c.in_err-text.ensures.fault c.args.schedule c.args.text.items })
+
+pub returns : goal.returns
+returns c =
+    let script = c.in_ok-script.script in
+    let watched = c.in_ok-ran.ensures.watches in
     let words = watched.hears c.new-words.result [] c.new-words.ensures in record {
       script = (
-        c.in-Ok.script,
-        sym (ap script_of c.as_slice.ensures.value) ∙ c.in-Ok.ensures.script,
+        script,
+        sym (ap script_of c.as_slice.ensures.value) ∙ c.in_ok-script.ensures.script,
         watched.moments,
         watched.last,
         watched.tells,
-        subst (λ given. IsScheduleText given c.in-Ok.script.names watched.moments c.in-Ok-script_text.text.items) c.as_slice-2.ensures.value (c.in-Ok-script_text.ensures.made watched.moments words),
+        subst (λ given. IsScheduleText given script.names watched.moments c.in_ok-text.text.items) c.as_slice-2.ensures.value (c.in_ok-text.ensures.made watched.moments words),
       );
       fault = tt;
     }
-
-pub returns : goal.returns
-returns c = record { script = tt; fault = c.in-Err-script_text.ensures.fault c.args.schedule c.args.text.items }

@@ -1,14 +1,17 @@
+use Rattle.fs_trace.proofs.Lining.{lines_none}
 use Rattle.fs_trace.proofs.Making.{told_all, trace_made}
 use Rattle.fs_trace.proofs.running.trace_of.Goals as goal
 
 pub returns-in-Ok-trace_text : goal.returns-in-Ok-trace_text
 returns-in-Ok-trace_text c =
     let script = c.in_ok-script.script in
-    let old = c.in-Ok.teller in
+    let start = c.in-Ok.lines in
+    let old = c.in-Ok-new.teller in
     let new = c.watch.new.witness in
     let ran = c.in_ok-ran.ran in
     let watched = c.in_ok-ran.ensures.watches in
-    let has = told_all c.args.every c.args.schedule script old new ran c.in-Ok.ensures watched in record {
-      trace = trace_made c.args.schedule c.args.every _ c.args.text.items c.in-Ok-trace_text.text.items script old new ran c.as_slice.ensures.value c.in_ok-script.ensures.script watched (c.in-Ok-trace_text.ensures c.args.every watched.moments has);
+    let has = told_all c.args.every c.args.schedule script start old new ran (c.in-Ok-new.ensures start (lines_none start)) watched in record {
+      trace = trace_made c.args.schedule c.args.every _ c.args.text.items c.in-Ok-trace_text.text.items script old new ran c.as_slice.ensures.value c.in_ok-script.ensures.script watched
+          (c.in-Ok-trace_text.ensures c.args.every start watched.moments c.in-Ok.ensures has);
       fault = tt;
     }

@@ -10,10 +10,10 @@ use Rattle.fs_trace.proofs.Lining.{trace_is}
 use Rattle.fs_trace.proofs.trace_text.trace_text.Goals as goal
 
 pub returns : goal.returns
-returns c every moments has =
+returns c every start moments starts has =
     let names = c.args.script.now.names in
     let made = c.in_ok-text.text.items in
-    let head : IsTraceHead every names moments made = c.in_ok-text.ensures every moments (c.in_ok-story.ensures every moments has) in
+    let head : IsTraceHead every names moments made = c.in_ok-text.ensures every start moments starts (c.in_ok-story.ensures every start moments has) in
     let tree = subst (λ store. AppendsTree (graph_of store) made c.write_tree.new.text.items) c.store.ensures c.in_ok-write_tree.ensures.ok in
     let timeline = (state_of c.args.core.now).timeline in
     let counted = subst (AreCounts c.counts_of.result) c.timeline.ensures c.counts_of.ensures.exact in
