@@ -1,0 +1,34 @@
+//! What holds of the definitions. Each function's contract is a law, and its body is empty.
+
+ghost use Rattle.fs_histories.specs.Laws.{ExplainedFronts, ClosedSetsReach, ClosedSetsRefute, ExplainedAreHistories, FaultsAreFirst};
+ghost use Rattle.fs_histories.specs.Paths.{StepsLead};
+
+/// What a timeline explains is a history.
+pub fn explained_are_histories()
+    ensures { ExplainedAreHistories }
+{}
+
+/// A list of entries is a history exactly where it has no fault, and its fault names the first entry with which it is none.
+pub fn faults_are_first()
+    ensures { FaultsAreFirst }
+{}
+
+/// A timeline that explains a history explains it as its front.
+pub fn explained_fronts()
+    ensures { ExplainedFronts }
+{}
+
+/// A closed set of configurations has one at the end of each front that is explained.
+pub fn closed_sets_reach()
+    ensures { ClosedSetsReach }
+{}
+
+/// No timeline explains a history where a closed set of configurations has none at its end.
+pub fn closed_sets_refute()
+    ensures { ClosedSetsRefute }
+{}
+
+/// Each step of the search makes the timeline that leads to a configuration one entry longer.
+pub fn steps_lead()
+    ensures { StepsLead }
+{}
