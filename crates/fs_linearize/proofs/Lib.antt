@@ -1,0 +1,7 @@
+mod NumberLemmas
+mod CodeLemmas
+pub mod RowLemmas
+mod WayLemmas
+mod SearchLemmas
+mod TellingLemmas
+mod HeardLemmas

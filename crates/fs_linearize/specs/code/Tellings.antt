@@ -1,0 +1,39 @@
+-- How the journal of a history is told, step by step.
+use Rattle.std.specs.Prelude.{◌≡◌, reverse, true, ℕ, List, [], ◌∷◌, ◌++◌, Option, Some, None}
+use Rattle.fs_calls.specs.Starts.{Start}
+use Rattle.fs_calls.specs.Outcomes.{next_start}
+use Rattle.fs_calls.specs.declared.reply.Reply.{Reply}
+use Rattle.fs_timeline.specs.Timeline.{is_commit, has_committed, call_of, commits, due, IsWellFormed, IsLawful}
+use Rattle.fs_timeline.specs.declared.entry.Entry.{Entry}
+use Rattle.fs_timeline.specs.declared.entry.Entry.TheVariants.{Return}
+use Rattle.fs_histories.specs.declared.heard.Heard.{Heard}
+use Rattle.fs_histories.specs.declared.heard.Pattern.{Pattern}
+use Rattle.fs_histories.specs.Heard.{IsHeardAs, Matches}
+use Rattle.fs_linearize.specs.code.Ways.{GoesBy}
+use Rattle.fs_linearize.specs.declared.telling.Played.{Played}
+use Rattle.fs_linearize.specs.declared.telling.Telling.{Telling}
+use Rattle.fs_linearize.specs.declared.steps.Step.{Step}
+
+-- what is played is a journal, and the reply is the one that is due, once the call has committed
+pub record IsPlayed (start : Start) (c : ℕ) (es : List Entry) (p : Played) : Type 0 where
+  pub tree : p.tree ≡ next_start start (commits es)
+  pub due_to : has_committed c es ≡ true → p.due ≡ due start c es
+
+-- one entry more is played
+abbrev pub PlaysOn : ℕ → List Entry → Entry → Played → Played → Type 0
+PlaysOn c before e old new = (start : Start) → IsWellFormed (before ++ e ∷ []) → IsPlayed start c before old → IsPlayed start c (before ++ e ∷ []) new
+
+-- a reply that is filled in is the only one that matches and is due
+abbrev pub IsFilledIn : Start → List Entry → ℕ → Pattern → Reply → Type 0
+IsFilledIn start es c p r = (s : Reply) → IsWellFormed es → has_committed c es ≡ true → due start c es ≡ Some s → Matches p s → r ≡ s
+
+-- an entry is the only one that comes next in a lawful timeline, and is heard as this one
+abbrev pub IsEntryFor : Start → List Entry → Heard → Entry → Type 0
+IsEntryFor start before x e = (f : Entry) → IsLawful start (before ++ f ∷ []) → IsHeardAs f x → e ≡ f
+
+-- what is told so far begins a timeline, which goes on by the steps that are left
+abbrev pub IsTold : Start → List Step → List Entry → Telling → Type 0
+IsTold start steps es t = (later : List Entry) × (es ≡ t.journal.items ++ later) × GoesBy (reverse t.rest.items) steps later
+
+abbrev pub TellsOn : Start → Telling → Step → Telling → Type 0
+TellsOn start old step new = (steps : List Step) (es : List Entry) → IsLawful start es → IsTold start (step ∷ steps) es old → IsTold start steps es new

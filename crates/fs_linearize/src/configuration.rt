@@ -1,0 +1,91 @@
+//! Configurations of the search.
+
+ghost use Rattle.std.specs.Prelude.{◌≡◌, ◌+◌, ◌<◌, ◌^◌, true, IfOk};
+ghost use Rattle.fs_histories.specs.Configurations as specs;
+
+use crate::numbers;
+use crate::snapshot::Snapshot;
+use fs_seq::SeqTree;
+use std::alloc::{AllocError, Global};
+use std::marker::Model;
+
+/// How many entries have passed, the tree, and which calls are committed and have not returned.
+#[derive(Drop)]
+pub(crate) struct Configuration {
+    pub at: usize,
+    pub tree: Snapshot,
+    pub held: Vec<u64>,
+}
+
+impl Model for Configuration {
+    ghost use Rattle.fs_histories.specs.Configurations as specs;
+
+    ghost Value = { specs.Configuration };
+
+    ghost view = { λ x. record { at = x.at; now = x.tree; held = x.held.items } };
+}
+
+impl Configuration {
+    /// Before the first entry, from a start tree.
+    pub fn start(alloc: Global, start: &SeqTree) -> Result<Self, AllocError>
+        ensures { IfOk result (λ x. x ≡ specs.at_start start.now) }
+    {
+        Ok(Configuration {
+            at: 0,
+            tree: Snapshot::new(start)?,
+            held: Vec::new(alloc),
+        })
+    }
+
+    /// How many entries have passed.
+    pub fn passed_count(&self) -> usize
+        ensures { result ≡ self.now.at }
+    {
+        self.at
+    }
+
+    /// The same configuration again.
+    pub fn copy(&self, alloc: Global) -> Result<Self, AllocError>
+        ensures { IfOk result (λ x. x ≡ self.now) }
+    {
+        Ok(Configuration {
+            at: self.at,
+            tree: self.tree.copy()?,
+            held: Vec::from_slice(alloc, &self.held)?,
+        })
+    }
+
+    /// Whether both were found to be the same.
+    pub fn same(&self, alloc: Global, other: &Configuration) -> Result<bool, AllocError>
+        ensures { IfOk result (λ same. same ≡ true → self.now ≡ other.now) }
+    {
+        if self.at != other.at || self.held != other.held {
+            return Ok(false);
+        }
+        self.tree.same(alloc, &other.tree)
+    }
+
+    /// A call begins.
+    pub fn passed(&self, alloc: Global) -> Result<Self, AllocError>
+        requires { self.now.at + 1 < 2 ^ 64 }
+        ensures { IfOk result (λ x. x ≡ specs.passed self.now) }
+    {
+        Ok(Configuration {
+            at: self.at + 1,
+            tree: self.tree.copy()?,
+            held: Vec::from_slice(alloc, &self.held)?,
+        })
+    }
+
+    /// A call returns.
+    pub fn returned(&self, alloc: Global, number: u64) -> Result<Self, AllocError>
+        requires { self.now.at + 1 < 2 ^ 64 }
+        ensures { IfOk result (λ x. x ≡ specs.returned self.now number) }
+    {
+        Ok(Configuration {
+            at: self.at + 1,
+            tree: self.tree.copy()?,
+            held: numbers::without(alloc, &self.held, number)?,
+        })
+    }
+}

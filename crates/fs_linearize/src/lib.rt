@@ -1,0 +1,25 @@
+//! Histories made journals: the search for a timeline that explains a history.
+//!
+//! `linearize` puts the commits into a history. `Lawful` has a journal that explains it from its start tree, `NoOrder` says
+//! that none does, and names the first return up to which there is none; `Fault` that the entries are no history, and
+//! `Unknown` that the limit was reached.
+//!
+//! The search follows all configurations that can be reached: how many entries have passed, the tree, and which calls have
+//! committed and not returned. A call that changes no tree commits as soon as its reply fits, any other at a return of a
+//! call that has not committed. What a history is, which timelines explain it, and the laws of the search are in
+//! `fs_histories`; `specs/Results.antt` has what an answer says.
+#![tactic(auto)]
+
+mod committing;
+mod configuration;
+mod faults;
+mod heard;
+pub mod linearizing;
+mod numbers;
+mod reached;
+mod search;
+mod snapshot;
+mod steps;
+mod telling;
+
+pub use linearizing::{Found, linearize};

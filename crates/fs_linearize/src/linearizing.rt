@@ -1,0 +1,48 @@
+//! Histories made journals, or the first return that nothing explains.
+
+ghost use Rattle.std.specs.Prelude.{◌≡◌, IfOk};
+ghost use Rattle.fs_histories.specs.Faults.{history_fault};
+ghost use Rattle.fs_linearize.specs.Results.{IsAnswerFor, fault_in};
+
+use crate::faults::first_fault;
+use crate::search::{Searched, find_way};
+use crate::telling::tell;
+use fs_histories::{Heard, HistoryFault};
+use fs_names::CallNo;
+use fs_seq::SeqTree;
+use fs_timeline::Entry;
+use std::alloc::{AllocError, Global};
+
+/// What is found of a history.
+#[derive(Drop)]
+pub enum Found {
+    /// A lawful journal, which is the history once its commits are taken out. What was not known of replies is filled in.
+    Lawful(Vec<Entry>),
+    /// No journal explains it, and none explains its front up to the entry of this place, counted from 1: the return of a call.
+    NoOrder { place: usize, call: CallNo },
+    /// It is no history: the entry of this place, counted from 1, cannot come next.
+    Fault(usize, HistoryFault),
+    /// So many configurations were made as the limit says; the search had come to the entry of this place, counted from 1.
+    Unknown(usize),
+}
+
+/// Puts the commits into a history that begins at a start tree, where no more configurations than the limit, or few more, are
+/// made.
+pub fn linearize(
+    alloc: Global,
+    start: &SeqTree,
+    history: Vec<Heard>,
+    limit: usize,
+) -> Result<Found, AllocError>
+    ensures answer { IfOk result (IsAnswerFor start.now history.items limit) }
+    ensures fault { IfOk result (λ found. fault_in found ≡ history_fault history.items) }
+{
+    if let Some((place, kind)) = first_fault(&history) {
+        return Ok(Found::Fault(place, kind));
+    }
+    match find_way(alloc, start, &history, limit)? {
+        Searched::Ends(steps) => Ok(Found::Lawful(tell(alloc, start, history, &steps)?)),
+        Searched::NoOrder(place, call) => Ok(Found::NoOrder { place, call }),
+        Searched::Limited(place) => Ok(Found::Unknown(place)),
+    }
+}
