@@ -185,7 +185,7 @@ class Words(Case):
 
     def test_help(self):
         rows = [(words, "atomfs") for words in ("help", "--help", "-h")]
-        rows += [(words, name) for name in ("run", "seeds", "threads", "check", "trace", "draw", "schedule", "explain") for words in (f"help {name}", f"{name} --help", f"{name} -h")]
+        rows += [(words, name) for name in ("run", "seeds", "threads", "check", "linearize", "trace", "draw", "schedule", "explain") for words in (f"help {name}", f"{name} --help", f"{name} -h")]
         self.all_end((words, words, b"", Outcome(0, (HELP / name).read_bytes())) for words, name in rows)
 
     def pasted(self, line):

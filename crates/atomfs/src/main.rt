@@ -1,5 +1,6 @@
 //! The program `atomfs`. `atomfs run` runs the script on standard input, `atomfs seeds` runs it by drawn schedules,
-//! `atomfs threads` runs its threads on real ones, and `atomfs check` reads a journal there; each writes what came of it.
+//! `atomfs threads` runs its threads on real ones, `atomfs check` reads a journal there, and `atomfs linearize` a history; each
+//! writes what came of it.
 //! `atomfs explain` writes what the words of a message mean.
 //!
 //! `fs_command` reads the command line and has the exit statuses. Each part is proved to mean what its clauses say. The
@@ -14,9 +15,11 @@ mod tests;
 
 use fs_command::{
     Line, SharedLine, Subcommand, Topic, explanation, parse, report, report_check, report_draw,
-    report_schedule, status_of_run, status_of_unreadable_args, status_of_usage, status_of_verdict,
+    report_linearize, report_schedule, status_of_run, status_of_unreadable_args, status_of_usage,
+    status_of_verdict,
 };
 use fs_draw::{DrawFault, draw_input};
+use fs_recorded::linearize_history;
 use fs_sched::{
     Device, RunFault, Schedule, Silent, Sink, Source, Witness, check_journal, run_script,
     run_seeds, write_text,
@@ -236,6 +239,10 @@ fn perform<T: Threads + Wait + Clock + Sync, R: Source, W: Sink, E: Write>(
             seeds_shown(rt, alloc, reader, writer, (*first, *runs), terminal)
         }
         Subcommand::Check => return report_check(errors, check_journal(alloc, reader, writer)),
+        Subcommand::Linearize(limit) => {
+            let outcome = linearize_history(alloc, reader, writer, *limit as usize);
+            return report_linearize(errors, outcome);
+        }
         Subcommand::Explain(first, second) => explain(alloc, writer, *first, *second),
         Subcommand::Trace(order, every) => trace(alloc, reader, writer, *order, *every),
         Subcommand::Draw(order, call) => {

@@ -1,8 +1,9 @@
 -- What the command line asks for.
 use Rattle.std.specs.Prelude.{ℕ, ◌≤◌, List, codes}
 use Rattle.fs_sched.specs.declared.seeding.TheConstants.{SEED_LIMIT, RUN_LIMIT}
+use Rattle.fs_command.specs.declared.cli.TheConstants.{CONFIGURATION_LIMIT}
 use Rattle.fs_command.specs.declared.cli.Subcommand.{Subcommand}
-use Rattle.fs_command.specs.declared.cli.Subcommand.TheVariants.{Run, Seeds, Threads, Check, Trace, Draw, Schedule, Explain}
+use Rattle.fs_command.specs.declared.cli.Subcommand.TheVariants.{Run, Seeds, Threads, Check, Linearize, Trace, Draw, Schedule, Explain}
 
 -- the word by which a subcommand is asked for
 abbrev pub name_of : Subcommand → List ℕ
@@ -10,17 +11,19 @@ name_of (Run schedule) = codes "run"
 name_of (Seeds seed runs) = codes "seeds"
 name_of Threads = codes "threads"
 name_of Check = codes "check"
+name_of (Linearize limit) = codes "linearize"
 name_of (Trace schedule every) = codes "trace"
 name_of (Draw schedule call) = codes "draw"
 name_of (Schedule schedule) = codes "schedule"
 name_of (Explain first second) = codes "explain"
 
--- the numbers of drawn runs are within their ranges
+-- the numbers of drawn runs, and the limit of a search, are within their ranges
 abbrev pub IsWithin : Subcommand → Type 0
 IsWithin (Run schedule) = Unit {0}
 IsWithin (Seeds seed runs) = (seed ≤ SEED_LIMIT) × (1 ≤ runs) × (runs ≤ RUN_LIMIT)
 IsWithin Threads = Unit {0}
 IsWithin Check = Unit {0}
+IsWithin (Linearize limit) = (1 ≤ limit) × (limit ≤ CONFIGURATION_LIMIT)
 IsWithin (Trace schedule every) = Unit {0}
 IsWithin (Draw schedule call) = Unit {0}
 IsWithin (Schedule schedule) = Unit {0}

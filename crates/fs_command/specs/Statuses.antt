@@ -4,6 +4,8 @@ use Rattle.fs_sched.specs.declared.running.RunEnd.{RunEnd}
 use Rattle.fs_sched.specs.Faults.{status_of_fault}
 use Rattle.fs_verdict.specs.declared.checking.Checked.{Checked}
 use Rattle.fs_verdict.specs.declared.fault.RunFault.{RunFault}
+use Rattle.fs_recorded.specs.declared.answer.Outcome.{Outcome}
+use Rattle.fs_recorded.specs.declared.answer.Outcome.TheVariants as outcome
 use Rattle.fs_threads.specs.declared.fault.ThreadsFault.{ThreadsFault}
 use Rattle.fs_threads.specs.declared.fault.ThreadsFault.TheVariants.{Run, Lists}
 use Rattle.fs_draw.specs.Faults.{status_of_draw}
@@ -25,6 +27,17 @@ status_of (Err (Lists fault)) = 4
 abbrev pub status_of_checked : Result Checked RunFault → ℕ
 status_of_checked (Ok checked) = status_of_verdict checked.lawful
 status_of_checked (Err fault) = status_of_fault fault
+
+-- the status of what came of a history: success where a journal explains it, 4 where the limit was reached, else 1
+abbrev pub status_of_outcome : Outcome → ℕ
+status_of_outcome outcome.Lawful = 0
+status_of_outcome outcome.NoOrder = 1
+status_of_outcome outcome.Fault = 1
+status_of_outcome outcome.Unknown = 4
+
+abbrev pub status_of_linearized : Result Outcome RunFault → ℕ
+status_of_linearized (Ok came) = status_of_outcome came
+status_of_linearized (Err fault) = status_of_fault fault
 
 -- the same of a schedule that is written
 abbrev pub status_of_scheduled : Result ℕ ScheduleFault → ℕ

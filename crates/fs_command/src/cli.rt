@@ -16,6 +16,12 @@ use std::convert::AsStr;
 /// The version of the program.
 pub const VERSION: &str = "0.3.0";
 
+/// The most configurations that `linearize` makes.
+pub const CONFIGURATION_LIMIT: u64 = 1_000_000_000;
+
+/// How many it makes where no limit is given.
+pub const CONFIGURATIONS: u64 = 10_000_000;
+
 /// What the command line asks for.
 #[derive(Clone, Copy, Debug, PartialEq, Eq)]
 pub enum Subcommand {
@@ -27,6 +33,8 @@ pub enum Subcommand {
     Threads,
     /// The verdict on a journal.
     Check,
+    /// The journal that explains a history, where no more configurations are made than this.
+    Linearize(u64),
     /// The events of a script's run by a schedule, in words; and whether each is told, or those alone that tell something new.
     Trace(Schedule, bool),
     /// A picture of a script's run by a schedule, or of a journal; and the number of the call around which is drawn.
@@ -90,6 +98,20 @@ Exit status:
 
 Example:
   atomfs run < examples/moved_ancestor.script | atomfs check";
+
+const LINEARIZE_STATUSES: &str = "\
+A history is a journal without its `commit` lines, up to the end or a line `tree`. Where a reply is not known, `return N failed ?` fits any error, and `return N stat dir ?` any size.
+
+Exit status:
+  0  the journal that is written explains the history: `atomfs check` says that it is lawful
+  1  `none PLACE CALL`: no journal explains the entries up to the return at PLACE; or `fault PLACE KIND`: they are no history
+  2  usage error
+  3  the input is no history: `atomfs explain` says what to write instead
+  4  `unknown PLACE`: the limit was reached; or out of memory
+  5  a read or a write failed
+
+Example:
+  printf 'atomfs-journal 1\\nbegin 1 0 mkdir /a\\nreturn 1 ok\\n' | atomfs linearize";
 
 const TRACE_STATUSES: &str = "\
 Exit status:
@@ -304,6 +326,27 @@ fn check_command<'a>(alloc: Global) -> Command<'a> {
         .after_help(CHECK_STATUSES)
 }
 
+fn limit_argument<'a>(alloc: Global) -> Arg<'a> {
+    Arg::new(alloc, "limit")
+        .long("limit")
+        .value_name("N")
+        .value_parser(value_parser!(u64).range(1..=CONFIGURATION_LIMIT as i64))
+        .help("The most configurations of the search, 1 to 1000000000, or else 10000000")
+}
+
+fn linearize_alone<'a>(alloc: Global) -> Command<'a> {
+    Command::new(alloc, "linearize")
+        .about(
+            "Reads a history on standard input and writes it with its commits, a lawful journal, or the first return that nothing explains",
+        )
+        .override_usage("atomfs linearize [OPTIONS] < FILE")
+        .after_help(LINEARIZE_STATUSES)
+}
+
+fn linearize_command<'a>(alloc: Global) -> Result<Command<'a>, Error> {
+    Ok(linearize_alone(alloc).arg(limit_argument(alloc))?)
+}
+
 fn kind_argument<'a>(alloc: Global, id: &'a str) -> Arg<'a> {
     Arg::new(alloc, id)
         .value_name("KIND")
@@ -370,9 +413,14 @@ fn program_with_check<'a>(alloc: Global) -> Result<Command<'a>, Error> {
     with(program_with_threads(alloc)?, check_command(alloc))
 }
 
+fn program_with_linearize<'a>(alloc: Global) -> Result<Command<'a>, Error> {
+    let linearize = linearize_command(alloc)?;
+    with(program_with_check(alloc)?, linearize)
+}
+
 fn program_with_trace<'a>(alloc: Global) -> Result<Command<'a>, Error> {
     let trace = trace_command(alloc)?;
-    with(program_with_check(alloc)?, trace)
+    with(program_with_linearize(alloc)?, trace)
 }
 
 fn program_with_draw<'a>(alloc: Global) -> Result<Command<'a>, Error> {
@@ -417,6 +465,21 @@ fn seeds_of<'a>(matches: &ArgMatches<'a>) -> Option<Subcommand>
     Some(Subcommand::Seeds(seed, runs))
 }
 
+/// The limit of a search. `clap` has read it within its range, and here it is looked at once more.
+fn limit_of<'a>(matches: &ArgMatches<'a>) -> Option<Subcommand>
+    ensures within { ForSome result IsWithin }
+    ensures name { IfSome result (λ command. name_of command ≡ codes "linearize") }
+{
+    let limit = match matches.get_one::<u64>("limit") {
+        Some(limit) => limit,
+        None => CONFIGURATIONS,
+    };
+    if limit < 1 || limit > CONFIGURATION_LIMIT {
+        return None;
+    }
+    Some(Subcommand::Linearize(limit))
+}
+
 /// The topic that the argument with an identifier names, if it is given.
 fn topic_given<'a>(matches: &ArgMatches<'a>, id: &str) -> Option<Topic>
     ensures { IfSome result (λ topic. first_value (found_of matches.now) id.now ≡ Some (word_of topic)) }
@@ -443,6 +506,7 @@ fn subcommand_of<'a>(matches: &ArgMatches<'a>) -> Option<Subcommand>
         "seeds" => seeds_of(given),
         "threads" => Some(Subcommand::Threads),
         "check" => Some(Subcommand::Check),
+        "linearize" => limit_of(given),
         "trace" => Some(Subcommand::Trace(schedule_of(given), given.get_flag("every"))),
         "draw" => Some(Subcommand::Draw(schedule_of(given), given.get_one::<u64>("around"))),
         "schedule" => Some(Subcommand::Schedule(schedule_of(given))),

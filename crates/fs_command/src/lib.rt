@@ -20,7 +20,7 @@ pub use cli::{Subcommand, parse};
 pub use explanations::explanation;
 pub use progress::{Line, SharedLine};
 pub use status::{
-    report, report_check, report_draw, report_schedule, status_of_run, status_of_unreadable_args,
-    status_of_usage, status_of_verdict,
+    report, report_check, report_draw, report_linearize, report_schedule, status_of_run,
+    status_of_unreadable_args, status_of_usage, status_of_verdict,
 };
 pub use topic::Topic;

@@ -3,11 +3,12 @@
 ghost use Rattle.std.specs.Prelude.{◌≡◌, ◌≢◌, ◌⊎◌};
 ghost use Rattle.std.specs.IoError.{error_kind};
 ghost use Rattle.clap.specs.Values.{kind_of};
-ghost use Rattle.fs_command.specs.Statuses.{status_of, status_of_checked, status_of_drawn, status_of_run, status_of_scheduled, status_of_verdict};
+ghost use Rattle.fs_command.specs.Statuses.{status_of, status_of_checked, status_of_drawn, status_of_linearized, status_of_outcome, status_of_run, status_of_scheduled, status_of_verdict};
 
 use clap::Error;
 use clap::error::ErrorKind;
 use fs_draw::DrawFault;
+use fs_recorded::Outcome;
 use fs_sched::{Checked, RunEnd, RunFault};
 use fs_threads::ThreadsFault;
 use fs_trace::ScheduleFault;
@@ -58,6 +59,26 @@ pub fn report_check<E: Write>(errors: &mut E, outcome: Result<Checked, RunFault>
         let _ = errors.write_all(b"\n");
     }
     status_of_verdict(checked.lawful)
+}
+
+fn status_of_outcome(outcome: Outcome) -> u8
+    ensures { result ≡ status_of_outcome outcome }
+{
+    match outcome {
+        Outcome::Lawful => 0,
+        Outcome::NoOrder | Outcome::Fault => 1,
+        Outcome::Unknown => 4,
+    }
+}
+
+/// The status that a history came to, or that of its fault, whose message is written.
+pub fn report_linearize<E: Write>(errors: &mut E, outcome: Result<Outcome, RunFault>) -> u8
+    ensures { result ≡ status_of_linearized outcome }
+{
+    match outcome {
+        Ok(outcome) => status_of_outcome(outcome),
+        Err(fault) => report(errors, Err(ThreadsFault::Run(fault))),
+    }
 }
 
 /// The status that a schedule which is written came to, or that of its fault, whose message is written.

@@ -1,0 +1,113 @@
+//! What is found of a history, as it is written.
+
+ghost use Rattle.std.specs.Prelude.{◌≡◌, ◌++◌, IfOk, codes, decimal};
+ghost use Rattle.std.specs.List.{flat_map};
+ghost use Rattle.fs_text.specs.Journal.{entry_line};
+ghost use Rattle.fs_script.specs.Journals.{journal_text};
+ghost use Rattle.fs_recorded.specs.Answers.{fault_word, found_text, outcome_of};
+
+use fs_histories::HistoryFault;
+use fs_linearize::Found;
+use fs_names::CallNo;
+use fs_script::write_opening;
+use fs_seq::SeqTree;
+use fs_text::{Addition, write_entry};
+use fs_timeline::Entry;
+use std::alloc::{AllocError, Global};
+
+/// What came of a history.
+#[derive(Clone, Copy, Debug, PartialEq, Eq)]
+pub enum Outcome {
+    /// A lawful journal explains it.
+    Lawful,
+    /// No journal explains it.
+    NoOrder,
+    /// It is no history.
+    Fault,
+    /// The limit was reached.
+    Unknown,
+}
+
+/// What came of a history of which this is found.
+pub(crate) fn outcome_of(found: &Found) -> Outcome
+    ensures { result ≡ outcome_of found.now }
+{
+    match found {
+        Found::Lawful(_) => Outcome::Lawful,
+        Found::NoOrder { .. } => Outcome::NoOrder,
+        Found::Fault(_, _) => Outcome::Fault,
+        Found::Unknown(_) => Outcome::Unknown,
+    }
+}
+
+fn fault_word(kind: HistoryFault) -> &'static [u8]
+    ensures { result.now ≡ fault_word kind }
+{
+    match kind {
+        HistoryFault::BeginTwice => b"BeginTwice",
+        HistoryFault::SeatBusy => b"SeatBusy",
+        HistoryFault::ReturnUnbegun => b"ReturnUnbegun",
+        HistoryFault::ReturnTwice => b"ReturnTwice",
+    }
+}
+
+/// The text of a journal from its start tree.
+fn journal_text(alloc: Global, start: &SeqTree, journal: &[Entry]) -> Result<Vec<u8>, AllocError>
+    ensures { IfOk result (λ text. text.items ≡ journal_text start.now journal.now) }
+{
+    let mut text = Vec::new(alloc);
+    write_opening(alloc, start, &mut text)?;
+    for entry in journal {
+        write_entry(alloc, entry, &mut text)?;
+    }
+    Ok(text)
+}
+
+/// The line of a history that no journal explains.
+fn none_line(alloc: Global, place: usize, call: CallNo) -> Result<Vec<u8>, AllocError>
+    ensures { IfOk result (λ line. line.items ≡ codes "none " ++ (decimal place ++ (codes " " ++ (decimal call ++ codes "\n")))) }
+{
+    let mut line = Addition::new(Vec::new(alloc));
+    line.push_with_number(b"none ", place as u64)?;
+    line.push_with_number(b" ", call.get())?;
+    line.push(b"\n")?;
+    Ok(line.kept())
+}
+
+/// The line of what is no history.
+fn fault_line(alloc: Global, place: usize, kind: HistoryFault) -> Result<Vec<u8>, AllocError>
+    ensures { IfOk result (λ line. line.items ≡ codes "fault " ++ (decimal place ++ (codes " " ++ (fault_word kind ++ codes "\n")))) }
+{
+    let mut line = Addition::new(Vec::new(alloc));
+    line.push_with_number(b"fault ", place as u64)?;
+    line.push(b" ")?;
+    line.push(fault_word(kind))?;
+    line.push(b"\n")?;
+    Ok(line.kept())
+}
+
+/// The line of a history of which the limit was reached.
+fn unknown_line(alloc: Global, place: usize) -> Result<Vec<u8>, AllocError>
+    ensures { IfOk result (λ line. line.items ≡ codes "unknown " ++ (decimal place ++ codes "\n")) }
+{
+    let mut line = Addition::new(Vec::new(alloc));
+    line.push_with_number(b"unknown ", place as u64)?;
+    line.push(b"\n")?;
+    Ok(line.kept())
+}
+
+/// The text of what is found of a history from its start tree.
+pub(crate) fn found_text(
+    alloc: Global,
+    start: &SeqTree,
+    found: &Found,
+) -> Result<Vec<u8>, AllocError>
+    ensures { IfOk result (λ text. text.items ≡ found_text start.now found.now) }
+{
+    match found {
+        Found::Lawful(journal) => journal_text(alloc, start, journal),
+        Found::NoOrder { place, call } => none_line(alloc, *place, *call),
+        Found::Fault(place, kind) => fault_line(alloc, *place, *kind),
+        Found::Unknown(place) => unknown_line(alloc, *place),
+    }
+}

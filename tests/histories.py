@@ -1,0 +1,205 @@
+"""Histories through `atomfs linearize`, beside every order of their commits by tests/model.py.
+
+Of drawn histories of two to six calls, some from a start tree, some with calls that never return or replies that are left open, half with a changed reply,
+each answer is what all orders say: a journal that is lawful by `atomfs check` and is the history without its commits, or the first return up to
+which there is no order, while there is one up to the entry before it. Journals of runs come back lawful without their commits.
+"""
+import copy
+import random
+import unittest
+
+import drawn
+import harness
+import model
+from harness import Outcome, run
+
+HISTORIES = 1_000
+RUNS = 20
+MAKING = "mkdir", "mkdir", "mknod", "mknod", "unlink", "rmdir", "truncate", "write", "rename", "rename", "exchange", "stat", "stat", "readdir", "read"
+PATHS = "/a", "/b", "/a/a", "/a/b", "/b/a"
+STARTS = (
+    ("atomfs-journal 1",),
+    ("atomfs-journal 2", "start", "dir /", "dir /a", "file /a/b 07", "entries"),
+    ("atomfs-journal 3", "start", "dir /", "dir /a", "dir /b", "entries"),
+)
+CHANGED = "ok", "failed ENOENT", "failed EEXIST", "stat dir 0", "stat dir 1", "names a", "bytes 07"
+
+
+def text_of(lines):
+    return "".join(f"{line}\n" for line in lines).encode()
+
+
+def call(draw):
+    """The words of a drawn call."""
+    kind, path = draw.choice(MAKING), draw.choice(PATHS)
+    match kind:
+        case "rename" | "exchange":
+            return [kind, path, draw.choice(PATHS)]
+        case "write":
+            return [kind, path, str(draw.randrange(2)), draw.choice(("-", "07", "0808"))]
+        case "read":
+            return [kind, path, "0", "4"]
+        case "truncate":
+            return [kind, path, str(draw.randrange(3))]
+        case _:
+            return [kind, path]
+
+
+def returned(draw, reply):
+    """A reply as it is told: some are left open."""
+    if draw.randrange(6):
+        return reply
+    if reply.startswith("failed "):
+        return "failed ?"
+    return "stat dir ?" if reply.startswith("stat dir ") else reply
+
+
+def history(draw):
+    """The lines before the entries, and the entries: calls on two to four seats, whose replies come from a hidden order."""
+    start, entries, calls, replies, under_way = draw.choice(STARTS), [], {}, {}, {}
+    tree, seats, count = model.started(list(start))[0], draw.randint(2, 4), draw.randint(2, 6)
+    while len(calls) < count or under_way and draw.randrange(30):
+        seat = draw.randrange(seats)
+        if seat not in under_way and len(calls) < count:
+            number = len(calls) + 1
+            calls[number], under_way[seat] = call(draw), number
+            entries.append(("begin", number, seat, calls[number]))
+        elif seat in under_way and under_way[seat] not in replies:
+            replies[under_way[seat]] = tree.apply(calls[under_way[seat]])
+        elif seat in under_way and draw.randrange(2):
+            number = under_way.pop(seat)
+            entries.append(("return", number, returned(draw, replies[number])))
+    ends = [place for place, entry in enumerate(entries) if entry[0] == "return"]
+    if ends and draw.randrange(2):
+        place = draw.choice(ends)
+        entries[place] = ("return", entries[place][1], draw.choice(CHANGED))
+    return start, entries
+
+
+def line_of(entry):
+    if entry[0] == "begin":
+        return f"begin {entry[1]} {entry[2]} {' '.join(entry[3])}"
+    return f"return {entry[1]} {entry[2]}"
+
+
+def fits(told, reply):
+    """Whether a reply is the one of which this is told."""
+    return told == reply or told == "failed ?" and reply.startswith("failed ") or told == "stat dir ?" and reply.startswith("stat dir ")
+
+
+def has_order(start, entries, whole):
+    """Whether some order of commits explains entries, where calls under way get replies that fit in the whole history: every order is tried."""
+    told = {entry[1]: entry[2] for entry in whole if entry[0] == "return"}
+    calls = {entry[1]: entry[3] for entry in entries if entry[0] == "begin"}
+
+    def goes_on(place, tree, under_way, done):
+        if place == len(entries):
+            return True
+        kind, number, *_ = entries[place]
+        if kind == "begin" and goes_on(place + 1, tree, under_way | {number}, done):
+            return True
+        if kind == "return" and number in done and goes_on(place + 1, tree, under_way - {number}, done):
+            return True
+        for other in under_way - done:
+            later = copy.deepcopy(tree)
+            reply = later.apply(calls[other])
+            if (other not in told or fits(told[other], reply)) and goes_on(place, later, under_way, done | {other}):
+                return True
+        return False
+
+    return goes_on(0, model.started(list(start))[0], frozenset(), frozenset())
+
+
+def without_commits(text):
+    return b"".join(line for line in text.splitlines(keepends=True) if not line.startswith(b"commit "))
+
+
+def refused(text, line, status=1, message=b""):
+    return text_of(text), Outcome(status, line, message)
+
+
+HEADER = "atomfs-journal 1"
+BEGUN = HEADER, "begin 1 0 mkdir /a", "begin 2 1 stat /a"
+ROWS = {
+    "an empty history": refused((HEADER,), b"atomfs-journal 1\n", 0),
+    "a stat before the mkdir": refused(
+        (*BEGUN, "return 2 failed ENOENT", "return 1 ok"),
+        text_of((*BEGUN, "commit 2", "return 2 failed ENOENT", "commit 1", "return 1 ok")), 0,
+    ),
+    "a stat behind it": refused(
+        (*BEGUN, "return 2 stat dir 0", "return 1 ok"),
+        text_of((*BEGUN, "commit 1", "commit 2", "return 2 stat dir 0", "return 1 ok")), 0,
+    ),
+    "a size that is left open": refused(
+        (*BEGUN, "return 2 stat dir ?", "return 1 ok"),
+        text_of((*BEGUN, "commit 1", "commit 2", "return 2 stat dir 0", "return 1 ok")), 0,
+    ),
+    "an error that is left open": refused(
+        (*BEGUN, "return 1 ok", "return 2 failed ?"),
+        text_of((*BEGUN, "commit 2", "commit 1", "return 1 ok", "return 2 failed ENOENT")), 0,
+    ),
+    "a reply that nothing explains": refused((*BEGUN, "return 2 stat dir 1", "return 1 ok"), b"none 3 2\n"),
+    "a later reply is held to": refused((*BEGUN, "return 1 failed EEXIST", "return 2 stat dir 0"), b"none 3 1\n"),
+    "a number twice": refused((*BEGUN, "begin 1 2 stat /"), b"fault 3 BeginTwice\n"),
+    "a busy seat": refused((*BEGUN, "begin 3 1 stat /"), b"fault 3 SeatBusy\n"),
+    "a return without a begin": refused((HEADER, "return 7 ok"), b"fault 1 ReturnUnbegun\n"),
+    "a return twice": refused((*BEGUN, "return 2 failed ?", "return 2 failed ?"), b"fault 4 ReturnTwice\n"),
+    "a commit": refused((*BEGUN, "commit 1", "return 1 ok"), b"", 3, b"atomfs: line 4: BadLine\n"),
+    "a size of a file that is left open": refused((*BEGUN, "return 2 stat file ?"), b"", 3, b"atomfs: line 4: BadNumber\n"),
+    "up to the tree": refused((*BEGUN, "return 2 failed ENOENT", "tree", "return 2 failed ?"), text_of((*BEGUN, "commit 2", "return 2 failed ENOENT")), 0),
+}
+
+
+class Histories(harness.Case):
+    def answered(self, given, wanted):
+        self.same(given, run(given, "linearize"), wanted)
+
+    def test_rows(self):
+        self.each(((name, *row) for name, row in ROWS.items()), self.answered)
+
+    def test_limit(self):
+        """At one configuration nothing is known."""
+        given = text_of((*BEGUN, "return 2 stat dir 1"))
+        self.same(given, run(given, "linearize", "--limit", "1"), Outcome(4, b"unknown 2\n"))
+
+    def explained(self, given, came):
+        """A lawful journal, which is the history once its commits are taken out; of what is left open nothing is compared."""
+        self.same(given, (came.status, came.message), (0, b""))
+        self.same(came.output, run(came.output, "check"), Outcome(0, b"lawful\n"))
+        for told, line in zip(given.decode().splitlines(), without_commits(came.output).decode().splitlines(), strict=True):
+            if told.startswith("return "):
+                _, number, told_reply = told.split(" ", 2)
+                self.same(given, (line.split(" ")[1], fits(told_reply, line.split(" ", 2)[2])), (number, True))
+            else:
+                self.same(given, line, told)
+
+    def by_every_order(self, seed):
+        start, entries = history(random.Random(seed))
+        given = text_of((*start, *map(line_of, entries)))
+        came = run(given, "linearize")
+        if not harness.compares:
+            return
+        if has_order(start, entries, entries):
+            self.explained(given, came)
+            return
+        first = next(place for place in range(1, len(entries) + 1) if not has_order(start, entries[:place], entries))
+        self.same(given, came, Outcome(1, f"none {first} {entries[first - 1][1]}\n".encode()))
+
+    def test_every_order(self):
+        self.each(((f"drawn {seed}", seed) for seed in range(HISTORIES)), self.by_every_order)
+
+    def comes_back(self, seed):
+        """The journal of a run, without its commits."""
+        threads = drawn.moving(random.Random(seed))
+        blocks = [line for number, calls in enumerate(threads) for line in (f"thread t{number}", *calls)]
+        script = text_of(("atomfs 2", *blocks, "schedule", "finish"))
+        journal, tree, _ = run(script, "run", "--robin").output.partition(b"tree\n")
+        if harness.compares:
+            self.explained(without_commits(journal), run(without_commits(journal) + tree, "linearize"))
+
+    def test_runs(self):
+        self.each(((f"drawn {seed}", seed) for seed in range(RUNS)), self.comes_back)
+
+
+if __name__ == "__main__":
+    unittest.main()
