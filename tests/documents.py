@@ -116,6 +116,14 @@ def text_of(*lines):
 PACKAGES = {language: ROOT / "bindings" / language / "README.md" for language in ("python", "rust")}
 
 
+def example_for(command):
+    """The worked example as a command reads it: its script, the journal of its run, or that without commits."""
+    if command not in ("check", "linearize"):
+        return HELPED.with_suffix(".script").read_bytes()
+    lines = HELPED.with_suffix(".text").read_bytes().splitlines(keepends=True)
+    return b"".join(line for line in lines if command == "check" or not line.startswith(b"commit "))
+
+
 class Page(Case):
     """A test of what pages say. Of a row that fails it tells which side is the page, and which the repository or this machine."""
 
@@ -309,6 +317,7 @@ class Shown(Page):
         ("docs/THREADS.md", "rust", 2, "tests/documents.py"),
         ("docs/BELIEVE.md", "", 1, "tests/documents.py"),
         ("docs/FORMATS.md", "", 3, "tests/documents.py"),
+        ("docs/LINEARIZE.md", "", 1, "tests/histories.py"),
         ("docs/ARCHITECTURE.md", "", 1, "tests/documents.py"),
         ("docs/MACHINE.md", "", 2, None),
         ("examples/tour/README.md", "", 2, "tests/worked.py"),
@@ -479,6 +488,7 @@ class Commands(Page):
             "seeds --seed 7 --runs 3": b"seed 7 lawful\nseed 8 lawful\nseed 9 lawful\n",
             "threads": b"lawful calls 4\n",
             "check": b"lawful\n",
+            "linearize": text.partition(b"tree\n")[0],
             "trace": (DATA / "traces" / "helped_mkdir.trace").read_bytes(),
             "schedule --robin": BY_ROBIN,
             "draw": (DOCS / "helped_mkdir.svg").read_bytes(),
@@ -504,8 +514,7 @@ class Commands(Page):
         self.agrees("the commands of README", sorted(named), sorted({words.split(" ")[0] for words in shown if words[0] != "-"} - {"help"}))
 
     def look(self, words):
-        given = HELPED.with_suffix(".text" if words == "check" else ".script").read_bytes()
-        self.same(f"atomfs {words}", run(given, *words.split(" ")), Outcome(0, self.due().get(words, b"no such command")))
+        self.same(f"atomfs {words}", run(example_for(words), *words.split(" ")), Outcome(0, self.due().get(words, b"no such command")))
 
     def test_of_examples(self):
         """What examples/README.md says that each command prints."""
@@ -640,11 +649,9 @@ class EachCommand(Page):
     def look_at_program(self, words, given):
         """The program takes these words, or words that begin so; what it prints is looked at where a page says so."""
         words = [self.PUT.get(word, word) for word in filled(words.strip()).split(" ") if word not in ("", "..")]
-        script, journal = (HELPED.with_suffix(ending) for ending in (".script", ".text"))
         if not words or (ROOT / words[0]).exists():
             return self.same("the scripts that are not there", [word for word in words if not (ROOT / word).exists()], [])
-        given = ROOT / given if given not in self.INPUTS else journal if words[0] == "check" else script
-        outcome = run(given.read_bytes(), *words)
+        outcome = run((ROOT / given).read_bytes() if given not in self.INPUTS else example_for(words[0]), *words)
         # A check tells what is wrong beside the verdict.
         message = b"" if self.IN_PART.match(outcome.message) or outcome.output.startswith(b"fault ") else outcome.message
         self.same("what it tells", message, b"")

@@ -6,6 +6,7 @@ which there is no order, while there is one up to the entry before it. Journals 
 """
 import copy
 import random
+import re
 import unittest
 
 import drawn
@@ -199,6 +200,12 @@ class Histories(harness.Case):
 
     def test_runs(self):
         self.each(((f"drawn {seed}", seed) for seed in range(RUNS)), self.comes_back)
+
+    def test_page(self):
+        """The history that docs/LINEARIZE.md shows is explained."""
+        (shown,) = re.findall(r"^printf '(.*)' \| atomfs linearize$", (harness.ROOT / "docs" / "LINEARIZE.md").read_text(), re.M)
+        given = shown.replace("\\n", "\n").encode()
+        self.explained(given, run(given, "linearize"))
 
 
 if __name__ == "__main__":
