@@ -118,6 +118,12 @@ def takes_a_process():
         raise unittest.SkipTest("devices, memory and time of a process are looked at in the program that is proved and built")
 
 
+def asks_of_answers():
+    """Skips what asks the program of what it has answered where it is asked all at once."""
+    if answer is not spawned:
+        raise unittest.SkipTest("what was answered is asked of in the program that is proved and built")
+
+
 def compiled(folder, source, *more):
     """The shared object that `cc` makes of a source in C of tests/."""
     made = f"{folder}/{source}.so"
