@@ -1,13 +1,10 @@
 -- What the code's tests mean.
-use Rattle.std.specs.Prelude.{Result, Ok, Err, OnOk}
 use Rattle.std.proofs.Common.{◌≡◌, ℕ, Bool, true, List, [], ◌∷◌, ◌++◌, Option, Some, refl, sym, ap, ◌∙◌, subst}
-use Rattle.fs_calls.specs.Replies.{same_reply}
 use Rattle.fs_calls.specs.declared.call.Call.{Call}
 use Rattle.fs_calls.specs.declared.reply.Reply.{Reply}
 use Rattle.fs_histories.specs.declared.heard.Heard.{Heard}
 use Rattle.fs_histories.specs.declared.heard.Pattern.{Pattern}
 use Rattle.fs_histories.specs.Heard.{Matches}
-use Rattle.fs_timeline.proofs.ReplyLemmas.{same_reply_exact, same_reply_refl}
 use Rattle.fs_histories.specs.Configurations.{Configuration, committed}
 use Rattle.fs_histories.specs.Early.{CanCommitEarly, SettlesBy, Settles}
 
@@ -35,8 +32,3 @@ settles_append h x y z (p ∷ ps) qs settles more = (settles.0, settles_append h
 
 pub settles_on : (h : List Heard) (x y z : Configuration) → Settles h x y → Settles h y z → Settles h x z
 settles_on h x y z s t = (s.0 ++ t.0, settles_append h x y z s.0 t.0 s.1 t.1)
-
--- what holds where a result is Ok
-pub on_ok : {A E : Type 0} (r : Result A E) (P Q : Type 0) → (P → Q) → OnOk r P → OnOk r Q
-on_ok (Ok v) P Q f h = f h
-on_ok (Err e) P Q f h = tt

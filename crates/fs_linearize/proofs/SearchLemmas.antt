@@ -1,312 +1,334 @@
--- What the search has reached.
-use Rattle.std.proofs.Common.{◌≡◌, ℕ, zero, suc, ◌+◌, ◌<◌, ◌≤◌, true, false, List, [], ◌∷◌, ◌++◌, length, length-append, map, take, get_or, slice_get, is_some, Option, Some, None, refl, sym, ap, ◌∙◌, subst, ⊎_elim, arith, append_assoc, ◌⊎◌, inl, inr}
+-- What is added to a layer, and that each that is added is led to.
+use Rattle.std.proofs.Common.{◌≡◌, ℕ, zero, suc, ◌+◌, ◌<◌, ◌≤◌, Bool, true, false, List, [], ◌∷◌, ◌++◌, length, length-append, take, get_or, slice_get, Some, refl, sym, ap, ◌∙◌, subst, ⊎_elim, arith, append_assoc, append-nil, ◌⊎◌, inl, inr}
 use Rattle.std.specs.List.{Contains}
-use Rattle.std.proofs.lemmas.List.{take_more, take-append-le, take_all, get_or-map, length-map}
+use Rattle.std.proofs.lemmas.List.{take_more, take-append-le, take_all, get_or-map, length-map, map-append}
 use Rattle.std.proofs.lemmas.List.Elements.{Contains-append_left, Contains-append_cases, Contains-push, Contains-push_cases}
-use Rattle.std.proofs.lemmas.Bool.{or_cases, eqb-true, both_ways}
-use Rattle.std.proofs.lemmas.Option.{slice_get_past, slice_get_read}
+use Rattle.std.proofs.lemmas.Bool.{both_ways}
+use Rattle.std.proofs.lemmas.Option.{slice_get_within, get_or_from_slice_get}
 use Rattle.fs_calls.specs.Starts.{Start}
 use Rattle.fs_calls.specs.declared.call.Call.{Call}
-use Rattle.fs_timeline.specs.Timeline.{is_begin, has_begun}
-use Rattle.fs_timeline.specs.declared.entry.Entry.{Entry}
-use Rattle.fs_timeline.proofs.TimelineLemmas.{append_nil}
-use Rattle.fs_timeline.proofs.AppendLemmas.{list_any-push, is_some-call_of}
 use Rattle.fs_histories.specs.declared.heard.Heard.{Heard}
 use Rattle.fs_histories.specs.declared.heard.Heard.TheVariants.{Begin, Return}
 use Rattle.fs_histories.specs.declared.heard.Pattern.{Pattern}
-use Rattle.fs_histories.specs.Heard.{entry_of, entries, AreHeardIn}
-use Rattle.fs_histories.specs.Histories.{without_commits, IsHistory, Explains, ExplainsFront, HasNoOrder}
-use Rattle.fs_histories.specs.Configurations.{Configuration, at_start, is_in, passed, returned, CanCommit, committed, FollowedBy, IsFollowed}
-use Rattle.fs_histories.specs.Early.{SettlesIn, SettlesBy}
-use Rattle.fs_histories.specs.Paths.{LeadsTo}
-use Rattle.fs_histories.specs.Laws.{IsClosed}
-use Rattle.fs_histories.proofs.PathLemmas.{leads_start}
-use Rattle.fs_histories.proofs.Reaching.{closed_set_reaches, closed_set_refutes}
-use Rattle.fs_linearize.specs.Results.{IsReturnAt, WasLimited}
-use Rattle.fs_linearize.specs.code.Ways.{GoesBy, IsLedBy, IsLed, AllLed, configurations}
-use Rattle.fs_linearize.specs.code.Searching.{SettlesTo, Grows, Adds, AddsCommit, AddsCommits, AddsFollowers}
+use Rattle.fs_histories.specs.Histories.{IsHistory}
+use Rattle.fs_histories.specs.Configurations.{Configuration, is_in, placed, passed, returned, committed, CanCommit}
+use Rattle.fs_histories.specs.Early.{SettlesBy, SettlesIn}
+use Rattle.fs_linearize.specs.code.Calls.{IsUnderWay, AreEach, CanCommitNow, CanCommitQuietly}
+use Rattle.fs_linearize.specs.code.Ways.{IsLedBy, IsLed, AllLed, Keeps, configurations}
+use Rattle.fs_linearize.specs.code.Searching.{SettlesTo, AllAt, Grows, Adds, IsTried, AddsCommit, AddsCommits, AreTried, Follows, Widens, WidensBefore, WidensFor, HasPassed, Passes, PassesAll}
 use Rattle.fs_linearize.specs.declared.reached.Reached.{Reached}
-use Rattle.fs_linearize.specs.declared.steps.Step.{Step}
-use Rattle.fs_linearize.specs.declared.steps.Step.TheVariants.{Passes, Commits}
-use Rattle.fs_linearize.proofs.WayLemmas.{led_commit, led_begin, led_return, contains_configuration, contains_way}
+use Rattle.fs_linearize.specs.declared.steps.Link.{Link}
+use Rattle.fs_linearize.specs.declared.under_way.UnderWay.{UnderWay}
+use Rattle.fs_linearize.proofs.CallLemmas.{now_can, quietly_early, quietly_same}
+use Rattle.fs_linearize.proofs.CodeLemmas.{settles_more, settles_none, settles_on}
+use Rattle.fs_linearize.proofs.WayLemmas.{keeps_same, keeps_on, keeps_push, led_commit, led_begin, led_return, contains_configuration}
+
+led_at : (start : Start) (h : List Heard) (links : List Link) (s : Reached) (x : Configuration) (last : ℕ) → s.configuration ≡ x → s.last ≡ last → IsLedBy start h links x last → IsLed start h links s
+led_at start h links s x last is end l = subst (λ z. IsLedBy start h links z s.last) (sym is) (subst (λ n. IsLedBy start h links x n) (sym end) l)
+
+-- ---- calls that commit early
+
+-- calls that commit pass no entry
+pub settles_at : (h : List Heard) (x y : Configuration) (qs : List (ℕ × Call)) → SettlesBy h x qs y → y.at ≡ x.at
+settles_at h x y [] s = ap (λ z. z.at) (sym s)
+settles_at h x y (q ∷ qs) s = settles_at h (committed x q.0 q.1) y qs s.1
+
+pub settles_same : (h : List Heard) (links : List Link) (r : Reached) → SettlesTo h links links r r
+settles_same h links r = record { settles = settles_none h r.configuration; keeps = keeps_same links; led = λ start l. l }
+
+pub settles_then : (h : List Heard) (a b c : List Link) (r s t : Reached) → SettlesTo h a b r s → SettlesTo h b c s t → SettlesTo h a c r t
+settles_then h a b c r s t e f = record {
+  settles = settles_on h r.configuration s.configuration t.configuration e.settles f.settles;
+  keeps = keeps_on a b c e.keeps f.keeps;
+  led = λ start l. f.led start (e.led start l);
+}
+
+pub same_place : (h : List Heard) (old new : List Link) (r s : Reached) → SettlesTo h old new r s → s.configuration.at ≡ r.configuration.at
+same_place h old new r s k = settles_at h r.configuration s.configuration k.settles.0 k.settles.1
+
+-- what is led to where a commit was pushed
+led_made : (start : Start) (h : List Heard) (old new : List Link) (r s : Reached) (link : Link) (c : ℕ) (call : Call) → new ≡ old ++ link ∷ [] → link.number ≡ c → link.at ≡ r.configuration.at → link.before ≡ r.last → s.last ≡ length new
+    → s.configuration ≡ committed r.configuration c call → CanCommit h r.configuration c call → IsLed start h old r → IsLed start h new s
+led_made start h old new r s link c call pushed number place before last is can l =
+    let x = r.configuration in
+    let on = led_commit start h old new x r.last link call pushed place before (subst (λ n. CanCommit h x n call) (sym number) can) l in
+    led_at start h new s (committed x c call) (length new) is last (subst (λ n. IsLedBy start h new (committed x n call) (length new)) number on)
+
+pub settles_one : (h : List Heard) (old new : List Link) (r s : Reached) (u : UnderWay) (link : Link) → new ≡ old ++ link ∷ [] → link.number ≡ u.number → link.at ≡ r.configuration.at → link.before ≡ r.last → s.last ≡ length new
+    → s.configuration ≡ record r.configuration { held = placed u.number r.configuration.held } → CanCommitQuietly r.configuration u → IsUnderWay h r.configuration.at u → SettlesTo h old new r s
+settles_one h old new r s u link pushed number place before last is quiet way =
+    let x = r.configuration in
+    let early = quietly_early h x u way quiet in
+    let made : s.configuration ≡ committed x u.number u.call.now = is ∙ sym (quietly_same x u quiet) in
+    record {
+      settles = settles_more h x x s.configuration u.number (settles_none h x) (u.call.now, early, made);
+      keeps = keeps_push old new link pushed;
+      led = λ start l. led_made start h old new r s link u.number u.call.now pushed number place before last made early.can l;
+    }
 
 -- ---- growing
 
 pub none_there : {P : Type 0} (r : Reached) → Contains [] r → P
-none_there r k = absurd (omega (arith, k.1))
+none_there r k = let small = k.1 in absurd (omega (arith, small))
 
-pub grows_none : (h : List Heard) (x : Configuration) (steps : List Step) (seen : List Reached) → Grows h x steps seen seen
-grows_none h x steps seen = record { more = []; is = sym (append_nil seen); led = λ start k l r there. none_there r there }
+grows_none : (h : List Heard) (at : ℕ) (r : Reached) (old new : List Link) (layer : List Reached) → Keeps old new → Grows h at r old new layer layer
+grows_none h at r old new layer keeps = record { more = []; is = sym (append-nil layer); there = λ s none. none_there s none; keeps = keeps; led = λ start l s none. none_there s none }
 
-pub grows_on : (h : List Heard) (x : Configuration) (steps : List Step) (a b c : List Reached) → Grows h x steps a b → Grows h x steps b c → Grows h x steps a c
-grows_on h x steps a b c e f = record {
-  more = e.more ++ f.more;
-  is = f.is ∙ ap (λ xs. xs ++ f.more) e.is ∙ append_assoc a e.more f.more;
-  led = λ start k l r there. ⊎_elim (λ was. e.led start k l r was) (λ now. f.led start k l r now) (Contains-append_cases e.more f.more r there);
+grows_one : (h : List Heard) (at : ℕ) (r s : Reached) (old new : List Link) (before behind : List Reached) → behind ≡ before ++ s ∷ [] → s.configuration.at ≡ at → Keeps old new → ((start : Start) → IsLed start h old r → IsLed start h new s) → Grows h at r old new before behind
+grows_one h at r s old new before behind is place keeps led = record {
+  more = s ∷ [];
+  is = is;
+  there = λ t there. subst (λ (z : Reached). z.configuration.at ≡ at) (one s t there) place;
+  keeps = keeps;
+  led = λ start l t there. subst (IsLed start h new) (one s t there) (led start l);
 }
+  where
+    one : (a b : Reached) → Contains (a ∷ []) b → a ≡ b
+    one a b there = ⊎_elim (λ none. none_there b none) (λ same. same) (Contains-push_cases [] a b there)
 
-pub grows_longer : (h : List Heard) (x : Configuration) (steps : List Step) (old new : List Reached) → Grows h x steps old new → length old ≤ length new
-grows_longer h x steps old new g = let long = ap length g.is ∙ length-append old g.more in omega (arith, long)
-
-configurations-append : (xs ys : List Reached) → configurations (xs ++ ys) ≡ configurations xs ++ configurations ys
-configurations-append [] ys = refl
-configurations-append (r ∷ xs) ys = ap (λ zs. r.configuration ∷ zs) (configurations-append xs ys)
-
-pub all_led : (start : Start) (h : List Heard) (x : Configuration) (steps : List Step) (old new : List Reached) → Grows h x steps old new → IsHistory h → IsLedBy start h x steps → AllLed start h old → AllLed start h new
-all_led start h x steps old new g k l all r there =
-    ⊎_elim (λ was. all r was) (λ now. g.led start k l r now) (Contains-append_cases old g.more r (subst (λ (rs : List Reached). Contains rs r) g.is there))
-
-pub settles_still : (h : List Heard) (x y : Configuration) (steps : List Step) (old new : List Reached) → Grows h x steps old new → SettlesIn h (configurations old) y → SettlesIn h (configurations new) y
-settles_still h x y steps old new g s =
-    (s.0, s.1, s.2, subst (λ xs. Contains xs s.0) (sym (ap configurations g.is ∙ configurations-append old g.more)) (Contains-append_left (configurations old) (configurations g.more) s.0 s.3))
-
-pub followed_still : (h : List Heard) (S T : Configuration → Type 0) (x : Configuration) (o : Option Heard) → ((y : Configuration) → S y → T y) → FollowedBy h S x o → FollowedBy h T x o
-followed_still h S T x None f k = tt
-followed_still h S T x (Some (Begin c seat call)) f k = f _ k
-followed_still h S T x (Some (Return c p)) f k = (λ held. f _ (k.0 held), λ not_held d call can. f _ (k.1 not_held d call can))
-
--- what it settles to was reached
-pub adds_seen : (h : List Heard) (r s : Reached) (seen : List Reached) → SettlesTo h r s → Contains (configurations seen) s.configuration → Adds h r.configuration r.steps.items seen seen
-adds_seen h r s seen k there = record { grows = grows_none h r.configuration r.steps.items seen; settles = (s.configuration, k.settles.0, k.settles.1, there) }
-
--- and is now
-pub adds_new : (h : List Heard) (r s : Reached) (old new : List Reached) → SettlesTo h r s → new ≡ old ++ s ∷ [] → Adds h r.configuration r.steps.items old new
-adds_new h r s old new k is = record {
-  grows = record {
-    more = s ∷ [];
-    is = is;
-    led = λ start history l t there. ⊎_elim (λ was. none_there t was) (λ here. subst (IsLed start h) here (k.led start l)) (Contains-push_cases [] s t there);
-  };
-  settles = (s.configuration, k.settles.0, k.settles.1, contains_configuration new s (subst (λ (rs : List Reached). Contains rs s) (sym is) (Contains-push old s)));
+grows_on : (h : List Heard) (at : ℕ) (r : Reached) (a b c : List Link) (x y z : List Reached) → Grows h at r a b x y → Grows h at r b c y z → Grows h at r a c x z
+grows_on h at r a b c x y z e f = record {
+  more = e.more ++ f.more;
+  is = f.is ∙ ap (λ rs. rs ++ f.more) e.is ∙ append_assoc x e.more f.more;
+  there = λ s there. ⊎_elim (λ was. e.there s was) (λ now. f.there s now) (Contains-append_cases e.more f.more s there);
+  keeps = keeps_on a b c e.keeps f.keeps;
+  led = λ start l s there. ⊎_elim (λ was. f.keeps start h s.configuration s.last (e.led start l s was)) (λ now. f.led start (e.keeps start h r.configuration r.last l) s now) (Contains-append_cases e.more f.more s there);
 }
 
 -- what goes on from a configuration that is led
-grows_from : (h : List Heard) (x y : Configuration) (steps more : List Step) (old new : List Reached) → ((start : Start) → IsHistory h → IsLedBy start h x steps → IsLedBy start h y more) → Grows h y more old new → Grows h x steps old new
-grows_from h x y steps more old new on g = record { more = g.more; is = g.is; led = λ start k l. g.led start k (on start k l) }
+grows_from : (h : List Heard) (at : ℕ) (r s : Reached) (a b c : List Link) (x y : List Reached) → Keeps a b → ((start : Start) → IsLed start h a r → IsLed start h b s) → Grows h at s b c x y → Grows h at r a c x y
+grows_from h at r s a b c x y keeps on g = record { more = g.more; is = g.is; there = g.there; keeps = keeps_on a b c keeps g.keeps; led = λ start l. g.led start (on start l) }
 
--- the call of a Begin commits
-pub adds_commit : (h : List Heard) (x y : Configuration) (steps : List Step) (c seat : ℕ) (begun : Call) (old new : List Reached) → ((call : Call) × CanCommit h x c call × (y ≡ committed x c call)) → Adds h y (steps ++ Commits c ∷ []) old new
-    → AddsCommit h x steps (Begin c seat begun) old new
-adds_commit h x y steps c seat begun old new k a = record {
-  grows = grows_from h x y steps (steps ++ Commits c ∷ []) old new
-      (λ start history l. subst (λ z. IsLedBy start h z (steps ++ Commits c ∷ [])) (sym k.2) (led_commit start h x c k.0 steps k.1 l)) a.grows;
-  each = λ d call here can.
-      let number = eqb-true d c here in
-      let other : CanCommit h x c call = subst (λ n. CanCommit h x n call) number can in
-      let calls : Some k.0 ≡ Some call = sym k.1.begun ∙ other.begun in
-      let same : k.0 ≡ call = cc in
-      let is : y ≡ committed x d call = k.2 ∙ ap (λ (w : Call). committed x c w) same ∙ ap (λ n. committed x n call) (sym number) in
-      subst (SettlesIn h (configurations new)) is a.settles;
+pub settles_still : (h : List Heard) (x : Configuration) (old more new : List Reached) → new ≡ old ++ more → SettlesIn h (configurations old) x → SettlesIn h (configurations new) x
+settles_still h x old more new is s =
+    (s.0, s.1, s.2, subst (λ xs. Contains xs s.0) (sym (ap configurations is ∙ map-append (λ (r : Reached). r.configuration) old more)) (Contains-append_left (configurations old) (configurations more) s.0 s.3))
+
+-- ---- what a configuration settles to
+
+pub adds_seen : (h : List Heard) (r s : Reached) (old new : List Link) (layer : List Reached) → SettlesTo h old new r s → Contains (configurations layer) s.configuration → Adds h r old new layer layer
+adds_seen h r s old new layer k there = record { grows = grows_none h r.configuration.at r old new layer k.keeps; settles = (s.configuration, k.settles.0, k.settles.1, there) }
+
+pub adds_new : (h : List Heard) (r s : Reached) (old new : List Link) (before behind : List Reached) → SettlesTo h old new r s → behind ≡ before ++ s ∷ [] → Adds h r old new before behind
+adds_new h r s old new before behind k is = record {
+  grows = grows_one h r.configuration.at r s old new before behind is (same_place h old new r s k) k.keeps k.led;
+  settles = (s.configuration, k.settles.0, k.settles.1, contains_configuration behind s (subst (λ (rs : List Reached). Contains rs s) (sym is) (Contains-push before s)));
 }
 
--- or it cannot
-pub adds_no_commit : (h : List Heard) (x : Configuration) (steps : List Step) (c seat : ℕ) (begun : Call) (seen : List Reached) → ((call : Call) → CanCommit h x c call → ⊥) → AddsCommit h x steps (Begin c seat begun) seen seen
-adds_no_commit h x steps c seat begun seen never = record {
-  grows = grows_none h x steps seen;
-  each = λ d call here can. absurd (never call (subst (λ n. CanCommit h x n call) (eqb-true d c here) can));
-}
+-- ---- calls that commit
 
-pub adds_nothing : (h : List Heard) (x : Configuration) (steps : List Step) (e : Heard) (seen : List Reached) → ((c : ℕ) → is_begin c (entry_of e) ≡ true → ⊥) → AddsCommit h x steps e seen seen
-adds_nothing h x steps e seen never = record { grows = grows_none h x steps seen; each = λ d call here can. absurd (never d here) }
-
--- the calls that begin among some entries commit, if they can
-pub record AddsUpTo (h : List Heard) (x : Configuration) (steps : List Step) (es : List Heard) (old new : List Reached) : Type 0 where
-  pub grows : Grows h x steps old new
-  pub each : (c : ℕ) (call : Call) → has_begun c (entries es) ≡ true → CanCommit h x c call → SettlesIn h (configurations new) (committed x c call)
-
-pub adds_up_to_none : (h : List Heard) (x : Configuration) (steps : List Step) (seen : List Reached) → AddsUpTo h x steps [] seen seen
-adds_up_to_none h x steps seen = record { grows = grows_none h x steps seen; each = λ c call no can. absurd (cc) }
-
-entries-push : (es : List Heard) (e : Heard) → entries (es ++ e ∷ []) ≡ entries es ++ entry_of e ∷ []
-entries-push [] e = refl
-entries-push (f ∷ es) e = ap (λ ys. entry_of f ∷ ys) (entries-push es e)
-
-pub adds_one_more : (h : List Heard) (x : Configuration) (steps : List Step) (es : List Heard) (i : ℕ) (e : Heard) (old mid new : List Reached) → i < length es → e ≡ get_or es i e
-    → AddsUpTo h x steps (take i es) old mid → AddsCommit h x steps e mid new → AddsUpTo h x steps (take (i + 1) es) old new
-adds_one_more h x steps es i e old mid new small is so_far a = record {
-  grows = grows_on h x steps old mid new so_far.grows a.grows;
-  each = λ c call begun can.
-      let pushed : entries (take (i + 1) es) ≡ entries (take i es) ++ entry_of e ∷ [] = ap entries (take_more es i e small ∙ ap (λ y. take i es ++ y ∷ []) (sym is)) ∙ entries-push (take i es) e in
-      ⊎_elim
-      (λ was. settles_still h x (committed x c call) steps mid new a.grows (so_far.each c call was can))
-      (λ here. a.each c call here can)
-      (or_cases (has_begun c (entries (take i es))) (is_begin c (entry_of e)) (sym (ap (has_begun c) pushed ∙ list_any-push (is_begin c) (entries (take i es)) (entry_of e)) ∙ begun));
-}
-
--- all that have begun
-pub adds_all : (h : List Heard) (x : Configuration) (steps : List Step) (es : List Heard) (i : ℕ) (old new : List Reached) → es ≡ take x.at h → length es ≤ i → AddsUpTo h x steps (take i es) old new → AddsCommits h x steps old new
-adds_all h x steps es i old new is past a = record {
-  grows = a.grows;
-  each = λ c call can.
-      let whole : take i es ≡ take x.at h = take_all i es past ∙ is in
-      a.each c call (ap (λ (ys : List Heard). has_begun c (entries ys)) whole ∙ sym (is_some-call_of c (entries (take x.at h))) ∙ ap is_some can.begun) can;
-}
-
--- ---- what follows a configuration
-
-followers_at : (h : List Heard) (x : Configuration) (steps : List Step) (o : Option Heard) (old new : List Reached) → slice_get h x.at ≡ o → Grows h x steps old new → FollowedBy h (SettlesIn h (configurations new)) x o → AddsFollowers h x steps old new
-followers_at h x steps o old new is g followed = record { grows = g; followed = subst (FollowedBy h (SettlesIn h (configurations new)) x) (sym is) followed }
-
-pub followers_past : (h : List Heard) (x : Configuration) (steps : List Step) (seen : List Reached) → length h ≤ x.at → AddsFollowers h x steps seen seen
-followers_past h x steps seen past = followers_at h x steps None seen seen (slice_get_past h x.at past) (grows_none h x steps seen) tt
-
-pub followers_begin : (h : List Heard) (x y : Configuration) (steps : List Step) (c seat : ℕ) (call : Call) (old new : List Reached) → slice_get h x.at ≡ Some (Begin c seat call) → y ≡ passed x → Adds h y (steps ++ Passes ∷ []) old new → AddsFollowers h x steps old new
-followers_begin h x y steps c seat call old new is same a =
-    followers_at h x steps (Some (Begin c seat call)) old new is
-    (grows_from h x y steps (steps ++ Passes ∷ []) old new (λ start k l. subst (λ z. IsLedBy start h z (steps ++ Passes ∷ [])) (sym same) (led_begin start h x c seat call steps k is l)) a.grows)
-    (subst (SettlesIn h (configurations new)) same a.settles)
-
-pub followers_return : (h : List Heard) (x y : Configuration) (steps : List Step) (c : ℕ) (p : Pattern) (old new : List Reached) → slice_get h x.at ≡ Some (Return c p) → is_in c x.held ≡ true → y ≡ returned x c → Adds h y (steps ++ Passes ∷ []) old new → AddsFollowers h x steps old new
-followers_return h x y steps c p old new is held same a =
-    followers_at h x steps (Some (Return c p)) old new is
-    (grows_from h x y steps (steps ++ Passes ∷ []) old new (λ start k l. subst (λ z. IsLedBy start h z (steps ++ Passes ∷ [])) (sym same) (led_return start h x c p steps k is held l)) a.grows)
-    (λ k. subst (SettlesIn h (configurations new)) same a.settles, λ not_held. absurd (both_ways _ not_held held))
-
-pub followers_commits : (h : List Heard) (x : Configuration) (steps : List Step) (c : ℕ) (p : Pattern) (old new : List Reached) → slice_get h x.at ≡ Some (Return c p) → is_in c x.held ≡ false → AddsCommits h x steps old new → AddsFollowers h x steps old new
-followers_commits h x steps c p old new is not_held a =
-    followers_at h x steps (Some (Return c p)) old new is a.grows (λ held. absurd (both_ways _ not_held held), λ k d call can. a.each d call can)
-
-pub entry_at : (h : List Heard) (n at : ℕ) (r e : Heard) → at ≡ n → at < length h → r ≡ get_or h at r → r ≡ e → slice_get h n ≡ Some e
-entry_at h n at r e same small is was = subst (λ k. slice_get h k ≡ Some e) same (slice_get_read h (length h) at r refl small is ∙ ap Some was)
-
--- ---- the whole search
-
--- one more of those that were reached is followed
-pub followed_one_more : (h : List Heard) (old new : List Reached) (i : ℕ) (r : Reached) (x : Configuration) (steps : List Step) → i < length old → r ≡ get_or old i r → x ≡ r.configuration
-    → ((y : Configuration) → Contains (take i (configurations old)) y → IsFollowed h (SettlesIn h (configurations old)) y) → AddsFollowers h x steps old new
-    → (y : Configuration) → Contains (take (i + 1) (configurations new)) y → IsFollowed h (SettlesIn h (configurations new)) y
-followed_one_more h old new i r x steps small is same so_far a y there =
-    let many = length-map old (λ (s : Reached). s.configuration) in
-    let at : x ≡ get_or (configurations old) i x = same ∙ ap (λ (s : Reached). s.configuration) is ∙ sym (get_or-map (λ (s : Reached). s.configuration) old i r x small) in
-    let fronts : take (i + 1) (configurations new) ≡ take i (configurations old) ++ x ∷ [] =
-    ap (take (i + 1)) (ap configurations a.grows.is ∙ configurations-append old a.grows.more) ∙ take-append-le (i + 1) (configurations old) (configurations a.grows.more) (omega (arith, many)) ∙ take_more (configurations old) i x (omega (arith, many)) ∙ ap (λ z. take i (configurations old) ++ z ∷ []) (sym at) in
-    ⊎_elim
-    (λ was. followed_still h (SettlesIn h (configurations old)) (SettlesIn h (configurations new)) y (slice_get h y.at) (λ z s. settles_still h x z steps old new a.grows s) (so_far y was))
-    (λ here. subst (λ z. IsFollowed h (SettlesIn h (configurations new)) z) here a.followed)
-    (Contains-push_cases (take i (configurations old)) x y (subst (λ xs. Contains xs y) fronts there))
-
--- all of them are
-pub closed_at_end : (start : Start) (h : List Heard) (seen : List Reached) (i : ℕ) → length seen ≤ i → SettlesIn h (configurations seen) (at_start start)
-    → ((y : Configuration) → Contains (take i (configurations seen)) y → IsFollowed h (SettlesIn h (configurations seen)) y) → IsClosed start h (configurations seen)
-closed_at_end start h seen i past starts so_far =
-    let many = length-map seen (λ (s : Reached). s.configuration) in
+pub adds_commit : (h : List Heard) (r s : Reached) (u : UnderWay) (link : Link) (old mid new : List Link) (before behind : List Reached) → mid ≡ old ++ link ∷ [] → link.number ≡ u.number → link.at ≡ r.configuration.at → link.before ≡ r.last → s.last ≡ length mid
+    → CanCommitNow r.configuration u × (s.configuration ≡ committed r.configuration u.number u.call.now) → IsUnderWay h r.configuration.at u → Adds h s mid new before behind → AddsCommit h r u old new before behind
+adds_commit h r s u link old mid new before behind pushed number place first last can way a =
+    let at : s.configuration.at ≡ r.configuration.at = ap (λ z. z.at) can.1 in
     record {
-      starts = starts;
-      followed = λ x there. so_far x (subst (λ xs. Contains xs x) (sym (take_all i (configurations seen) (omega (arith, many)))) there);
+      grows = grows_from h r.configuration.at r s old mid new before behind (keeps_push old mid link pushed)
+          (λ start l. led_made start h old mid r s link u.number u.call.now pushed number place first last can.1 (now_can h r.configuration u way can.0) l)
+          (subst (λ n. Grows h n s mid new before behind) at a.grows);
+      tried = λ again. subst (SettlesIn h (configurations behind)) can.1 a.settles;
     }
 
--- calls that commit pass no entry
-settles_at : (h : List Heard) (x y : Configuration) (qs : List (ℕ × Call)) → SettlesBy h x qs y → y.at ≡ x.at
-settles_at h x y [] s = ap (λ z. z.at) (sym s)
-settles_at h x y (q ∷ qs) s = settles_at h (committed x q.0 q.1) y qs s.1
+pub adds_no_commit : (h : List Heard) (r : Reached) (u : UnderWay) (links : List Link) (layer : List Reached) → (CanCommitNow r.configuration u → ⊥) → AddsCommit h r u links links layer layer
+adds_no_commit h r u links layer never = record { grows = grows_none h r.configuration.at r links links layer (keeps_same links); tried = λ can. absurd (never can) }
 
--- some configuration is at the furthest place
-attains : (start : Start) (h : List Heard) (seen : List Reached) (most : ℕ) → SettlesIn h (configurations seen) (at_start start) → (most ≡ 0) ⊎ ((r : Reached) × Contains seen r × (r.configuration.at ≡ most)) → (x : Configuration) × Contains (configurations seen) x × (x.at ≡ most)
-attains start h seen most starts attained = ⊎_elim
-    (λ first. (starts.0, starts.3, settles_at h (at_start start) starts.0 starts.1 starts.2 ∙ sym first))
-    (λ found. (found.0.configuration, contains_configuration seen found.0 found.1, found.2))
-    attained
+tried_still : (h : List Heard) (x : Configuration) (u : UnderWay) (old more new : List Reached) → new ≡ old ++ more → IsTried h x u old → IsTried h x u new
+tried_still h x u old more new is tried can = settles_still h (committed x u.number u.call.now) old more new is (tried can)
 
-within : (h : List Heard) (n : ℕ) → n < length h → slice_get h n ≡ None → ⊥
-within [] n small is = absurd (omega (arith, small))
-within (x ∷ h) zero small is = absurd (cc)
-within (x ∷ h) (suc n) small is = within h n (omega (arith, small)) is
+pub adds_none : (h : List Heard) (r : Reached) (links : List Link) (layer : List Reached) → AddsCommits h r [] links links layer layer
+adds_none h r links layer = record { grows = grows_none h r.configuration.at r links links layer (keeps_same links); each = λ u there. absurd (let small = there.1 in omega (arith, small)) }
 
-return_at : (h : List Heard) (most : ℕ) (x : Configuration) (seen : List Configuration) → x.at ≡ most → most < length h → ((y : Configuration) → Contains seen y → y.at ≤ most) → (o : Option Heard) → slice_get h most ≡ o → FollowedBy h (SettlesIn h seen) x o
-    → (c : ℕ) × (p : Pattern) × (slice_get h most ≡ Some (Return c p))
-return_at h most x seen at short below None is f = absurd (within h most short is)
-return_at h most x seen at short below (Some (Begin c seat call)) is f =
-    let passes = settles_at h (passed x) f.0 f.1 f.2 in
-    let small = below f.0 f.3 in
-    absurd (omega (arith, passes, small, at))
-return_at h most x seen at short below (Some (Return c p)) is f = (c, p, is)
+pub adds_one_more : (h : List Heard) (r : Reached) (us : List UnderWay) (i : ℕ) (u : UnderWay) (a b c : List Link) (x y z : List Reached) → i < length us → u ≡ get_or us i u
+    → AddsCommits h r (take i us) a b x y → AddsCommit h r u b c y z → AddsCommits h r (take (i + 1) us) a c x z
+adds_one_more h r us i u a b c x y z small is so_far one = record {
+  grows = grows_on h r.configuration.at r a b c x y z so_far.grows one.grows;
+  each = λ v there. ⊎_elim
+      (λ was. tried_still h r.configuration v y one.grows.more z one.grows.is (so_far.each v was))
+      (λ here. subst (λ (w : UnderWay). IsTried h r.configuration w z) here one.tried)
+      (Contains-push_cases (take i us) u v (subst (λ (ws : List UnderWay). Contains ws v) (take_more us i u small ∙ ap (λ (w : UnderWay). take i us ++ w ∷ []) (sym is)) there));
+}
 
--- where nothing is further, a call returns
-pub returns_there : (start : Start) (h : List Heard) (seen : List Reached) (most : ℕ) → IsClosed start h (configurations seen) → ((r : Reached) → Contains seen r → r.configuration.at ≤ most) → most < length h
-    → (most ≡ 0) ⊎ ((r : Reached) × Contains seen r × (r.configuration.at ≡ most)) → (c : ℕ) × (p : Pattern) × (slice_get h most ≡ Some (Return c p))
-returns_there start h seen most closed below short attained =
-    let found = attains start h seen most closed.starts attained in
-    let followed = subst (λ n. FollowedBy h (SettlesIn h (configurations seen)) found.0 (slice_get h n)) found.2 (closed.followed found.0 found.1) in
-    return_at h most found.0 (configurations seen) found.2 short (λ x there. let way = contains_way seen x there in subst (λ (z : Configuration). z.at ≤ most) way.2 (below way.0 way.1)) (slice_get h most) refl followed
+pub adds_all : (h : List Heard) (r : Reached) (us : List UnderWay) (i : ℕ) (a b : List Link) (x y : List Reached) → length us ≤ i → AddsCommits h r (take i us) a b x y → AddsCommits h r us a b x y
+adds_all h r us i a b x y past k = subst (λ (ws : List UnderWay). AddsCommits h r ws a b x y) (take_all i us past) k
 
--- a front that ends before the furthest place is explained
-before_most : (start : Start) (h : List Heard) (seen : List Reached) (most : ℕ) → AllLed start h seen → (most ≡ 0) ⊎ ((r : Reached) × Contains seen r × (r.configuration.at ≡ most)) → (es : List Entry) × ExplainsFront start h es × (length (without_commits es) + 1 ≡ most + 1)
-before_most start h seen most led attained = ⊎_elim
-    (λ none. let first = leads_start start h in ([], first.explains, omega (arith, none)))
-    (λ found. let l = led found.0 found.1 in (l.0, l.1.explains, ap (λ n. n + 1) (sym l.1.place ∙ found.2)))
-    attained
+-- ---- a layer before the return of a call
 
--- the furthest place is before the end
-pub before_end : (start : Start) (h : List Heard) (seen : List Reached) (most : ℕ) → SettlesIn h (configurations seen) (at_start start) → (most ≡ 0) ⊎ ((r : Reached) × Contains seen r × (r.configuration.at ≡ most)) → ((r : Reached) → Contains seen r → r.configuration.at < length h) → most < length h
-before_end start h seen most starts attained short =
-    let found = attains start h seen most starts attained in
-    let way = contains_way seen found.0 found.1 in
-    subst (λ n. n < length h) found.2 (subst (λ (z : Configuration). z.at < length h) way.2 (short way.0 way.1))
+pub follows_held : (h : List Heard) (c : ℕ) (r : Reached) (us : List UnderWay) (links : List Link) (layer : List Reached) → is_in c r.configuration.held ≡ true → Follows h c r us links links layer layer
+follows_held h c r us links layer held = record { grows = grows_none h r.configuration.at r links links layer (keeps_same links); tried = λ not_held. absurd (both_ways _ not_held held) }
 
-pub no_order : (start : Start) (h : List Heard) (seen : List Reached) (most : ℕ) → IsClosed start h (configurations seen) → ((r : Reached) → Contains seen r → r.configuration.at ≤ most) → most < length h
-    → AllLed start h seen → (most ≡ 0) ⊎ ((r : Reached) × Contains seen r × (r.configuration.at ≡ most)) → HasNoOrder start h (most + 1)
-no_order start h seen most closed below short led attained =
-    let at_most : (x : Configuration) → Contains (configurations seen) x → x.at ≤ most = λ x there. let way = contains_way seen x there in subst (λ (z : Configuration). z.at ≤ most) way.2 (below way.0 way.1) in
+pub follows_commits : (h : List Heard) (c : ℕ) (r : Reached) (us : List UnderWay) (a b : List Link) (x y : List Reached) → AddsCommits h r us a b x y → Follows h c r us a b x y
+follows_commits h c r us a b x y k = record { grows = k.grows; tried = λ not_held. k.each }
+
+abbrev reached_by : Configuration → ℕ → Reached
+reached_by x last = record { configuration = x; last = last }
+
+same_reached : (r s : Reached) → r.configuration ≡ s.configuration → r.last ≡ s.last → r ≡ s
+same_reached r s one other = ap (λ x. reached_by x r.last) one ∙ ap (reached_by s.configuration) other
+
+got : (layer : List Reached) (i : ℕ) (r s : Reached) → slice_get layer i ≡ Some r → s ≡ get_or layer i s → s ≡ r
+got layer i r s is here = here ∙ get_or_from_slice_get layer i r s is
+
+pub follows_past : (h : List Heard) (c : ℕ) (r : Reached) (us : List UnderWay) (links : List Link) (layer : List Reached) (i : ℕ) → slice_get layer i ≡ Some r → length layer ≤ i → Follows h c r us links links layer layer
+follows_past h c r us links layer i is past = let small = slice_get_within layer i r is in absurd (omega (arith, small, past))
+
+pub follows_held_at : (h : List Heard) (c : ℕ) (r s : Reached) (us : List UnderWay) (links : List Link) (layer : List Reached) (i : ℕ) → slice_get layer i ≡ Some r → s ≡ get_or layer i s → is_in c s.configuration.held ≡ true → Follows h c r us links links layer layer
+follows_held_at h c r s us links layer i is here held = follows_held h c r us links layer (subst (λ (w : Reached). is_in c w.configuration.held ≡ true) (got layer i r s is here) held)
+
+pub follows_commits_at : (h : List Heard) (c : ℕ) (r s t : Reached) (us : List UnderWay) (a b : List Link) (x y : List Reached) (i : ℕ) → slice_get x i ≡ Some r → s ≡ get_or x i s → t.configuration ≡ s.configuration → t.last ≡ s.last → AreEach h r.configuration.at us
+    → (AreEach h t.configuration.at us → AddsCommits h t us a b x y) → Follows h c r us a b x y
+follows_commits_at h c r s t us a b x y i is here same last each adds =
+    let one : t ≡ r = same_reached t s same last ∙ got x i r s is here in
+    follows_commits h c r us a b x y (subst (λ (w : Reached). AddsCommits h w us a b x y) one (adds (subst (λ (w : Reached). AreEach h w.configuration.at us) (sym one) each)))
+
+pub contains_got : {A : Type 0} (xs : List A) (i : ℕ) (x : A) → Some x ≡ slice_get xs i → Contains xs x
+contains_got xs i x is = (i, slice_get_within xs i x (sym is), get_or_from_slice_get xs i x x (sym is))
+
+pub none_left : (xs : List Reached) → length xs ≡ 0 → xs ≡ []
+none_left [] k = refl
+none_left (r ∷ xs) k = absurd (omega (arith, k))
+
+-- the first of a layer are followed
+pub record WidensUpTo (h : List Heard) (c at : ℕ) (us : List UnderWay) (i : ℕ) (old new : List Link) (before behind : List Reached) : Type 0 where
+  pub within : i ≤ length behind
+  pub widens : Widens h at old new before behind
+  pub tried : (x : Configuration) → Contains (take i (configurations behind)) x → AreTried h c x us behind
+
+pub widens_same : (h : List Heard) (at : ℕ) (links : List Link) (layer : List Reached) → AllAt at layer → Widens h at links links layer layer
+widens_same h at links layer there = record { more = []; is = sym (append-nil layer); there = there; keeps = keeps_same links; led = λ start all. all }
+
+pub widens_none : (h : List Heard) (c at : ℕ) (us : List UnderWay) (links : List Link) (layer : List Reached) → AllAt at layer → WidensUpTo h c at us 0 links links layer layer
+widens_none h c at us links layer there = record { within = omega arith; widens = widens_same h at links layer there; tried = λ x none. absurd (let small = none.1 in omega (arith, small)) }
+
+some_at : (xs : List Reached) (i : ℕ) → i < length xs → (r : Reached) × (slice_get xs i ≡ Some r)
+some_at [] i small = absurd (omega (arith, small))
+some_at (r ∷ xs) zero small = (r, refl)
+some_at (r ∷ xs) (suc i) small = some_at xs i (omega (arith, small))
+
+fronts_more : (y more z : List Reached) (i : ℕ) (r : Reached) → i < length y → r ≡ get_or y i r → z ≡ y ++ more → take (i + 1) (configurations z) ≡ take i (configurations y) ++ r.configuration ∷ []
+fronts_more y more z i r small is grown =
+    let many = length-map y (λ (s : Reached). s.configuration) in
+    let small_too : i < length (configurations y) = omega (arith, small, many) in
+    let here : get_or (configurations y) i r.configuration ≡ r.configuration = get_or-map (λ (s : Reached). s.configuration) y i r r.configuration small ∙ ap (λ (s : Reached). s.configuration) (sym is) in
+    ap (take (i + 1)) (ap configurations grown ∙ map-append (λ (s : Reached). s.configuration) y more)
+    ∙ take-append-le (i + 1) (configurations y) (configurations more) (omega (arith, small_too))
+    ∙ take_more (configurations y) i r.configuration small_too ∙ ap (λ x. take i (configurations y) ++ x ∷ []) here
+
+pub widens_one_more : (h : List Heard) (c at : ℕ) (us : List UnderWay) (i : ℕ) (a b d : List Link) (x y z : List Reached) → i < length y → AreEach h at us
+    → ((g : List Heard) (r : Reached) → slice_get y i ≡ Some r → AreEach g r.configuration.at us → Follows g c r us b d y z) → WidensUpTo h c at us i a b x y → WidensUpTo h c at us (i + 1) a d x z
+widens_one_more h c at us i a b d x y z small each follows so_far =
+    let r = some_at y i small in
+    let place : r.0.configuration.at ≡ at = so_far.widens.there r.0 (i, small, get_or_from_slice_get y i r.0 r.0 r.1) in
+    let f = follows h r.0 r.1 (subst (λ n. AreEach h n us) (sym place) each) in
+    let long = ap length f.grows.is ∙ length-append y f.grows.more in
+    let fronts : take (i + 1) (configurations z) ≡ take i (configurations y) ++ r.0.configuration ∷ [] = fronts_more y f.grows.more z i r.0 small (sym (get_or_from_slice_get y i r.0 r.0 r.1)) f.grows.is in
     record {
-      whole = closed_set_refutes start h (configurations seen) closed (λ x there. let at = at_most x there in omega (arith, at, short));
-      front = λ es x.
-          let found = closed_set_reaches start h es (configurations seen) closed x in
-          let at = at_most found.0 found.1 in
-          omega (arith, at, found.2);
-      before = before_most start h seen most led attained;
+      within = omega (arith, long, small);
+      widens = record {
+        more = so_far.widens.more ++ f.grows.more;
+        is = f.grows.is ∙ ap (λ rs. rs ++ f.grows.more) so_far.widens.is ∙ append_assoc x so_far.widens.more f.grows.more;
+        there = λ s there. ⊎_elim (λ was. so_far.widens.there s was) (λ now. f.grows.there s now ∙ place) (Contains-append_cases y f.grows.more s (subst (λ (rs : List Reached). Contains rs s) f.grows.is there));
+        keeps = keeps_on a b d so_far.widens.keeps f.grows.keeps;
+        led = λ start all s there.
+            let were = so_far.widens.led start all in
+            ⊎_elim
+            (λ was. f.grows.keeps start h s.configuration s.last (were s was))
+            (λ now. f.grows.led start (were r.0 (i, small, get_or_from_slice_get y i r.0 r.0 r.1)) s now)
+            (Contains-append_cases y f.grows.more s (subst (λ (rs : List Reached). Contains rs s) f.grows.is there));
+      };
+      tried = λ w there. ⊎_elim
+          (λ was not_held u k. tried_still h w u y f.grows.more z f.grows.is (so_far.tried w was not_held u k))
+          (λ here. subst (λ v. AreTried h c v us z) here f.tried)
+          (Contains-push_cases (take i (configurations y)) r.0.configuration w (subst (λ ws. Contains ws w) fronts there));
     }
 
-pub was_limited : (start : Start) (h : List Heard) (limit : ℕ) (seen : List Reached) (most : ℕ) → limit ≤ length seen → AllLed start h seen → (most ≡ 0) ⊎ ((r : Reached) × Contains seen r × (r.configuration.at ≡ most)) → WasLimited start h limit (most + 1)
-was_limited start h limit seen most many led attained =
-    let long = length-map seen (λ (s : Reached). s.configuration) in
+pub widens_whole : (h : List Heard) (c at : ℕ) (us : List UnderWay) (i most : ℕ) (a b : List Link) (x y : List Reached) → length y ≤ i → WidensUpTo h c at us i a b x y → WidensBefore h c at us a b x y true most
+widens_whole h c at us i most a b x y past k =
+    let many = length-map y (λ (s : Reached). s.configuration) in
     record {
-      made = configurations seen;
-      many = omega (arith, many, long);
-      led = λ x there. let way = contains_way seen x there in let l = led way.0 way.1 in (l.0, subst (LeadsTo start h l.0) way.2 l.1);
-      before = before_most start h seen most led attained;
+      widens = k.widens;
+      tried = λ yes w there. k.tried w (subst (λ ws. Contains ws w) (sym (take_all i (configurations y) (omega (arith, many, past)))) there);
+      many = λ no. absurd (cc);
     }
 
-heard_length : (es : List Entry) (g : List Heard) → AreHeardIn es g → length es ≤ length g
-heard_length [] g k = omega arith
-heard_length (e ∷ es) [] k = absurd k
-heard_length (e ∷ es) (x ∷ g) k = let rest = heard_length es g k.1 in omega (arith, rest)
+pub widens_limited : (h : List Heard) (c at : ℕ) (us : List UnderWay) (i most : ℕ) (a b : List Link) (x y : List Reached) → most ≤ i → WidensUpTo h c at us i a b x y → WidensBefore h c at us a b x y false most
+widens_limited h c at us i most a b x y past k = let within = k.within in record { widens = k.widens; tried = λ no. absurd (cc); many = λ yes. omega (arith, past, within) }
 
--- what leads to the end explains the history
-pub explains_at_end : (start : Start) (h : List Heard) (r : Reached) → length h ≤ r.configuration.at → IsLed start h r → (es : List Entry) × Explains start h es × GoesBy h r.steps.items es
-explains_at_end start h r past l =
-    let front = l.1.explains in
-    let short = heard_length (without_commits l.0) h front.heard_as in
-    let place = l.1.place in
-    (l.0, record { lawful = front.lawful; heard_as = front.heard_as; whole = omega (arith, short, place, past) }, l.2)
+pub widens_return : (h : List Heard) (c at : ℕ) (p : Pattern) (us : List UnderWay) (a b : List Link) (x y : List Reached) (whole : Bool) (most : ℕ) → WidensBefore h c at us a b x y whole most → WidensFor h (Return c p) at us a b x y whole most
+widens_return h c at p us a b x y whole most k = record { widens = k.widens; ready = k.tried; many = k.many }
 
--- ---- the furthest place
+pub widens_begin : (h : List Heard) (c seat at : ℕ) (call : Call) (us : List UnderWay) (most : ℕ) (whole : Bool) (links : List Link) (layer : List Reached) → (whole ≡ false → most ≤ length layer) → AllAt at layer → WidensFor h (Begin c seat call) at us links links layer layer whole most
+widens_begin h c seat at call us most whole links layer many there = record { widens = widens_same h at links layer there; ready = λ yes x k. tt; many = many }
 
-pub attained_more : (seen : List Reached) (i : ℕ) (r : Reached) (old new : ℕ) → i < length seen → r ≡ get_or seen i r → (new ≡ old) ⊎ (new ≡ r.configuration.at)
-    → (old ≡ 0) ⊎ ((s : Reached) × Contains seen s × (s.configuration.at ≡ old)) → (new ≡ 0) ⊎ ((s : Reached) × Contains seen s × (s.configuration.at ≡ new))
-attained_more seen i r old new small is either so_far =
-    ⊎_elim
-    (λ stays. subst (λ n. (n ≡ 0) ⊎ ((s : Reached) × Contains seen s × (s.configuration.at ≡ n))) (sym stays) so_far)
-    (λ here. inr (r, (i, small, sym is), sym here))
-    either
+-- ---- a layer that passes an entry
 
-pub furthest_more : (seen : List Reached) (i : ℕ) (r : Reached) (old new : ℕ) → i < length seen → r ≡ get_or seen i r → old ≤ new → r.configuration.at ≤ new
-    → ((s : Reached) → Contains (take i seen) s → s.configuration.at ≤ old) → (s : Reached) → Contains (take (i + 1) seen) s → s.configuration.at ≤ new
-furthest_more seen i r old new small is grows covers so_far s there =
-    ⊎_elim
-    (λ was. let at = so_far s was in omega arith)
-    (λ here. subst (λ (z : Reached). z.configuration.at ≤ new) here covers)
-    (Contains-push_cases (take i seen) r s (subst (λ (xs : List Reached). Contains xs s) (take_more seen i r small ∙ ap (λ (z : Reached). take i seen ++ z ∷ []) (sym is)) there))
+pub passes_begin : (h : List Heard) (c seat : ℕ) (call : Call) (r s t : Reached) (old new : List Link) (before behind : List Reached) → IsHistory h → slice_get h r.configuration.at ≡ Some (Begin c seat call)
+    → s.configuration ≡ passed r.configuration → s.last ≡ r.last → SettlesTo h old new s t → behind ≡ before ++ t ∷ [] → Passes h (Begin c seat call) r old new before behind
+passes_begin h c seat call r s t old new before behind history here is last k pushed =
+    let x = r.configuration in
+    let at : s.configuration.at ≡ x.at + 1 = ap (λ z. z.at) is in
+    record {
+      grows = grows_one h (x.at + 1) r t old new before behind pushed (same_place h old new s t k ∙ at) k.keeps
+          (λ start l. k.led start (led_at start h old s (passed x) r.last is last (led_begin start h old x r.last c seat call history here l)));
+      passed = subst (SettlesIn h (configurations behind)) is
+          (t.configuration, k.settles.0, k.settles.1, contains_configuration behind t (subst (λ (rs : List Reached). Contains rs t) (sym pushed) (Contains-push before t)));
+    }
 
-pub furthest_all : (seen : List Reached) (i most : ℕ) → length seen ≤ i → ((s : Reached) → Contains (take i seen) s → s.configuration.at ≤ most) → (s : Reached) → Contains seen s → s.configuration.at ≤ most
-furthest_all seen i most past so_far s there = so_far s (subst (λ (xs : List Reached). Contains xs s) (sym (take_all i seen past)) there)
+pub passes_return : (h : List Heard) (c : ℕ) (p : Pattern) (r s : Reached) (links : List Link) (before behind : List Reached) → IsHistory h → slice_get h r.configuration.at ≡ Some (Return c p) → is_in c r.configuration.held ≡ true
+    → s.configuration ≡ returned r.configuration c → s.last ≡ r.last → behind ≡ before ++ s ∷ [] → Passes h (Return c p) r links links before behind
+passes_return h c p r s links before behind history here held is last pushed =
+    let x = r.configuration in
+    record {
+      grows = grows_one h (x.at + 1) r s links links before behind pushed (ap (λ z. z.at) is) (keeps_same links)
+          (λ start l. led_at start h links s (returned x c) r.last is last (led_return start h links x r.last c p history here held l));
+      passed = λ yes. (returned x c, [], refl, subst (Contains (configurations behind)) is (contains_configuration behind s (subst (λ (rs : List Reached). Contains rs s) (sym pushed) (Contains-push before s))));
+    }
 
-pub short_more : (seen : List Reached) (i : ℕ) (r : Reached) (count at : ℕ) → i < length seen → r ≡ get_or seen i r → at ≡ r.configuration.at → at < count
-    → ((s : Reached) → Contains (take i seen) s → s.configuration.at < count) → (s : Reached) → Contains (take (i + 1) seen) s → s.configuration.at < count
-short_more seen i r count at small is here short so_far s there =
-    ⊎_elim
-    (λ was. so_far s was)
-    (λ same. subst (λ (z : Reached). z.configuration.at < count) same (subst (λ n. n < count) here short))
-    (Contains-push_cases (take i seen) r s (subst (λ (xs : List Reached). Contains xs s) (take_more seen i r small ∙ ap (λ (z : Reached). take i seen ++ z ∷ []) (sym is)) there))
+pub passes_not : (h : List Heard) (c : ℕ) (p : Pattern) (r : Reached) (links : List Link) (layer : List Reached) → is_in c r.configuration.held ≡ false → Passes h (Return c p) r links links layer layer
+passes_not h c p r links layer not_held = record { grows = grows_none h (r.configuration.at + 1) r links links layer (keeps_same links); passed = λ held. absurd (both_ways _ not_held held) }
 
-pub short_all : (seen : List Reached) (i count : ℕ) → length seen ≤ i → ((s : Reached) → Contains (take i seen) s → s.configuration.at < count) → (s : Reached) → Contains seen s → s.configuration.at < count
-short_all seen i count past so_far s there = so_far s (subst (λ (xs : List Reached). Contains xs s) (sym (take_all i seen past)) there)
+-- those that are left of a layer, and those that passed
+pub record PassesUpTo (h : List Heard) (e : Heard) (at : ℕ) (old new : List Link) (all rest behind : List Reached) : Type 0 where
+  pub there : AllAt (at + 1) behind
+  pub keeps : Keeps old new
+  pub led : (start : Start) → AllLed start h old all → AllLed start h new behind
+  pub some : (r : Reached) → Contains rest r → Contains all r
+  pub passed : (r : Reached) → Contains all r → Contains rest r ⊎ HasPassed h e r.configuration behind
+
+pub passes_none : (h : List Heard) (e : Heard) (at : ℕ) (links : List Link) (layer behind : List Reached) → behind ≡ [] → PassesUpTo h e at links links layer layer behind
+passes_none h e at links layer behind none = subst (λ (rs : List Reached). PassesUpTo h e at links links layer layer rs) (sym none) (record {
+  there = λ r k. none_there r k;
+  keeps = keeps_same links;
+  led = λ start all r k. none_there r k;
+  some = λ r k. k;
+  passed = λ r k. inl k;
+})
+
+has_passed_still : (h : List Heard) (e : Heard) (x : Configuration) (old more new : List Reached) → new ≡ old ++ more → HasPassed h e x old → HasPassed h e x new
+has_passed_still h (Begin c seat call) x old more new is k = settles_still h (passed x) old more new is k
+has_passed_still h (Return c p) x old more new is k = λ held. settles_still h (returned x c) old more new is (k held)
+
+pub passes_one_more : (h : List Heard) (e : Heard) (at : ℕ) (r : Reached) (a b d : List Link) (all left rest y z : List Reached) → left ≡ rest ++ r ∷ [] → AllAt at all
+    → (r.configuration.at ≡ at → Passes h e r b d y z) → PassesUpTo h e at a b all left y → PassesUpTo h e at a d all rest z
+passes_one_more h e at r a b d all left rest y z popped there passes so_far =
+    let mine : Contains all r = so_far.some r (subst (λ (rs : List Reached). Contains rs r) (sym popped) (Contains-push rest r)) in
+    let p = passes (there r mine) in
+    let one_more : r.configuration.at + 1 ≡ at + 1 = ap (λ n. n + 1) (there r mine) in
+    record {
+      there = λ s k. ⊎_elim (λ was. so_far.there s was) (λ now. p.grows.there s now ∙ one_more) (Contains-append_cases y p.grows.more s (subst (λ (rs : List Reached). Contains rs s) p.grows.is k));
+      keeps = keeps_on a b d so_far.keeps p.grows.keeps;
+      led = λ start led s k. ⊎_elim
+          (λ was. p.grows.keeps start h s.configuration s.last (so_far.led start led s was))
+          (λ now. p.grows.led start (so_far.keeps start h r.configuration r.last (led r mine)) s now)
+          (Contains-append_cases y p.grows.more s (subst (λ (rs : List Reached). Contains rs s) p.grows.is k));
+      some = λ s k. so_far.some s (subst (λ (rs : List Reached). Contains rs s) (sym popped) (Contains-append_left rest (r ∷ []) s k));
+      passed = λ s k. ⊎_elim
+          (λ waits. ⊎_elim (λ still. inl still) (λ here. inr (subst (λ (w : Reached). HasPassed h e w.configuration z) here p.passed)) (Contains-push_cases rest r s (subst (λ (rs : List Reached). Contains rs s) popped waits)))
+          (λ done. inr (has_passed_still h e s.configuration y p.grows.more z p.grows.is done))
+          (so_far.passed s k);
+    }
+
+pub passes_all : (h : List Heard) (e : Heard) (at : ℕ) (a b : List Link) (all rest behind : List Reached) → rest ≡ [] → PassesUpTo h e at a b all rest behind → PassesAll h e at a b all behind
+passes_all h e at a b all rest behind none k = record {
+  there = k.there;
+  keeps = k.keeps;
+  led = k.led;
+  passed = λ r there. ⊎_elim (λ left. none_there r (subst (λ (rs : List Reached). Contains rs r) none left)) (λ done. done) (k.passed r there);
+}

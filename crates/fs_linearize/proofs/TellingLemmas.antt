@@ -1,5 +1,5 @@
 -- How the journal of a history is told.
-use Rattle.std.proofs.Common.{◌≡◌, ℕ, suc, ◌<◌, ◌≤◌, ⊎_elim, ◌+◌, Bool, true, false, ◌==◌, cond, List, [], ◌∷◌, ◌++◌, length, take, drop, get_or, reverse, Option, Some, None, is_some, refl, sym, ap, ◌∙◌, subst, arith, append_assoc}
+use Rattle.std.proofs.Common.{◌≡◌, ℕ, suc, ◌<◌, ◌≤◌, ⊎_elim, ◌+◌, true, false, ◌==◌, List, [], ◌∷◌, ◌++◌, length, take, drop, get_or, reverse, Option, Some, None, refl, sym, ap, ◌∙◌, subst, arith, append_assoc}
 use Rattle.std.proofs.lemmas.List.{take_more, take-append-drop, drop_all, reverse-append, reverse-reverse}
 use Rattle.std.proofs.Math.Seq.{drop-cons}
 use Rattle.std.proofs.lemmas.Bool.{eqb-true, eqb-false, ne_eqb, cases_Bool}
@@ -15,8 +15,8 @@ use Rattle.fs_timeline.proofs.TimelineLemmas.{append_nil, lawful_appended, well_
 use Rattle.fs_histories.specs.declared.heard.Heard.{Heard}
 use Rattle.fs_histories.specs.declared.heard.Heard.TheVariants as heard
 use Rattle.fs_histories.specs.declared.heard.Pattern.{Pattern}
-use Rattle.fs_histories.specs.declared.heard.Pattern.TheVariants.{Exactly, AnyError, AnyDirectory}
-use Rattle.fs_histories.specs.Heard.{IsHeardAs, Matches}
+use Rattle.fs_histories.specs.declared.heard.Pattern.TheVariants.{Exactly}
+use Rattle.fs_histories.specs.Heard.{Matches}
 use Rattle.fs_histories.proofs.HistoryLemmas.{some_from, committed_of_other, commits_of_none, played_commit}
 use Rattle.fs_linearize.specs.code.Ways.{GoesBy}
 use Rattle.fs_linearize.specs.code.Tellings.{IsPlayed, PlaysOn, IsFilledIn, IsEntryFor, IsTold, TellsOn}

@@ -1,4 +1,6 @@
 -- What ties the code to the definitions: of it nothing has to be believed.
+pub mod Knowing
 pub mod Ways
+pub mod Calls
 pub mod Searching
 pub mod Tellings

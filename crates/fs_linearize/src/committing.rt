@@ -1,64 +1,46 @@
 //! Calls that commit.
 
-ghost use Rattle.std.specs.Prelude.{◌≡◌, ◌↔◌, take, Some, true, IfOk, IsTrue};
-ghost use Rattle.fs_histories.specs.Histories.{FitsIn};
-ghost use Rattle.fs_histories.specs.Configurations.{CommitsTo};
-ghost use Rattle.fs_histories.specs.Early.{leaves_trees, tells_error, is_quiet, CommitsEarlyTo};
+ghost use Rattle.std.specs.Prelude.{◌≡◌, ◌↔◌, ℕ, List, true, option_copied, IfOk};
+ghost use Rattle.fs_histories.specs.Early.{leaves_trees, tells_error, is_quiet};
+ghost use Rattle.fs_histories.specs.declared.heard.Heard.{Heard as Value};
+ghost use Rattle.fs_linearize.specs.code.Calls.{FitsKnown, CommitsNow, CanCommitQuietly, IsUnderWay, AreEach};
 ghost use Rattle.fs_linearize.specs.code.Searching.{SettlesTo};
 
 use crate::configuration::Configuration;
+use crate::numbers;
 use crate::reached::Reached;
-use crate::steps::Step;
-use crate::{heard, numbers};
+use crate::steps::Link;
+use crate::under_way::UnderWay;
 use fs_calls::{Call, Reply};
-use fs_histories::{Heard, Pattern};
+use fs_histories::Pattern;
 use std::alloc::{AllocError, Global};
 
-/// The first entries.
-pub(crate) fn front(history: &[Heard], count: usize) -> &[Heard]
-    ensures { result.now ≡ take count history.now }
+/// Whether a reply matches what is known of it, if anything.
+fn fits(known: Option<&Pattern>, reply: &Reply) -> bool
+    ensures { result ≡ true ↔ FitsKnown (option_copied known.entry) reply.now }
 {
-    if count < history.len() {
-        &history[..count]
-    } else {
-        history
-    }
-}
-
-/// Whether a reply of a call matches what the history tells of it, if anything.
-fn fits(history: &[Heard], number: u64, reply: &Reply) -> bool
-    ensures { result ≡ true ↔ FitsIn history.now number reply.now }
-{
-    match heard::recorded(history, number) {
+    match known {
         Some(pattern) => pattern.matches(reply),
         None => true,
     }
 }
 
-/// Commits a call, if it can.
+/// Commits a call under way, if it can.
 pub(crate) fn commit(
     alloc: Global,
-    history: &[Heard],
     x: &Configuration,
-    number: u64,
+    call: &UnderWay,
 ) -> Result<Option<Configuration>, AllocError>
-    ensures { IfOk result (CommitsTo history.now x.now number) }
+    ensures { IfOk result (CommitsNow x.now call.now) }
 {
-    let before = front(history, x.at);
-    let Some(call) = heard::call_of(before, number) else {
-        return Ok(None);
-    };
-    if heard::has_returned(before, number) {
+    if x.holds(call.number) {
         return Ok(None);
     }
-    if numbers::is_in(&x.held, number) {
+    let (reply, tree) = x.tree.after(alloc, call.call)?;
+    if !fits(call.known, &reply) {
         return Ok(None);
     }
-    let (reply, tree) = x.tree.after(alloc, call)?;
-    if !fits(history, number, &reply) {
-        return Ok(None);
-    }
-    let held = numbers::with(alloc, &x.held, number)?;
+    let held = numbers::with(alloc, &x.held, call.number)?;
     Ok(Some(Configuration {
         at: x.at,
         tree,
@@ -96,62 +78,73 @@ fn is_quiet(call: &Call, pattern: &Pattern) -> bool
     leaves_trees(call) || tells_error(pattern)
 }
 
-/// Commits a call early, if it is quiet and can commit.
-fn commit_early(
-    alloc: Global,
-    history: &[Heard],
-    x: &Configuration,
-    number: u64,
-) -> Result<Option<Configuration>, AllocError>
-    ensures { IfOk result (CommitsEarlyTo history.now x.now number) }
+/// Whether a call under way is quiet and was found to be one that can commit.
+fn commits_quietly(alloc: Global, x: &Configuration, call: &UnderWay) -> Result<bool, AllocError>
+    ensures { IfOk result (λ can. can ≡ true → CanCommitQuietly x.now call.now) }
 {
-    let Some(call) = heard::call_of(front(history, x.at), number) else {
-        return Ok(None);
+    let Some(pattern) = call.known else {
+        return Ok(false);
     };
-    let Some(pattern) = heard::recorded(history, number) else {
-        return Ok(None);
-    };
-    if !is_quiet(call, pattern) {
-        return Ok(None);
+    if !is_quiet(call.call, pattern) {
+        return Ok(false);
     }
-    commit(alloc, history, x, number)
+    if x.holds(call.number) {
+        return Ok(false);
+    }
+    let reply = x.tree.reply(alloc, call.call)?;
+    Ok(pattern.matches(&reply))
 }
 
-/// Commits the call of a Begin early, if it is quiet and can commit.
+/// Commits a call under way early, if it is quiet and can commit.
 fn settle_one(
     alloc: Global,
-    history: &[Heard],
-    mut reached: Reached,
-    entry: &Heard,
+    links: &mut Vec<Link>,
+    reached: Reached,
+    call: &UnderWay,
 ) -> Result<Reached, AllocError>
-    ensures { IfOk result (SettlesTo history.now reached) }
+    ensures { IfOk result (λ settled. (h : List Value) → IsUnderWay h reached.configuration.at call.now → SettlesTo h links.old.items links.new.items reached settled) }
 {
-    let Heard::Begin(number, _, _) = entry else {
+    if !commits_quietly(alloc, &reached.configuration, call)? {
         return Ok(reached);
-    };
-    match commit_early(alloc, history, &reached.configuration, number.get())? {
-        Some(configuration) => {
-            reached.steps.push(Step::Commits(number.get()))?;
-            Ok(Reached {
-                configuration,
-                steps: reached.steps,
-            })
-        }
-        None => Ok(reached),
     }
+    links.push(Link {
+        number: call.number,
+        at: reached.configuration.passed_count(),
+        before: reached.last,
+    })?;
+    Ok(Reached {
+        configuration: reached.configuration.hold(alloc, call.number)?,
+        last: links.len(),
+    })
 }
 
-/// Commits early what can, once each call that has begun.
+/// Commits early what can of the calls under way.
 pub(crate) fn settle(
     alloc: Global,
-    history: &[Heard],
+    calls: &[UnderWay],
+    links: &mut Vec<Link>,
     reached: Reached,
 ) -> Result<Reached, AllocError>
-    ensures { IfOk result (SettlesTo history.now reached) }
+    ensures { IfOk result (λ settled. (h : List Value) → AreEach h reached.configuration.at calls.now → SettlesTo h links.old.items links.new.items reached settled) }
 {
     let mut now = reached;
-    for entry in front(history, now.configuration.passed_count()) {
-        now = settle_one(alloc, history, now, entry)?;
+    for call in calls {
+        now = settle_one(alloc, links, now, call)?;
     }
     Ok(now)
+}
+
+/// Commits early the call that began last, if it can.
+pub(crate) fn settle_newest(
+    alloc: Global,
+    calls: &[UnderWay],
+    links: &mut Vec<Link>,
+    reached: Reached,
+) -> Result<Reached, AllocError>
+    ensures { IfOk result (λ settled. (h : List Value) → AreEach h reached.configuration.at calls.now → SettlesTo h links.old.items links.new.items reached settled) }
+{
+    match calls.last() {
+        Some(call) => Ok(settle_one(alloc, links, reached, call)?),
+        None => Ok(reached),
+    }
 }

@@ -1,6 +1,6 @@
 //! Configurations of the search.
 
-ghost use Rattle.std.specs.Prelude.{◌≡◌, ◌+◌, ◌<◌, ◌^◌, true, IfOk};
+ghost use Rattle.std.specs.Prelude.{◌≡◌, true, IfOk};
 ghost use Rattle.fs_histories.specs.Configurations as specs;
 
 use crate::numbers;
@@ -44,6 +44,13 @@ impl Configuration {
         self.at
     }
 
+    /// Whether a call is committed and has not returned.
+    pub fn holds(&self, number: u64) -> bool
+        ensures { result ≡ specs.is_in number self.now.held }
+    {
+        numbers::is_in(&self.held, number)
+    }
+
     /// The same configuration again.
     pub fn copy(&self, alloc: Global) -> Result<Self, AllocError>
         ensures { IfOk result (λ x. x ≡ self.now) }
@@ -65,26 +72,35 @@ impl Configuration {
         self.tree.same(alloc, &other.tree)
     }
 
-    /// A call begins.
-    pub fn passed(&self, alloc: Global) -> Result<Self, AllocError>
-        requires { self.now.at + 1 < 2 ^ 64 }
-        ensures { IfOk result (λ x. x ≡ specs.passed self.now) }
+    /// A call is committed that leaves the tree as it is.
+    pub fn hold(self, alloc: Global, number: u64) -> Result<Self, AllocError>
+        ensures { IfOk result (λ x. x ≡ record self { held = specs.placed number self.held }) }
     {
         Ok(Configuration {
-            at: self.at + 1,
-            tree: self.tree.copy()?,
-            held: Vec::from_slice(alloc, &self.held)?,
+            at: self.at,
+            tree: self.tree,
+            held: numbers::with(alloc, &self.held, number)?,
         })
     }
 
-    /// A call returns.
-    pub fn returned(&self, alloc: Global, number: u64) -> Result<Self, AllocError>
-        requires { self.now.at + 1 < 2 ^ 64 }
-        ensures { IfOk result (λ x. x ≡ specs.returned self.now number) }
+    /// A call begins, with which so many entries have passed.
+    pub fn passed(self, at: usize) -> Self
+        ensures { result ≡ record self { at = at } }
+    {
+        Configuration {
+            at,
+            tree: self.tree,
+            held: self.held,
+        }
+    }
+
+    /// A call returns, with which so many entries have passed.
+    pub fn returned(self, alloc: Global, number: u64, at: usize) -> Result<Self, AllocError>
+        ensures { IfOk result (λ x. x ≡ record self { at = at; held = specs.without number self.held }) }
     {
         Ok(Configuration {
-            at: self.at + 1,
-            tree: self.tree.copy()?,
+            at,
+            tree: self.tree,
             held: numbers::without(alloc, &self.held, number)?,
         })
     }

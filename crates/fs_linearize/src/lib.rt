@@ -4,22 +4,28 @@
 //! that none does, and names the first return up to which there is none; `Fault` that the entries are no history, and
 //! `Unknown` that the limit was reached.
 //!
-//! The search follows all configurations that can be reached: how many entries have passed, the tree, and which calls have
-//! committed and not returned. A call that changes no tree commits as soon as its reply fits, any other at a return of a
-//! call that has not committed. What a history is, which timelines explain it, and the laws of the search are in
-//! `fs_histories`; `specs/Results.antt` has what an answer says.
+//! The search goes by layers: all configurations before an entry, then those behind it. A configuration is how many entries
+//! have passed, the tree, and which calls have committed and not returned. A call that changes no tree commits as soon as its
+//! reply fits, any other at a return of a call that has not committed; a layer that gets empty there is the answer `NoOrder`.
+//! Of what went by nothing is kept but the commits, in one list that all ways share. What a history is, which timelines
+//! explain it, and the laws of the search are in `fs_histories`; `specs/Results.antt` has what an answer says.
 #![tactic(auto)]
 
 mod committing;
 mod configuration;
 mod faults;
 mod heard;
+mod layer;
 pub mod linearizing;
 mod numbers;
+mod passing;
+mod places;
 mod reached;
 mod search;
 mod snapshot;
 mod steps;
 mod telling;
+mod under_way;
+mod ways;
 
 pub use linearizing::{Found, linearize};

@@ -37,7 +37,7 @@ pub fn linearize(
     ensures answer { IfOk result (IsAnswerFor start.now history.items limit) }
     ensures fault { IfOk result (λ found. fault_in found ≡ history_fault history.items) }
 {
-    if let Some((place, kind)) = first_fault(&history) {
+    if let Some((place, kind)) = first_fault(alloc, &history)? {
         return Ok(Found::Fault(place, kind));
     }
     match find_way(alloc, start, &history, limit)? {

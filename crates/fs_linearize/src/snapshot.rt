@@ -4,6 +4,7 @@ ghost use Rattle.std.specs.Prelude.{◌≡◌, true, map, IfOk};
 ghost use Rattle.fs_calls.specs.Outcomes.{reply_at, called};
 ghost use Rattle.fs_calls.specs.Replies.{same_kind, same_names};
 ghost use Rattle.fs_names.specs.Names.{same_bytes};
+ghost use Rattle.fs_seq.specs.Looks.{is_look};
 ghost use Rattle.fs_seq.specs.Rows.{row_of};
 
 use fs_calls::{Call, Reply};
@@ -55,6 +56,13 @@ fn same_row(row: &Row, other: &Row) -> bool
         return false;
     }
     same_contents(&row.bytes, &other.bytes)
+}
+
+/// Whether a call is a stat, a readdir or a read.
+fn is_look(call: &Call) -> bool
+    ensures { result ≡ is_look call.now }
+{
+    matches!(call, Call::Stat(_) | Call::Readdir(_) | Call::Read(_, _, _))
 }
 
 /// Whether the entries are the same.
@@ -109,5 +117,16 @@ impl Snapshot {
         let mut tree = self.tree.copy()?;
         let reply = tree.apply(alloc, call)?;
         Ok((reply, Snapshot { tree }))
+    }
+
+    /// The reply of a call.
+    pub fn reply(&self, alloc: Global, call: &Call) -> Result<Reply, AllocError>
+        ensures { IfOk result (λ r. r ≡ reply_at self.now call.now) }
+    {
+        if is_look(call) {
+            return self.tree.look(alloc, call);
+        }
+        let mut tree = self.tree.copy()?;
+        tree.apply(alloc, call)
     }
 }

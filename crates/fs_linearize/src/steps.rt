@@ -1,8 +1,4 @@
-//! The way to a configuration, in steps.
-
-ghost use Rattle.std.specs.Prelude.{◌≡◌, ◌++◌, ◌∷◌, [], IfOk};
-
-use std::alloc::{AllocError, Global};
+//! The way to a configuration, in steps, and the commits that the ways share.
 
 /// A step on the way to a configuration: one entry more of the timeline that leads to it.
 #[derive(Clone, Copy, Debug, PartialEq, Eq)]
@@ -13,11 +9,13 @@ pub(crate) enum Step {
     Commits(u64),
 }
 
-/// The steps, and one more.
-pub(crate) fn one_more(alloc: Global, steps: &[Step], step: Step) -> Result<Vec<Step>, AllocError>
-    ensures { IfOk result (λ all. all.items ≡ steps.now ++ step ∷ []) }
-{
-    let mut all = Vec::from_slice(alloc, steps)?;
-    all.push(step)?;
-    Ok(all)
+/// A commit on the way to a configuration. All of them stand in one list, which each way only goes back through.
+#[derive(Clone, Copy, Debug, PartialEq, Eq)]
+pub(crate) struct Link {
+    /// The call.
+    pub number: u64,
+    /// How many entries of the history had passed.
+    pub at: usize,
+    /// The place in the list of the commit before it, counted from 1, or 0 if it is the first.
+    pub before: usize,
 }

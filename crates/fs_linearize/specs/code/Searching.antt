@@ -1,62 +1,108 @@
 -- What a step of the search adds to what was reached.
-use Rattle.std.specs.Prelude.{◌≡◌, ◌<◌, ◌≤◌, ℕ, true, false, List, [], ◌∷◌, ◌++◌, length, slice_get, Option, Some, None, Contains}
+use Rattle.std.specs.Prelude.{◌≡◌, ◌+◌, ◌≤◌, ℕ, Bool, true, false, List, [], ◌∷◌, ◌++◌, length, Contains}
 use Rattle.fs_calls.specs.Starts.{Start}
-use Rattle.fs_calls.specs.declared.call.Call.{Call}
-use Rattle.fs_timeline.specs.Timeline.{is_begin}
+use Rattle.fs_timeline.specs.declared.entry.Entry.{Entry}
 use Rattle.fs_histories.specs.declared.heard.Heard.{Heard}
-use Rattle.fs_histories.specs.Heard.{entry_of}
-use Rattle.fs_histories.specs.Histories.{IsHistory, HasNoOrder}
-use Rattle.fs_histories.specs.Configurations.{Configuration, at_start, CanCommit, committed, IsFollowed}
+use Rattle.fs_histories.specs.declared.heard.Heard.TheVariants.{Begin, Return}
+use Rattle.fs_histories.specs.Histories.{HasNoOrder, Explains}
+use Rattle.fs_histories.specs.Configurations.{Configuration, at_start, is_in, passed, returned, committed}
 use Rattle.fs_histories.specs.Early.{Settles, SettlesIn}
-use Rattle.fs_histories.specs.Laws.{IsClosed}
 use Rattle.fs_linearize.specs.Results.{IsReturnAt, WasLimited}
-use Rattle.fs_linearize.specs.code.Ways.{GoesBy, IsLedBy, IsLed, AllLed, configurations}
+use Rattle.fs_linearize.specs.code.Calls.{CanCommitNow}
+use Rattle.fs_linearize.specs.code.Ways.{GoesBy, IsLed, AllLed, Keeps, configurations}
 use Rattle.fs_linearize.specs.declared.reached.Reached.{Reached}
-use Rattle.fs_linearize.specs.declared.steps.Step.{Step}
-use Rattle.fs_linearize.specs.declared.search.Reachable.{Reachable}
+use Rattle.fs_linearize.specs.declared.steps.Link.{Link}
+use Rattle.fs_linearize.specs.declared.under_way.UnderWay.{UnderWay}
 use Rattle.fs_linearize.specs.declared.search.Searched.{Searched}
 use Rattle.fs_linearize.specs.declared.search.Searched.TheVariants.{Ends, NoOrder, Limited}
-use Rattle.fs_timeline.specs.Timeline.{IsLawful}
-use Rattle.fs_timeline.specs.declared.entry.Entry.{Entry}
-use Rattle.fs_histories.specs.Histories.{Explains}
 
 -- calls commit early
-pub record SettlesTo (h : List Heard) (old new : Reached) : Type 0 where
-  pub settles : Settles h old.configuration new.configuration
-  pub led : (start : Start) → IsLed start h old → IsLed start h new
+pub record SettlesTo (h : List Heard) (old new : List Link) (r s : Reached) : Type 0 where
+  pub settles : Settles h r.configuration s.configuration
+  pub keeps : Keeps old new
+  pub led : (start : Start) → IsLed start h old r → IsLed start h new s
 
--- more was reached, by timelines that go on from those of a configuration
-pub record Grows (h : List Heard) (x : Configuration) (steps : List Step) (old new : List Reached) : Type 0 where
+-- all of a layer are behind so many entries
+abbrev pub AllAt : ℕ → List Reached → Type 0
+AllAt at layer = (r : Reached) → Contains layer r → r.configuration.at ≡ at
+
+-- a layer gets more, behind so many entries, by timelines that go on from that of a configuration
+pub record Grows (h : List Heard) (at : ℕ) (r : Reached) (old new : List Link) (before behind : List Reached) : Type 0 where
   pub more : List Reached
-  pub is : new ≡ old ++ more
-  pub led : (start : Start) → IsHistory h → IsLedBy start h x steps → AllLed start h more
+  pub is : behind ≡ before ++ more
+  pub there : AllAt at more
+  pub keeps : Keeps old new
+  pub led : (start : Start) → IsLed start h old r → AllLed start h new more
 
--- what a configuration settles to is reached
-pub record Adds (h : List Heard) (x : Configuration) (steps : List Step) (old new : List Reached) : Type 0 where
-  pub grows : Grows h x steps old new
-  pub settles : SettlesIn h (configurations new) x
+-- what a configuration settles to is there
+pub record Adds (h : List Heard) (r : Reached) (old new : List Link) (before behind : List Reached) : Type 0 where
+  pub grows : Grows h r.configuration.at r old new before behind
+  pub settles : SettlesIn h (configurations behind) r.configuration
 
--- the call that an entry begins commits, if it can
-pub record AddsCommit (h : List Heard) (x : Configuration) (steps : List Step) (e : Heard) (old new : List Reached) : Type 0 where
-  pub grows : Grows h x steps old new
-  pub each : (c : ℕ) (call : Call) → is_begin c (entry_of e) ≡ true → CanCommit h x c call → SettlesIn h (configurations new) (committed x c call)
+-- what comes of a call under way is there, if it can commit
+abbrev pub IsTried : List Heard → Configuration → UnderWay → List Reached → Type 0
+IsTried h x u layer = CanCommitNow x u → SettlesIn h (configurations layer) (committed x u.number u.call.now)
 
--- each call that can commit did
-pub record AddsCommits (h : List Heard) (x : Configuration) (steps : List Step) (old new : List Reached) : Type 0 where
-  pub grows : Grows h x steps old new
-  pub each : (c : ℕ) (call : Call) → CanCommit h x c call → SettlesIn h (configurations new) (committed x c call)
+-- a call commits, if it can
+pub record AddsCommit (h : List Heard) (r : Reached) (u : UnderWay) (old new : List Link) (before behind : List Reached) : Type 0 where
+  pub grows : Grows h r.configuration.at r old new before behind
+  pub tried : IsTried h r.configuration u behind
 
--- what may follow is reached
-pub record AddsFollowers (h : List Heard) (x : Configuration) (steps : List Step) (old new : List Reached) : Type 0 where
-  pub grows : Grows h x steps old new
-  pub followed : IsFollowed h (SettlesIn h (configurations new)) x
+-- each of these calls commits, if it can
+pub record AddsCommits (h : List Heard) (r : Reached) (us : List UnderWay) (old new : List Link) (before behind : List Reached) : Type 0 where
+  pub grows : Grows h r.configuration.at r old new before behind
+  pub each : (u : UnderWay) → Contains us u → IsTried h r.configuration u behind
 
--- all that can be reached, or as much as the limit says
-pub record IsReach (start : Start) (h : List Heard) (limit : ℕ) (r : Reachable) : Type 0 where
-  pub starts : SettlesIn h (configurations r.seen.items) (at_start start)
-  pub closed : r.closed ≡ true → IsClosed start h (configurations r.seen.items)
-  pub many : r.closed ≡ false → limit ≤ length r.seen.items
-  pub led : IsHistory h → AllLed start h r.seen.items
+-- a configuration is followed before the return of a call, if that has not committed
+abbrev pub AreTried : List Heard → ℕ → Configuration → List UnderWay → List Reached → Type 0
+AreTried h c x us layer = is_in c x.held ≡ false → (u : UnderWay) → Contains us u → IsTried h x u layer
+
+pub record Follows (h : List Heard) (c : ℕ) (r : Reached) (us : List UnderWay) (old new : List Link) (before behind : List Reached) : Type 0 where
+  pub grows : Grows h r.configuration.at r old new before behind
+  pub tried : AreTried h c r.configuration us behind
+
+-- a layer gets more by commits
+pub record Widens (h : List Heard) (at : ℕ) (old new : List Link) (before behind : List Reached) : Type 0 where
+  pub more : List Reached
+  pub is : behind ≡ before ++ more
+  pub there : AllAt at behind
+  pub keeps : Keeps old new
+  pub led : (start : Start) → AllLed start h old before → AllLed start h new behind
+
+-- all that come of a layer by commits before the return of a call are there, or as many as may be
+pub record WidensBefore (h : List Heard) (c at : ℕ) (us : List UnderWay) (old new : List Link) (before behind : List Reached) (whole : Bool) (most : ℕ) : Type 0 where
+  pub widens : Widens h at old new before behind
+  pub tried : whole ≡ true → (x : Configuration) → Contains (configurations behind) x → AreTried h c x us behind
+  pub many : whole ≡ false → most ≤ length behind
+
+-- what has to come of a configuration before an entry is there
+abbrev pub IsReady : List Heard → Heard → Configuration → List UnderWay → List Reached → Type 0
+IsReady h (Begin c seat call) x us layer = Unit {0}
+IsReady h (Return c p) x us layer = AreTried h c x us layer
+
+pub record WidensFor (h : List Heard) (e : Heard) (at : ℕ) (us : List UnderWay) (old new : List Link) (before behind : List Reached) (whole : Bool) (most : ℕ) : Type 0 where
+  pub widens : Widens h at old new before behind
+  pub ready : whole ≡ true → (x : Configuration) → Contains (configurations behind) x → IsReady h e x us behind
+  pub many : whole ≡ false → most ≤ length behind
+
+-- a configuration has passed an entry, if the entry can pass there
+abbrev pub HasPassed : List Heard → Heard → Configuration → List Reached → Type 0
+HasPassed h (Begin c seat call) x layer = SettlesIn h (configurations layer) (passed x)
+HasPassed h (Return c p) x layer = is_in c x.held ≡ true → SettlesIn h (configurations layer) (returned x c)
+
+pub record Passes (h : List Heard) (e : Heard) (r : Reached) (old new : List Link) (before behind : List Reached) : Type 0 where
+  pub grows : Grows h (r.configuration.at + 1) r old new before behind
+  pub passed : HasPassed h e r.configuration behind
+
+pub record PassesAll (h : List Heard) (e : Heard) (at : ℕ) (old new : List Link) (before behind : List Reached) : Type 0 where
+  pub there : AllAt (at + 1) behind
+  pub keeps : Keeps old new
+  pub led : (start : Start) → AllLed start h old before → AllLed start h new behind
+  pub passed : (r : Reached) → Contains before r → HasPassed h e r.configuration behind
+
+-- the layer before the first entry
+abbrev pub IsFirst : Start → List Reached → Type 0
+IsFirst start layer = (r : Reached) × (layer ≡ r ∷ []) × (r.configuration ≡ at_start start) × (r.last ≡ 0)
 
 -- what was searched: steps of a timeline that explains the history, or there is none, or the limit was reached
 abbrev pub IsSearched : Start → List Heard → ℕ → Searched → Type 0

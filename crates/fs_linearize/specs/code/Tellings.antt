@@ -1,11 +1,10 @@
 -- How the journal of a history is told, step by step.
-use Rattle.std.specs.Prelude.{◌≡◌, reverse, true, ℕ, List, [], ◌∷◌, ◌++◌, Option, Some, None}
+use Rattle.std.specs.Prelude.{◌≡◌, reverse, true, ℕ, List, [], ◌∷◌, ◌++◌, Some}
 use Rattle.fs_calls.specs.Starts.{Start}
 use Rattle.fs_calls.specs.Outcomes.{next_start}
 use Rattle.fs_calls.specs.declared.reply.Reply.{Reply}
-use Rattle.fs_timeline.specs.Timeline.{is_commit, has_committed, call_of, commits, due, IsWellFormed, IsLawful}
+use Rattle.fs_timeline.specs.Timeline.{has_committed, commits, due, IsWellFormed, IsLawful}
 use Rattle.fs_timeline.specs.declared.entry.Entry.{Entry}
-use Rattle.fs_timeline.specs.declared.entry.Entry.TheVariants.{Return}
 use Rattle.fs_histories.specs.declared.heard.Heard.{Heard}
 use Rattle.fs_histories.specs.declared.heard.Pattern.{Pattern}
 use Rattle.fs_histories.specs.Heard.{IsHeardAs, Matches}

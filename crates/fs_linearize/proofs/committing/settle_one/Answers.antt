@@ -1,11 +1,13 @@
-use Rattle.std.proofs.Common.{subst, sym, ap, ◌∙◌, ◌++◌, ◌∷◌, []}
-use Rattle.fs_histories.specs.Early.{CommitsEarlyTo}
-use Rattle.fs_linearize.specs.declared.steps.Step.TheVariants.{Commits}
-use Rattle.fs_linearize.proofs.WayLemmas.{settles_one}
+use Rattle.std.proofs.Common.{◌≡◌, refl, length, arith}
+use Rattle.fs_linearize.proofs.SearchLemmas.{settles_one}
+use Rattle.fs_linearize.specs.declared.reached.Reached.{Reached}
+use Rattle.fs_linearize.specs.declared.steps.Link.{Link}
 use Rattle.fs_linearize.proofs.committing.settle_one.Goals as goal
 
-pub returns-in_ok-push-in-Some : goal.returns-in_ok-push-in-Some
-returns-in_ok-push-in-Some c =
-    settles_one c.args.history.now c.args.reached _ c.get.result
-    (subst (CommitsEarlyTo c.args.history.now c.args.reached.configuration c.get.result) c.in-Some.is c.in_ok-configuration.ensures)
-    (c.in_ok-push-in-Some.ensures.items ∙ ap (λ n. c.args.reached.steps.items ++ Commits n ∷ []) (c.get-in-Some.ensures ∙ sym c.get.ensures))
+pub returns : goal.returns
+returns c = λ h way.
+    let r = c.args.reached in
+    let s : Reached = record { configuration = c.in_ok-hold.field-0; last = c.len.result } in
+    let link : Link = record { number = c.args.call.now.number; at = c.passed_count.result; before = r.last } in
+    let last : c.len.result ≡ length c.push.new.self.items = omega (arith, c.len.ensures, c.push.new.self.ok.0) in
+    settles_one h c.args.links.now.items c.push.new.self.items r s c.args.call.now link c.in_ok-push.ensures.items refl c.passed_count.ensures refl last c.in_ok-hold.ensures (c.in_ok-commits_quietly.ensures c.if-not-branch.false) way

@@ -1,78 +1,124 @@
-use Rattle.std.proofs.Common.{◌≡◌, ◌⊎◌, ◌<◌, ◌≤◌, ◌+◌, ◌-◌, ℕ, List, length, slice_get, Some, subst, sym, ap, arith, ◌∙◌, ⊎_elim}
+use Rattle.std.proofs.Common.{◌≡◌, ◌≤◌, ◌+◌, ◌-◌, ◌++◌, true, false, List, [], length, slice_get, Some, None, option_copied, refl, sym, ap, subst, ◌∙◌, arith}
 use Rattle.std.specs.List.{Contains}
-use Rattle.fs_timeline.specs.declared.entry.Entry.{Entry}
-use Rattle.fs_histories.specs.declared.heard.Heard.TheVariants.{Return}
-use Rattle.fs_histories.specs.Histories.{Explains}
-use Rattle.fs_linearize.specs.code.Ways.{GoesBy}
+use Rattle.fs_linearize.specs.code.Calls.{AreEach}
+use Rattle.fs_linearize.specs.code.Ways.{GoesBack, configurations}
 use Rattle.fs_linearize.specs.declared.reached.Reached.{Reached}
-use Rattle.fs_linearize.specs.declared.steps.Step.{Step}
-use Rattle.fs_linearize.proofs.SearchLemmas.{explains_at_end, before_end, was_limited, no_order, returns_there}
+use Rattle.fs_linearize.specs.declared.steps.Link.{Link}
+use Rattle.fs_linearize.specs.declared.under_way.UnderWay.{UnderWay}
+use Rattle.fs_linearize.proofs.FindingLemmas.{stands_first, stands_on, widened, here_at, rest_at, never_none, is_none, is_some, was_limited, no_order, begins_some, explains_at_end}
+use Rattle.fs_linearize.proofs.SearchLemmas.{contains_got}
 use Rattle.fs_linearize.proofs.search.find_way.Goals as goal
 
-pub returns-in-Some : goal.returns-in-Some
-returns-in-Some c =
+pub loop-place-init : goal.loop-place-init
+loop-place-init c = ([], stands_first c.args.start.now c.args.history.now c.args.limit c.new-calls.result.items c.new-links.result.items c.in_ok-layer.layer.items c.new-calls.ensures.items c.in_ok-layer.ensures)
+
+pub returns-then-not-branch : goal.returns-then-not-branch
+returns-then-not-branch c =
     let start = c.args.start.now in
     let h = c.args.history.now in
-    let found = c.in-Some.ensures.some in
-    let seen = c.in_ok-reach.reach.seen.items in
-    let way = c.in-Some.way.now in
-    let there = subst (λ (rs : List Reached). Contains rs way) c.deref.ensures.value found.0 in
-    let past : length h ≤ way.configuration.at = found.1 in
-    let explained = explains_at_end start h way past (c.in_ok-reach.ensures.led c.requires way there) in
-    (explained.0, explained.1, subst (λ (ss : List Step). GoesBy h ss explained.0) (sym (c.in_ok-from_slice.ensures.items ∙ c.deref-in-Some.ensures.value)) explained.2)
+    let place = c.loop-place.place in
+    let e = c.index-history-place.result in
+    let us = c.loop-place.calls.items in
+    let links = c.loop-place.links.items in
+    let mid = c.widen.new.links.items in
+    let layer = c.loop-place.layer.items in
+    let wide = c.widen.new.layer.items in
+    let most = c.loop-place.most in
+    let gone = c.loop-place.invariant.0 in
+    let s = c.loop-place.invariant.1 in
+    was_limited start h c.args.limit place e us links mid layer wide most gone s
+    (widened start h c.args.limit place e us c.deref.result.now links mid layer wide most gone c.in_ok-widen.field-0 false c.deref.ensures.value c.if-not-branch.true s (c.in_ok-widen.ensures.widens h))
 
-pub overflow_add-result : goal.overflow_add-result
-overflow_add-result c =
+pub overflow_sub-most : goal.overflow_sub-most
+overflow_sub-most c = let room = c.in_ok-widen.ensures.room c.if-not-branch.false in omega (arith, room, c.len.ensures, c.widen.new.layer.ok.0)
+
+pub returns-in-Return : goal.returns-in-Return
+returns-in-Return c =
+    let start = c.args.start.now in
     let h = c.args.history.now in
-    let seen = c.in_ok-reach.reach.seen.items in
-    let most = c.furthest-most.result in
-    let attained = subst (λ (rs : List Reached). (most ≡ 0) ⊎ ((r : Reached) × Contains rs r × (r.configuration.at ≡ most))) c.deref-2.ensures.value c.furthest-most.ensures.attained in
-    let short = subst (λ (rs : List Reached). (r : Reached) → Contains rs r → r.configuration.at < length h) c.deref.ensures.value c.in_default.ensures.none in
-    let before = before_end c.args.start.now h seen most c.in_ok-reach.ensures.starts attained short in
-    omega (arith, before)
-
-pub returns-then-not-reach : goal.returns-then-not-reach
-returns-then-not-reach c =
-    let seen = c.in_ok-reach.reach.seen.items in
-    let most = c.furthest-most.result in
-    let attained = subst (λ (rs : List Reached). (most ≡ 0) ⊎ ((r : Reached) × Contains rs r × (r.configuration.at ≡ most))) c.deref-2.ensures.value c.furthest-most.ensures.attained in
-    was_limited c.args.start.now c.args.history.now c.args.limit seen most (c.in_ok-reach.ensures.many c.if-not-reach.true) (c.in_ok-reach.ensures.led c.requires) attained
-
-pub overflow_add-result-in-Some-returning : goal.overflow_add-result-in-Some-returning
-overflow_add-result-in-Some-returning c =
-    let h = c.args.history.now in
-    let seen = c.in_ok-reach.reach.seen.items in
-    let most = c.furthest-most.result in
-    let attained = subst (λ (rs : List Reached). (most ≡ 0) ⊎ ((r : Reached) × Contains rs r × (r.configuration.at ≡ most))) c.deref-2.ensures.value c.furthest-most.ensures.attained in
-    let short = subst (λ (rs : List Reached). (r : Reached) → Contains rs r → r.configuration.at < length h) c.deref.ensures.value c.in_default.ensures.none in
-    let before = before_end c.args.start.now h seen most c.in_ok-reach.ensures.starts attained short in
-    omega (arith, before)
+    let place = c.loop-place.place in
+    let e = c.index-history-place.result in
+    let us = c.loop-place.calls.items in
+    let links = c.loop-place.links.items in
+    let mid = c.widen.new.links.items in
+    let new = c.pass.new.links.items in
+    let layer = c.loop-place.layer.items in
+    let wide = c.widen.new.layer.items in
+    let behind = c.in_ok-layer-2.layer.items in
+    let most = c.loop-place.most in
+    let gone = c.loop-place.invariant.0 in
+    let s = c.loop-place.invariant.1 in
+    let here = here_at h place e c.loop-place-test.true c.index-history-place.is in
+    let w = widened start h c.args.limit place e us c.deref.result.now links mid layer wide most gone c.in_ok-widen.field-0 true c.deref.ensures.value c.if-not-branch.false s (c.in_ok-widen.ensures.widens h) in
+    let calls = c.in_ok-calls.ensures h place c.requires here (rest_at h place) s.calls in
+    let p = c.in_ok-layer-2.ensures h place c.requires here refl w.widens.there (subst (λ (ws : List UnderWay). AreEach h (place + 1) ws) (sym c.deref-in-loop-place.ensures.value) calls.each) in
+    let long : c.in_ok-layer-2.layer.len ≡ length behind = omega (arith, c.in_ok-layer-2.layer.ok.0) in
+    let none = is_none behind c.in_ok-layer-2.layer.len c.is_empty.result long c.is_empty.ensures c.if-is_empty.true in
+    let at : place + 1 - 1 ≡ place = omega arith in
+    (no_order start h c.args.limit place e us links mid new layer wide behind most gone here s w p none, (c.in-Return.field-1, ap (slice_get h) at ∙ here ∙ ap Some c.in-Return.is))
 
 pub unreachable-requires : goal.unreachable-requires
 unreachable-requires c =
     let start = c.args.start.now in
     let h = c.args.history.now in
-    let seen = c.in_ok-reach.reach.seen.items in
-    let most = c.furthest-most.result in
-    let closed = c.in_ok-reach.ensures.closed c.if-not-reach.false in
-    let attained = subst (λ (rs : List Reached). (most ≡ 0) ⊎ ((r : Reached) × Contains rs r × (r.configuration.at ≡ most))) c.deref-2.ensures.value c.furthest-most.ensures.attained in
-    let below = subst (λ (rs : List Reached). (r : Reached) → Contains rs r → r.configuration.at ≤ most) c.deref-2.ensures.value c.furthest-most.ensures.most in
-    let short = subst (λ (rs : List Reached). (r : Reached) → Contains rs r → r.configuration.at < length h) c.deref.ensures.value c.in_default.ensures.none in
-    let there = returns_there start h seen most closed below (before_end start h seen most c.in_ok-reach.ensures.starts attained short) attained in
-    c.in-None.ensures.none there.0 there.1 there.2
+    let place = c.loop-place.place in
+    let e = c.index-history-place.result in
+    let us = c.loop-place.calls.items in
+    let links = c.loop-place.links.items in
+    let mid = c.widen.new.links.items in
+    let new = c.pass.new.links.items in
+    let layer = c.loop-place.layer.items in
+    let wide = c.widen.new.layer.items in
+    let behind = c.in_ok-layer-2.layer.items in
+    let most = c.loop-place.most in
+    let gone = c.loop-place.invariant.0 in
+    let s = c.loop-place.invariant.1 in
+    let here = here_at h place e c.loop-place-test.true c.index-history-place.is in
+    let w = widened start h c.args.limit place e us c.deref.result.now links mid layer wide most gone c.in_ok-widen.field-0 true c.deref.ensures.value c.if-not-branch.false s (c.in_ok-widen.ensures.widens h) in
+    let calls = c.in_ok-calls.ensures h place c.requires here (rest_at h place) s.calls in
+    let p = c.in_ok-layer-2.ensures h place c.requires here refl w.widens.there (subst (λ (ws : List UnderWay). AreEach h (place + 1) ws) (sym c.deref-in-loop-place.ensures.value) calls.each) in
+    let long : c.in_ok-layer-2.layer.len ≡ length behind = omega (arith, c.in_ok-layer-2.layer.ok.0) in
+    let none = is_none behind c.in_ok-layer-2.layer.len c.is_empty.result long c.is_empty.ensures c.if-is_empty.true in
+    begins_some start h c.args.limit place c.in-Begin.field-0 c.in-Begin.field-1 c.in-Begin.field-2 e us links mid new layer wide behind most gone c.in-Begin.is s w p none
+
+pub loop-place-preserved : goal.loop-place-preserved
+loop-place-preserved c =
+    let start = c.args.start.now in
+    let h = c.args.history.now in
+    let place = c.loop-place.place in
+    let e = c.index-history-place.result in
+    let us = c.loop-place.calls.items in
+    let links = c.loop-place.links.items in
+    let mid = c.widen.new.links.items in
+    let new = c.pass.new.links.items in
+    let layer = c.loop-place.layer.items in
+    let wide = c.widen.new.layer.items in
+    let behind = c.in_ok-layer-2.layer.items in
+    let most = c.loop-place.most in
+    let gone = c.loop-place.invariant.0 in
+    let s = c.loop-place.invariant.1 in
+    let here = here_at h place e c.loop-place-test.true c.index-history-place.is in
+    let w = widened start h c.args.limit place e us c.deref.result.now links mid layer wide most gone c.in_ok-widen.field-0 true c.deref.ensures.value c.if-not-branch.false s (c.in_ok-widen.ensures.widens h) in
+    let calls = c.in_ok-calls.ensures h place c.requires here (rest_at h place) s.calls in
+    let p = c.in_ok-layer-2.ensures h place c.requires here refl w.widens.there (subst (λ (ws : List UnderWay). AreEach h (place + 1) ws) (sym c.deref-in-loop-place.ensures.value) calls.each) in
+    let long : c.in_ok-layer-2.layer.len ≡ length behind = omega (arith, c.in_ok-layer-2.layer.ok.0) in
+    let some = is_some behind c.in_ok-layer-2.layer.len c.is_empty.result long c.is_empty.ensures c.if-is_empty.false in
+    let left = most - c.len.result in
+    let room : most ≤ left + length wide = omega (arith, c.len.ensures, c.widen.new.layer.ok.0) in
+    (gone ++ configurations wide, stands_on start h c.args.limit place e us c.in_ok-calls.calls.items links mid new layer wide behind most left gone here s w p calls room some)
+
+pub unreachable-requires-in_default : goal.unreachable-requires-in_default
+unreachable-requires-in_default c =
+    let s = c.loop-place.invariant.1 in
+    never_none c.loop-place.layer.items s.some (subst (λ (rs : List Reached). slice_get rs 0 ≡ None) c.deref-2.ensures.value (sym c.first.ensures.value ∙ ap option_copied c.in_default.is))
 
 pub returns : goal.returns
 returns c =
-    let start = c.args.start.now in
     let h = c.args.history.now in
-    let seen = c.in_ok-reach.reach.seen.items in
-    let most = c.furthest-most.result in
-    let closed = c.in_ok-reach.ensures.closed c.if-not-reach.false in
-    let attained = subst (λ (rs : List Reached). (most ≡ 0) ⊎ ((r : Reached) × Contains rs r × (r.configuration.at ≡ most))) c.deref-2.ensures.value c.furthest-most.ensures.attained in
-    let below = subst (λ (rs : List Reached). (r : Reached) → Contains rs r → r.configuration.at ≤ most) c.deref-2.ensures.value c.furthest-most.ensures.most in
-    let short = subst (λ (rs : List Reached). (r : Reached) → Contains rs r → r.configuration.at < length h) c.deref.ensures.value c.in_default.ensures.none in
-    let there = c.in-Some-returning.ensures.some in
-    let at : most + 1 - 1 ≡ most = omega arith in (
-      no_order start h seen most closed below (before_end start h seen most c.in_ok-reach.ensures.starts attained short) (c.in_ok-reach.ensures.led c.requires) attained,
-      (there.0, subst (λ n. slice_get h n ≡ Some (Return c.in-Some-returning.call there.0)) (sym at) there.1),
-    )
+    let layer = c.loop-place.layer.items in
+    let links = c.loop-place.links.items in
+    let r = c.in-Some.reached.now in
+    let past : c.loop-place.place ≡ length h = omega (arith, c.loop-place-test.false, c.loop-place.auto.place-end) in
+    let there = subst (λ (rs : List Reached). Contains rs r) c.deref-2.ensures.value (contains_got c.deref-2.result.now 0 r c.in-Some.ensures.value) in
+    explains_at_end c.args.start.now h c.args.limit c.loop-place.place c.loop-place.calls.items links layer c.loop-place.most c.loop-place.invariant.0 r c.in_ok-steps.steps.items c.loop-place.invariant.1 past there
+    (λ ss k. c.in_ok-steps.ensures ss (subst (λ (ls : List Link). GoesBack ls (length h) r.last ss) (sym c.deref-3.ensures.value) k))

@@ -1,4 +1,4 @@
-use Rattle.std.proofs.Common.{◌≡◌, true, subst, sym, ap, ◌∙◌}
+use Rattle.std.proofs.Common.{◌≡◌, true, subst}
 use Rattle.fs_timeline.specs.Timeline.{has_committed, due, IsWellFormed}
 use Rattle.fs_linearize.proofs.TellingLemmas.{due_filled, none_filled}
 use Rattle.fs_linearize.proofs.telling.reply_of.Goals as goal

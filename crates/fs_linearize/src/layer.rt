@@ -1,0 +1,183 @@
+//! Layers of the search: the configurations before an entry, with all that come of them by commits.
+
+ghost use Rattle.std.specs.Prelude.{◌≡◌, ◌≤◌, ℕ, List, length, slice_get, true, false, Some, IfOk, OnOk, Contains};
+ghost use Rattle.fs_histories.specs.declared.heard.Heard.{Heard as Value};
+ghost use Rattle.fs_linearize.specs.code.Calls.{AreEach, IsUnderWay};
+ghost use Rattle.fs_linearize.specs.code.Ways.{configurations};
+ghost use Rattle.fs_linearize.specs.code.Searching.{AllAt, Adds, AddsCommit, AddsCommits, Follows, WidensBefore, WidensFor};
+ghost use Rattle.fs_linearize.specs.declared.reached.Reached.{Reached as Way};
+
+use crate::committing;
+use crate::configuration::Configuration;
+use crate::places::Places;
+use crate::reached::Reached;
+use crate::steps::Link;
+use crate::under_way::UnderWay;
+use fs_histories::Heard;
+use std::alloc::{AllocError, Global};
+
+/// Whether a configuration was found in a layer.
+fn contains(
+    alloc: Global,
+    layer: &[Reached],
+    places: &Places,
+    x: &Configuration,
+) -> Result<bool, AllocError>
+    ensures { IfOk result (λ found. found ≡ true → Contains (configurations layer.now) x.now) }
+{
+    let mut next = places.first(x);
+    for _ in 0..layer.len() {
+        let Some(place) = next else {
+            return Ok(false);
+        };
+        if layer.len() <= place {
+            return Ok(false);
+        }
+        if layer[place].configuration.same(alloc, x)? {
+            return Ok(true);
+        }
+        next = places.next(place);
+    }
+    Ok(false)
+}
+
+/// Adds what a configuration settles to, if it is not there.
+fn add(
+    alloc: Global,
+    calls: &[UnderWay],
+    links: &mut Vec<Link>,
+    layer: &mut Vec<Reached>,
+    places: &mut Places,
+    reached: Reached,
+) -> Result<(), AllocError>
+    ensures { OnOk result ((h : List Value) → AreEach h reached.configuration.at calls.now → Adds h reached links.old.items links.new.items layer.old.items layer.new.items) }
+{
+    let settled = committing::settle(alloc, calls, links, reached)?;
+    if contains(alloc, layer, places, &settled.configuration)? {
+        return Ok(());
+    }
+    places.add(&settled.configuration)?;
+    layer.push(settled)?;
+    Ok(())
+}
+
+/// Adds what comes of the commit of a call, if it can commit.
+fn add_commit(
+    alloc: Global,
+    calls: &[UnderWay],
+    links: &mut Vec<Link>,
+    layer: &mut Vec<Reached>,
+    places: &mut Places,
+    reached: &Reached,
+    call: &UnderWay,
+) -> Result<(), AllocError>
+    ensures { OnOk result ((h : List Value) → AreEach h reached.now.configuration.at calls.now → IsUnderWay h reached.now.configuration.at call.now
+        → AddsCommit h reached.now call.now links.old.items links.new.items layer.old.items layer.new.items) }
+{
+    match committing::commit(alloc, &reached.configuration, call)? {
+        Some(configuration) => {
+            links.push(Link {
+                number: call.number,
+                at: reached.configuration.passed_count(),
+                before: reached.last,
+            })?;
+            let next = Reached {
+                configuration,
+                last: links.len(),
+            };
+            Ok(add(alloc, calls, links, layer, places, next)?)
+        }
+        None => Ok(()),
+    }
+}
+
+/// Adds what comes of the commit of each call that can commit.
+fn add_commits(
+    alloc: Global,
+    calls: &[UnderWay],
+    links: &mut Vec<Link>,
+    layer: &mut Vec<Reached>,
+    places: &mut Places,
+    reached: &Reached,
+) -> Result<(), AllocError>
+    ensures { OnOk result ((h : List Value) → AreEach h reached.now.configuration.at calls.now
+        → AddsCommits h reached.now calls.now links.old.items links.new.items layer.old.items layer.new.items) }
+{
+    for call in calls {
+        add_commit(alloc, calls, links, layer, places, reached, call)?;
+    }
+    Ok(())
+}
+
+/// Adds what may follow the configuration of a place before the return of a call, if that has not committed.
+fn follow(
+    alloc: Global,
+    calls: &[UnderWay],
+    links: &mut Vec<Link>,
+    layer: &mut Vec<Reached>,
+    places: &mut Places,
+    place: usize,
+    number: u64,
+) -> Result<(), AllocError>
+    ensures { OnOk result ((h : List Value) (r : Way) → slice_get layer.old.items place ≡ Some r → AreEach h r.configuration.at calls.now
+        → Follows h number r calls.now links.old.items links.new.items layer.old.items layer.new.items) }
+{
+    if layer.len() <= place {
+        return Ok(());
+    }
+    let reached = &layer[place];
+    if reached.configuration.holds(number) {
+        return Ok(());
+    }
+    let reached = reached.copy(alloc)?;
+    Ok(add_commits(alloc, calls, links, layer, places, &reached)?)
+}
+
+/// Adds all that comes of a layer by commits before the return of a call; false where more configurations than may be are there.
+fn widen_before(
+    alloc: Global,
+    calls: &[UnderWay],
+    links: &mut Vec<Link>,
+    layer: &mut Vec<Reached>,
+    number: u64,
+    most: usize,
+) -> Result<bool, AllocError>
+    ensures room { IfOk result (λ whole. whole ≡ true → length layer.new.items ≤ most) }
+    ensures widens { IfOk result (λ whole. (h : List Value) (at : ℕ) → AllAt at layer.old.items → AreEach h at calls.now
+        → WidensBefore h number at calls.now links.old.items links.new.items layer.old.items layer.new.items whole most) }
+{
+    let mut places = Places::of(alloc, layer)?;
+    for place in 0..most {
+        if place >= layer.len() {
+            return Ok(true);
+        }
+        follow(alloc, calls, links, layer, &mut places, place, number)?;
+    }
+    Ok(false)
+}
+
+/// Adds all that has to come of a layer before an entry; false where more configurations than may be are there.
+pub(crate) fn widen(
+    alloc: Global,
+    calls: &[UnderWay],
+    links: &mut Vec<Link>,
+    layer: &mut Vec<Reached>,
+    entry: &Heard,
+    most: usize,
+) -> Result<bool, AllocError>
+    ensures room { IfOk result (λ whole. whole ≡ true → length layer.new.items ≤ most) }
+    ensures widens { IfOk result (λ whole. (h : List Value) (at : ℕ) → AllAt at layer.old.items → AreEach h at calls.now
+        → WidensFor h entry.now at calls.now links.old.items links.new.items layer.old.items layer.new.items whole most) }
+{
+    match entry {
+        Heard::Begin(_, _, _) => Ok(layer.len() <= most),
+        Heard::Return(number, _) => Ok(widen_before(
+            alloc,
+            calls,
+            links,
+            layer,
+            number.get(),
+            most,
+        )?),
+    }
+}

@@ -1,0 +1,71 @@
+//! Layers that pass an entry.
+
+ghost use Rattle.std.specs.Prelude.{◌≡◌, ◌+◌, ℕ, List, Some, slice_get, IfOk, OnOk};
+ghost use Rattle.fs_histories.specs.Histories.{IsHistory};
+ghost use Rattle.fs_histories.specs.declared.heard.Heard.{Heard as Value};
+ghost use Rattle.fs_linearize.specs.code.Calls.{AreEach};
+ghost use Rattle.fs_linearize.specs.code.Searching.{AllAt, Passes, PassesAll};
+
+use crate::committing;
+use crate::reached::Reached;
+use crate::steps::Link;
+use crate::under_way::UnderWay;
+use fs_histories::Heard;
+use std::alloc::{AllocError, Global};
+
+/// Adds a configuration behind an entry, with which so many have passed, if the entry can pass there.
+fn pass_one(
+    alloc: Global,
+    calls: &[UnderWay],
+    links: &mut Vec<Link>,
+    layer: &mut Vec<Reached>,
+    reached: Reached,
+    entry: &Heard,
+    at: usize,
+) -> Result<(), AllocError>
+    ensures { OnOk result ((h : List Value) → IsHistory h → slice_get h reached.configuration.at ≡ Some entry.now → at ≡ reached.configuration.at + 1 → AreEach h at calls.now
+        → Passes h entry.now reached links.old.items links.new.items layer.old.items layer.new.items) }
+{
+    match entry {
+        Heard::Begin(_, _, _) => {
+            let begun = Reached {
+                configuration: reached.configuration.passed(at),
+                last: reached.last,
+            };
+            let settled = committing::settle_newest(alloc, calls, links, begun)?;
+            layer.push(settled)?;
+            Ok(())
+        }
+        Heard::Return(number, _) => {
+            if !reached.configuration.holds(number.get()) {
+                return Ok(());
+            }
+            let configuration = reached.configuration.returned(alloc, number.get(), at)?;
+            layer.push(Reached {
+                configuration,
+                last: reached.last,
+            })?;
+            Ok(())
+        }
+    }
+}
+
+/// The layer behind an entry, with which so many have passed.
+pub(crate) fn pass(
+    alloc: Global,
+    calls: &[UnderWay],
+    links: &mut Vec<Link>,
+    layer: Vec<Reached>,
+    entry: &Heard,
+    at: usize,
+) -> Result<Vec<Reached>, AllocError>
+    ensures { IfOk result (λ behind. (h : List Value) (place : ℕ) → IsHistory h → slice_get h place ≡ Some entry.now → at ≡ place + 1 → AllAt place layer.items → AreEach h at calls.now
+        → PassesAll h entry.now place links.old.items links.new.items layer.items behind.items) }
+{
+    let mut before = layer;
+    let mut behind = Vec::new(alloc);
+    while let Some(reached) = before.pop() {
+        pass_one(alloc, calls, links, &mut behind, reached, entry, at)?;
+    }
+    Ok(behind)
+}
