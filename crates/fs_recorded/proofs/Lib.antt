@@ -1,2 +1,5 @@
 mod FoundLemmas
 mod ReadingLemmas
+mod FrontLemmas
+mod ManyLemmas
+mod InputLemmas

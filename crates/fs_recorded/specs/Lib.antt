@@ -1,3 +1,4 @@
 pub mod Texts
 pub mod Answers
+pub mod Many
 pub mod code

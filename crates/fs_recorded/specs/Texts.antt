@@ -1,7 +1,6 @@
 -- What the text of a history tells: a journal without commits, and which replies are left open.
-use Rattle.std.specs.Prelude.{ℕ, Bool, true, false, ◌&&◌, ◌==◌, nat_lt, List, [], ◌∷◌, ◌++◌, length, Result, Ok, Err, Option, Some, None, is_some, if◌then◌else◌, codes}
-use Rattle.std.specs.List.{flat_map, filter_map}
-use Rattle.std.specs.Option.{option_to_list}
+use Rattle.std.specs.Prelude.{ℕ, Bool, ◌&&◌, nat_lt, List, [], ◌∷◌, ◌++◌, length, Result, Ok, Err, Option, Some, None, is_some, if◌then◌else◌, codes}
+use Rattle.std.specs.List.{flat_map}
 use Rattle.std.specs.Str.{bytes_eq}
 use Rattle.fs_calls.specs.Starts.{Start}
 use Rattle.fs_calls.specs.declared.reply.Reply.{Reply}
@@ -12,8 +11,8 @@ use Rattle.fs_histories.specs.declared.heard.Heard.TheVariants as heard
 use Rattle.fs_histories.specs.declared.heard.Pattern.{Pattern}
 use Rattle.fs_histories.specs.declared.heard.Pattern.TheVariants.{Exactly, AnyError, AnyDirectory}
 use Rattle.fs_words.specs.Lines.{lines_of}
-use Rattle.fs_words.specs.Words.{Word, number_of}
-use Rattle.fs_words.specs.Reading.{words_of, fault_at}
+use Rattle.fs_words.specs.Words.{Word}
+use Rattle.fs_words.specs.Reading.{words_of, fault_at, first_is}
 use Rattle.fs_words.specs.declared.fault.ScriptFault.{ScriptFault}
 use Rattle.fs_words.specs.declared.fault.FaultKind.{FaultKind}
 use Rattle.fs_words.specs.declared.fault.FaultKind.TheVariants as kind
@@ -41,15 +40,10 @@ abbrev pub second : List Word → Word
 second (first ∷ word ∷ more) = word
 second words = []
 
--- whether words are those of a commit
-abbrev pub is_commit_line : List Word → Bool
-is_commit_line [] = false
-is_commit_line (first ∷ more) = bytes_eq first (codes "commit")
-
 -- the line of a journal for one of a history: where a reply is left open, `ok` stands; and no entry stands for a commit
 abbrev pub plain_by : List Word → List ℕ → List ℕ
 plain_by words line =
-    if is_commit_line words then codes "commit"
+    if first_is (codes "commit") words then codes "commit"
     else (if is_some (mark_in words) then codes "return " ++ (second words ++ codes " ok") else line)
 
 abbrev pub plain_in : Result (List Word) FaultKind → List ℕ → List ℕ
@@ -59,27 +53,18 @@ plain_in (Err k) line = line
 abbrev pub plain_line : List ℕ → List ℕ
 plain_line line = plain_in (words_of line) line ++ codes "\n"
 
-abbrev pub plain_text : List ℕ → List ℕ
-plain_text text = flat_map plain_line (lines_of text)
+abbrev pub plain_text : List (List ℕ) → List ℕ
+plain_text lines = flat_map plain_line lines
 
--- the number of a call whose reply is left open, and what is known of it
-abbrev pub numbered : Option ℕ → Option Mark → Option (ℕ × Mark)
-numbered (Some n) (Some mark) = Some (n, mark)
-numbered n mark = None
+-- what a line leaves open, if it is that of a Return
+abbrev pub mark_by : Result (List Word) FaultKind → List (Option Mark)
+mark_by (Ok words) = if first_is (codes "return") words then mark_in words ∷ [] else []
+mark_by (Err k) = []
 
-abbrev pub mark_by : Result (List Word) FaultKind → Option (ℕ × Mark)
-mark_by (Ok words) = numbered (number_of (second words)) (mark_in words)
-mark_by (Err k) = None
-
--- those of all lines before a line `tree`
-abbrev pub marks_in : List (List ℕ) → List (ℕ × Mark)
+-- what each Return leaves open, by the lines before a line `tree`
+abbrev pub marks_in : List (List ℕ) → List (Option Mark)
 marks_in [] = []
-marks_in (line ∷ more) = if bytes_eq line (codes "tree") then [] else option_to_list (mark_by (words_of line)) ++ marks_in more
-
--- what is left open of the reply of a call
-abbrev pub marked : ℕ → List (ℕ × Mark) → Option Mark
-marked c [] = None
-marked c (m ∷ marks) = if c == m.0 then Some m.1 else marked c marks
+marks_in (line ∷ more) = if bytes_eq line (codes "tree") then [] else mark_by (words_of line) ++ marks_in more
 
 -- what is known of a reply
 abbrev pub known : Option Mark → Reply → Pattern
@@ -87,17 +72,23 @@ known (Some Error) r = AnyError
 known (Some Directory) r = AnyDirectory
 known None r = Exactly r
 
--- an entry as it is heard; a commit is not
-abbrev pub heard_in : List (ℕ × Mark) → Entry → Option Heard
-heard_in marks (Begin c seat call) = Some (heard.Begin c seat call)
-heard_in marks (Commit c) = None
-heard_in marks (Return c r) = Some (heard.Return c (known (marked c marks) r))
+-- entries as they are heard, each Return by what its line leaves open; a commit is not
+abbrev pub heard_by : List Entry → List (Option Mark) → List Heard
+heard_by [] marks = []
+heard_by (Begin c seat call ∷ es) marks = heard.Begin c seat call ∷ heard_by es marks
+heard_by (Commit c ∷ es) marks = heard_by es marks
+heard_by (Return c r ∷ es) [] = heard.Return c (Exactly r) ∷ heard_by es []
+heard_by (Return c r ∷ es) (mark ∷ marks) = heard.Return c (known mark r) ∷ heard_by es marks
 
 -- the start tree and the entries of a history
-abbrev pub with_marks : List (ℕ × Mark) → Result (Start × List Entry) ScriptFault → Result (Start × List Heard) ScriptFault
-with_marks marks (Ok journal) = Ok (journal.0, filter_map (heard_in marks) journal.1)
+abbrev pub with_marks : List (Option Mark) → Result (Start × List Entry) ScriptFault → Result (Start × List Heard) ScriptFault
+with_marks marks (Ok journal) = Ok (journal.0, heard_by journal.1 marks)
 with_marks marks (Err f) = Err f
 
--- what reading the text of a history gives
+-- what reading the lines of a history gives
+abbrev pub history_by : List (List ℕ) → Result (Start × List Heard) ScriptFault
+history_by lines = with_marks (marks_in lines) (journal_of (plain_text lines))
+
+-- what reading its text gives
 abbrev pub history_of : List ℕ → Result (Start × List Heard) ScriptFault
-history_of text = if nat_lt 16777216 (length text) then Err (fault_at 1 kind.TooLarge) else with_marks (marks_in (lines_of text)) (journal_of (plain_text text))
+history_of text = if nat_lt 16777216 (length text) then Err (fault_at 1 kind.TooLarge) else history_by (lines_of text)

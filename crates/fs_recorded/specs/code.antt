@@ -1,2 +1,5 @@
 -- What ties the code to the definitions: of it nothing has to be believed.
 pub mod Makes
+pub mod Walks
+pub mod Fronts
+pub mod Each

@@ -1,20 +1,18 @@
 //! Histories that are read from their text.
 
-ghost use Rattle.std.specs.Prelude.{◌≡◌, Ok, IfOk, IfErr};
-ghost use Rattle.std.specs.List.{filter_map};
+ghost use Rattle.std.specs.Prelude.{◌≡◌, ◌++◌, ◌∷◌, [], map, Ok, IfOk, IfErr};
 ghost use Rattle.fs_verdict.specs.Devices.{IsFaultOf};
-ghost use Rattle.fs_words.specs.Lines.{lines_of};
 ghost use Rattle.fs_script.specs.Journals.{journal_of};
-ghost use Rattle.fs_recorded.specs.Texts.{known, heard_in, with_marks, marks_in, plain_text, history_of};
+ghost use Rattle.fs_recorded.specs.Texts.{known, heard_by, with_marks, marks_in, plain_text, history_by};
+ghost use Rattle.fs_recorded.specs.code.Walks.{first_mark, marks_behind, left_by};
 
-use crate::marks::{Mark, marked, marks_in};
+use crate::marks::{Mark, marks_in};
 use crate::plain::plain_text;
 use fs_calls::Reply;
 use fs_histories::{Heard, Pattern};
 use fs_seq::SeqTree;
 use fs_timeline::Entry;
 use fs_verdict::{RunFault, journal_in};
-use fs_words::{FaultKind, ScriptFault, TEXT_LIMIT};
 use std::alloc::{AllocError, Global};
 
 /// A history: the tree at which it starts, and its entries.
@@ -35,68 +33,72 @@ fn known(mark: Option<Mark>, reply: Reply) -> Pattern
     }
 }
 
-/// An entry as it is heard; a commit is not.
-fn heard_in(marks: &[(u64, Mark)], entry: Entry) -> Option<Heard>
-    ensures { result ≡ heard_in marks.now entry }
+/// The first of what Returns leave open, and what is behind it.
+fn cut_mark(marks: &[Option<Mark>]) -> (Option<Mark>, &[Option<Mark>])
+    ensures first { result.0 ≡ first_mark marks.now }
+    ensures left { result.1.now ≡ marks_behind marks.now }
+{
+    match marks {
+        [] => (None, marks),
+        [mark, left @ ..] => (*mark, left),
+    }
+}
+
+/// Adds an entry as it is heard, and answers what the Returns behind it leave open.
+fn push_heard<'a>(
+    entry: Entry,
+    marks: &'a [Option<Mark>],
+    heard: &mut Vec<Heard>,
+) -> Result<&'a [Option<Mark>], AllocError>
+    ensures { IfOk result (λ left. (heard.new.items ≡ heard.old.items ++ heard_by (entry ∷ []) marks.now) × (left.now ≡ left_by (entry ∷ []) marks.now)) }
 {
     match entry {
-        Entry::Begin(number, seat, call) => Some(Heard::Begin(number, seat, call)),
-        Entry::Commit(_) => None,
+        Entry::Begin(number, seat, call) => {
+            heard.push(Heard::Begin(number, seat, call))?;
+            Ok(marks)
+        }
+        Entry::Commit(_) => Ok(marks),
         Entry::Return(number, reply) => {
-            let pattern = known(marked(marks, number.get()), reply);
-            Some(Heard::Return(number, pattern))
+            let (mark, left) = cut_mark(marks);
+            heard.push(Heard::Return(number, known(mark, reply)))?;
+            Ok(left)
         }
     }
 }
 
-/// The entries as they are heard, from the last one on.
-fn heard_all(
+/// The entries as they are heard.
+fn heard_by(
     alloc: Global,
-    marks: &[(u64, Mark)],
     entries: Vec<Entry>,
+    marks: &[Option<Mark>],
 ) -> Result<Vec<Heard>, AllocError>
-    ensures { IfOk result (λ heard. heard.items ≡ filter_map (heard_in marks.now) entries.items) }
+    ensures { IfOk result (λ heard. heard.items ≡ heard_by entries.items marks.now) }
 {
     let mut heard = Vec::new(alloc);
+    let mut left = marks;
     for entry in entries {
-        if let Some(entry) = heard_in(marks, entry) {
-            heard.push(entry)?;
-        }
+        left = push_heard(entry, left, &mut heard)?;
     }
     Ok(heard)
 }
 
-/// The history that a text of allowed length has.
-fn read_history(alloc: Global, text: &[u8]) -> Result<History, RunFault>
-    ensures ok { IfOk result (λ h. with_marks (marks_in (lines_of text.now)) (journal_of (plain_text text.now)) ≡ Ok (h.start, h.entries.items)) }
-    ensures err { IfErr result (IsFaultOf (with_marks (marks_in (lines_of text.now)) (journal_of (plain_text text.now)))) }
+/// The history that lines tell.
+pub(crate) fn history_by(alloc: Global, lines: &[&[u8]]) -> Result<History, RunFault>
+    ensures ok { IfOk result (λ h. history_by (map (λ l. l.now) lines.now) ≡ Ok (h.start, h.entries.items)) }
+    ensures err { IfErr result (IsFaultOf (history_by (map (λ l. l.now) lines.now))) }
 {
-    let Ok(plain) = plain_text(alloc, text) else {
+    let Ok(plain) = plain_text(alloc, lines) else {
         return Err(RunFault::OutOfMemory);
     };
-    let Ok(marks) = marks_in(alloc, text) else {
+    let Ok(marks) = marks_in(alloc, lines) else {
         return Err(RunFault::OutOfMemory);
     };
     let journal = journal_in(alloc, &plain)?;
-    let Ok(entries) = heard_all(alloc, &marks, journal.entries) else {
+    let Ok(entries) = heard_by(alloc, journal.entries, &marks) else {
         return Err(RunFault::OutOfMemory);
     };
     Ok(History {
         start: journal.start,
         entries,
     })
-}
-
-/// The history that a text has, or why there is none.
-pub(crate) fn history_in(alloc: Global, text: &[u8]) -> Result<History, RunFault>
-    ensures ok { IfOk result (λ h. history_of text.now ≡ Ok (h.start, h.entries.items)) }
-    ensures err { IfErr result (IsFaultOf (history_of text.now)) }
-{
-    if text.len() > TEXT_LIMIT {
-        return Err(RunFault::Input(ScriptFault {
-            line: 1,
-            kind: FaultKind::TooLarge,
-        }));
-    }
-    read_history(alloc, text)
 }

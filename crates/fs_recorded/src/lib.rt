@@ -1,18 +1,24 @@
-//! The runner that linearizes a history.
+//! The runners that linearize histories.
 //!
 //! `linearize_history` reads a history to its end and writes what is found of it: the journal that explains it, or one line that
-//! says why there is none. The text is made before its first byte is written, and `Read` or `Write` is answered only if the
-//! reader or the writer failed during this call.
+//! says why there is none, or if that is asked for a journal up to the first return that nothing explains. `linearize_many` reads
+//! histories one after the other, and writes a line for each, and counts. The text is made before its first byte is written, and
+//! `Read` or `Write` is answered only if the reader or the writer failed during this call.
 //!
 //! A history is a journal without commits, in which a reply may be left open: `failed ?`, `stat dir ?`. `specs/Texts.antt` says
-//! what a text tells, `specs/Answers.antt` how an answer is written.
+//! what a text tells, `specs/Answers.antt` how an answer is written, `specs/Many.antt` both of many histories.
 #![tactic(auto)]
 
 mod answer;
+mod front;
 mod history;
 mod linearizing;
+mod lines;
+mod many;
 mod marks;
 mod plain;
+mod reason;
 
-pub use answer::Outcome;
+pub use answer::{Linearized, Outcome};
 pub use linearizing::linearize_history;
+pub use many::{Histories, linearize_many};

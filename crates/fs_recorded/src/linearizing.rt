@@ -1,15 +1,21 @@
 //! The runner that linearizes a history.
 
-ghost use Rattle.std.specs.Prelude.{◌≡◌, ◌≢◌, ◌+◌, ◌-◌, ◌<◌, ◌^◌, ℕ, List, Ok, Err, IfOk, OnOk, OnErr, IfErr, IfSome, IsErrOf};
+ghost use Rattle.std.specs.Prelude.{[], false, map, ◌≡◌, ◌≢◌, ◌+◌, ◌-◌, ◌<◌, ◌^◌, ℕ, List, Ok, Err, IfOk, OnOk, OnErr, IfErr, IfSome, IsErrOf};
 ghost use Rattle.std.specs.Io.KnownBytes.{Appends, IsAtEnd};
 ghost use Rattle.fs_words.specs.declared.fault.ScriptFault.{ScriptFault};
 ghost use Rattle.fs_verdict.specs.Devices.{IsFaultOf, KeepsDevices};
-ghost use Rattle.fs_recorded.specs.Texts.{history_of};
+ghost use Rattle.fs_recorded.specs.Texts.{history_by, history_of};
 ghost use Rattle.fs_recorded.specs.Answers.{outcome_of};
+ghost use Rattle.fs_recorded.specs.declared.answer.Outcome.TheVariants as outcome;
+ghost use Rattle.fs_histories.specs.Histories.{HasNoOrder};
+ghost use Rattle.fs_linearize.specs.Results.{IsReturnAt};
+ghost use Rattle.fs_recorded.specs.code.Fronts.{IsFrontOr};
 ghost use Rattle.fs_recorded.specs.code.Makes.{IsFoundOf, IsWrittenOf, MakesFound};
 
-use crate::answer::{Outcome, found_text, outcome_of};
-use crate::history::{History, history_in};
+use crate::answer::{Linearized, answer_of, found_text};
+use crate::front::front_in;
+use crate::history::{History, history_by};
+use crate::lines::lines_in;
 use fs_io::{Made, Sink, Source, transform};
 use fs_linearize::{Found, linearize};
 use fs_verdict::{RunFault, between};
@@ -17,7 +23,7 @@ use std::alloc::Global;
 
 /// What is found of a history.
 fn find(alloc: Global, history: History, limit: usize) -> Result<(Found, Vec<u8>), RunFault>
-    ensures found { IfOk result (λ found. IsFoundOf (history.start, history.entries.items) limit found.0 found.1.items) }
+    ensures found { IfOk result (λ found. IsFoundOf (history.start, history.entries.items) limit false found.0 found.1.items) }
     ensures err { IfErr result (λ fault. fault ≡ RunFault.OutOfMemory) }
 {
     let History { start, entries } = history;
@@ -30,34 +36,96 @@ fn find(alloc: Global, history: History, limit: usize) -> Result<(Found, Vec<u8>
     Ok((found, text))
 }
 
-/// The text of what is found of the history that a text has.
-fn linearize_text(alloc: Global, text: &[u8], limit: usize) -> Result<Made<Outcome>, RunFault>
-    ensures { MakesFound text.now limit result }
+/// The front of the history that lines tell, up to the return of this place; the plain text where the limit is reached.
+#[tactic(auto, using(crate::proofs::FrontLemmas::front_or_plain))]
+fn front_or(
+    alloc: Global,
+    lines: &[&[u8]],
+    place: usize,
+    plain: Vec<u8>,
+    limit: usize,
+) -> Result<Vec<u8>, RunFault>
+    ensures ok { (h : _) → history_by (map (λ l. l.now) lines.now) ≡ Ok h → (call : ℕ) → HasNoOrder h.0 h.1 place → IsReturnAt h.1 place call → IfOk result (λ told. IsFrontOr h limit place call plain.items told.items) }
+    ensures err { IfErr result (IsFaultOf (history_by (map (λ l. l.now) lines.now))) }
 {
-    let history = history_in(alloc, text)?;
-    let (found, text) = find(alloc, history, limit)?;
-    Ok(Made {
-        end: outcome_of(&found),
-        text,
-    })
+    match front_in(alloc, lines, place, limit)? {
+        Some(told) => Ok(told),
+        None => Ok(plain),
+    }
+}
+
+/// The text of what is found of the history that lines tell, of which this is the plain one.
+#[tactic(auto, using(crate::proofs::FrontLemmas::told_plain, crate::proofs::FrontLemmas::told_other))]
+fn told_of(
+    alloc: Global,
+    lines: &[&[u8]],
+    found: &Found,
+    plain: Vec<u8>,
+    limit: usize,
+    front: bool,
+) -> Result<Vec<u8>, RunFault>
+    ensures ok { (h : _) → history_by (map (λ l. l.now) lines.now) ≡ Ok h → IsFoundOf h limit false found.now plain.items → IfOk result (λ told. IsFoundOf h limit front found.now told.items) }
+    ensures err { IfErr result (IsFaultOf (history_by (map (λ l. l.now) lines.now))) }
+{
+    let Found::NoOrder { place, .. } = found else {
+        return Ok(plain);
+    };
+    if front {
+        return front_or(alloc, lines, *place, plain, limit);
+    }
+    Ok(plain)
+}
+
+/// The text of what is found of the history that lines tell.
+fn linearize_lines(
+    alloc: Global,
+    lines: &[&[u8]],
+    limit: usize,
+    front: bool,
+) -> Result<Made<Linearized>, RunFault>
+    ensures { MakesFound (history_by (map (λ l. l.now) lines.now)) limit front result }
+{
+    let history = history_by(alloc, lines)?;
+    let (found, plain) = find(alloc, history, limit)?;
+    let text = told_of(alloc, lines, &found, plain, limit, front)?;
+    let Ok(end) = answer_of(alloc, lines, &found) else {
+        return Err(RunFault::OutOfMemory);
+    };
+    Ok(Made { text, end })
+}
+
+/// The text of what is found of the history that a text has.
+fn linearize_text(
+    alloc: Global,
+    text: &[u8],
+    limit: usize,
+    front: bool,
+) -> Result<Made<Linearized>, RunFault>
+    ensures { MakesFound (history_of text.now) limit front result }
+{
+    let lines = lines_in(alloc, text)?;
+    linearize_lines(alloc, &lines, limit, front)
 }
 
 /// Reads a history to its end and writes what is found of it, where no more configurations than the limit, or few more, are
 /// made: the journal that explains it from its start tree; or in one line `none` with the place of the first return that
 /// nothing explains, counted from 1, and the number of its call; `fault` with the place of the first entry that cannot come
 /// next, and the kind of its fault; or `unknown` with the place of the entry to which the search had come. The text is made
-/// before its first byte is written.
+/// before its first byte is written. If the front is asked for, a journal stands in the place of `none`: what explains all that is
+/// before that return, and the return; or `none`, where the limit is reached in the search for it. Of `none` and `fault` the answer tells the entry and its call in words.
 pub fn linearize_history<R: Source, W: Sink>(
     alloc: Global,
     reader: &mut R,
     writer: &mut W,
     limit: usize,
-) -> Result<Outcome, RunFault>
+    front: bool,
+) -> Result<Linearized, RunFault>
     requires reads { R.failures reader.old < 2 ^ 64 - 1 }
     requires writes { W.failures writer.old < 2 ^ 64 - 1 }
 
     // What is answered and written is what is found of the history that was read.
-    ensures found { IfOk result (λ outcome. IfSome (R.remaining reader.old) (λ input. (h : _) × (f : Found) × (text : List ℕ) × (history_of input ≡ Ok h) × IsFoundOf h limit f text × (outcome ≡ outcome_of f) × Appends (W.contents writer.old) (W.contents writer.new) text)) }
+    ensures found { IfOk result (λ told. IfSome (R.remaining reader.old) (λ input. (h : _) × (f : Found) × (text : List ℕ) × (history_of input ≡ Ok h) × IsFoundOf h limit front f text × (told.outcome ≡ outcome_of f) × Appends (W.contents writer.old) (W.contents writer.new) text)) }
+    ensures quiet { IfOk result (λ told. told.outcome ≡ outcome.Lawful → told.reason.items ≡ []) }
     ensures end { OnOk result (IsAtEnd (R.remaining reader.new)) }
     ensures input { (f : ScriptFault) → result ≡ Err (RunFault.Input f) → IfSome (R.remaining reader.old) (λ input. history_of input ≡ Err f) }
 
@@ -67,18 +135,18 @@ pub fn linearize_history<R: Source, W: Sink>(
     // A device is blamed only where it failed in this call; after a failed write a beginning of the text stands, and after every
     // other error nothing was written.
     ensures devices { KeepsDevices R.failures W.failures reader.old reader.new writer.old writer.new RunFault.Read RunFault.Write result }
-    ensures beginning { IsErrOf result RunFault.Write → IfSome (R.remaining reader.old) (λ input. IsWrittenOf (history_of input) limit (W.contents writer.old) (W.contents writer.new)) }
+    ensures beginning { IsErrOf result RunFault.Write → IfSome (R.remaining reader.old) (λ input. IsWrittenOf (history_of input) limit front (W.contents writer.old) (W.contents writer.new)) }
 {
     let ended = transform(
         alloc,
         reader,
         writer,
-        |text| -> Result<Made<Outcome>, RunFault>
-            ensures { MakesFound text.items limit result }
-        { linearize_text(alloc, text.as_slice(), limit) },
+        |text| -> Result<Made<Linearized>, RunFault>
+            ensures { MakesFound (history_of text.items) limit front result }
+        { linearize_text(alloc, text.as_slice(), limit, front) },
     );
     match ended {
-        Ok(outcome) => Ok(outcome),
+        Ok(told) => Ok(told),
         Err(failure) => Err(between(failure)),
     }
 }

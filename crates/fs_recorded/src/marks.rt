@@ -1,13 +1,12 @@
 //! Replies that a history leaves open.
 
-ghost use Rattle.std.specs.Prelude.{◌≡◌, ◌<◌, Ok, map, length, option_copied, IfOk, OnOk};
-ghost use Rattle.fs_words.specs.Lines.{lines_of};
-ghost use Rattle.fs_words.specs.Reading.{words_of};
-ghost use Rattle.fs_recorded.specs.Texts.{leaves_error, leaves_size, mark_if, mark_in, second, mark_by, marks_in, marked, numbered};
+ghost use Rattle.std.specs.Prelude.{◌≡◌, ◌++◌, Ok, map, IfOk, OnOk};
+ghost use Rattle.fs_words.specs.Reading.{words_of, first_is};
+ghost use Rattle.fs_recorded.specs.Texts.{leaves_error, leaves_size, mark_if, mark_in, second, mark_by, marks_in};
 
 use fs_words::FaultKind;
-use fs_words::lines::{cut_line, cut_words};
-use fs_words::words::{is_word, number_of};
+use fs_words::lines::cut_words;
+use fs_words::words::is_word;
 use std::alloc::{AllocError, Global};
 
 /// What is known of a reply that is left open.
@@ -64,54 +63,52 @@ pub(crate) fn second<'a>(words: &[&'a [u8]]) -> &'a [u8]
     }
 }
 
-/// The number of a call whose reply words leave open, and what is known of it.
-fn numbered(number: Option<u64>, mark: Option<Mark>) -> Option<(u64, Mark)>
-    ensures { result ≡ numbered number mark }
+/// Whether the first word is this one.
+pub(crate) fn first_is(wanted: &[u8], words: &[&[u8]]) -> bool
+    ensures { result ≡ first_is wanted.now (map (λ w. w.now) words.now) }
 {
-    match (number, mark) {
-        (Some(number), Some(mark)) => Some((number, mark)),
-        _ => None,
+    match words {
+        [] => false,
+        [first, ..] => is_word(first, wanted),
     }
+}
+
+/// Adds what words leave open, if they are those of a Return.
+fn push_by(words: &[&[u8]], marks: &mut Vec<Option<Mark>>) -> Result<(), AllocError>
+    ensures { OnOk result (marks.new.items ≡ marks.old.items ++ mark_by (Ok (map (λ w. w.now) words.now))) }
+{
+    if first_is(b"return", words) {
+        marks.push(mark_in(words))?;
+    }
+    Ok(())
 }
 
 /// The same of a line. `words` lends its memory.
-fn mark_of<'a>(line: &'a [u8], words: &mut Vec<&'a [u8]>) -> Result<Option<(u64, Mark)>, AllocError>
-    ensures { IfOk result (λ mark. mark ≡ mark_by (words_of line.now)) }
+fn push_mark<'a>(
+    line: &'a [u8],
+    words: &mut Vec<&'a [u8]>,
+    marks: &mut Vec<Option<Mark>>,
+) -> Result<(), AllocError>
+    ensures { OnOk result (marks.new.items ≡ marks.old.items ++ mark_by (words_of line.now)) }
 {
     match cut_words(line, words) {
-        Ok(()) => Ok(numbered(number_of(second(words)), mark_in(words))),
+        Ok(()) => push_by(words, marks),
         Err(FaultKind::OutOfMemory) => Err(AllocError),
-        Err(_) => Ok(None),
+        Err(_) => Ok(()),
     }
 }
 
-/// Those of the lines of a text, before a line `tree`.
-pub(crate) fn marks_in(alloc: Global, text: &[u8]) -> Result<Vec<(u64, Mark)>, AllocError>
-    ensures { IfOk result (λ marks. marks.items ≡ marks_in (lines_of text.now)) }
+/// What each Return leaves open, by the lines before a line `tree`.
+pub(crate) fn marks_in(alloc: Global, lines: &[&[u8]]) -> Result<Vec<Option<Mark>>, AllocError>
+    ensures { IfOk result (λ marks. marks.items ≡ marks_in (map (λ l. l.now) lines.now)) }
 {
     let mut marks = Vec::new(alloc);
     let mut words = Vec::new(alloc);
-    let mut left = text;
-    'lines: while let Some((line, rest)) = cut_line(left) {
+    for line in lines {
         if is_word(line, b"tree") {
             return Ok(marks);
         }
-        if let Some(mark) = mark_of(line, &mut words)? {
-            marks.push(mark)?;
-        }
-        left = rest;
+        push_mark(line, &mut words, &mut marks)?;
     }
     Ok(marks)
-}
-
-/// What is left open of the reply of a call.
-pub(crate) fn marked(marks: &[(u64, Mark)], number: u64) -> Option<Mark>
-    ensures { result ≡ marked number marks.now }
-{
-    for (other, mark) in marks {
-        if number == *other {
-            return Some(*mark);
-        }
-    }
-    None
 }

@@ -1,31 +1,19 @@
 //! The text of a history as that of a journal.
 
-ghost use Rattle.std.specs.Prelude.{◌≡◌, ◌++◌, map, length, IfOk, OnOk};
-ghost use Rattle.fs_words.specs.Lines.{lines_of};
+ghost use Rattle.std.specs.Prelude.{◌≡◌, ◌++◌, map, IfOk, OnOk};
 ghost use Rattle.fs_words.specs.Reading.{words_of};
-ghost use Rattle.fs_recorded.specs.Texts.{is_commit_line, plain_by, plain_in, plain_line, plain_text};
+ghost use Rattle.fs_recorded.specs.Texts.{plain_by, plain_in, plain_line, plain_text};
 
-use crate::marks::{mark_in, second};
+use crate::marks::{first_is, mark_in, second};
 use fs_words::FaultKind;
-use fs_words::lines::{cut_line, cut_words};
-use fs_words::words::is_word;
+use fs_words::lines::cut_words;
 use std::alloc::{AllocError, Global};
-
-/// Whether words are those of a commit.
-fn is_commit_line(words: &[&[u8]]) -> bool
-    ensures { result ≡ is_commit_line (map (λ w. w.now) words.now) }
-{
-    match words {
-        [] => false,
-        [first, ..] => is_word(first, b"commit"),
-    }
-}
 
 /// Appends the line of a journal for one of a history, by its words.
 fn push_by(line: &[u8], words: &[&[u8]], text: &mut Vec<u8>) -> Result<(), AllocError>
     ensures { OnOk result (text.new.items ≡ text.old.items ++ plain_by (map (λ w. w.now) words.now) line.now) }
 {
-    if is_commit_line(words) {
+    if first_is(b"commit", words) {
         return text.extend_from_slice(b"commit");
     }
     if mark_in(words).is_none() {
@@ -51,18 +39,16 @@ fn push_plain<'a>(
     }
 }
 
-/// The text of a journal for that of a history: line for line, where `ok` stands for a reply that is left open, and no entry
-/// for a commit.
-pub(crate) fn plain_text(alloc: Global, text: &[u8]) -> Result<Vec<u8>, AllocError>
-    ensures { IfOk result (λ plain. plain.items ≡ plain_text text.now) }
+/// The text of a journal for the lines of a history: line for line, where `ok` stands for a reply that is left open, and no
+/// entry for a commit.
+pub(crate) fn plain_text(alloc: Global, lines: &[&[u8]]) -> Result<Vec<u8>, AllocError>
+    ensures { IfOk result (λ plain. plain.items ≡ plain_text (map (λ l. l.now) lines.now)) }
 {
     let mut plain = Vec::new(alloc);
     let mut words = Vec::new(alloc);
-    let mut left = text;
-    'lines: while let Some((line, rest)) = cut_line(left) {
+    for line in lines {
         push_plain(line, &mut words, &mut plain)?;
         plain.push(b'\n')?;
-        left = rest;
     }
     Ok(plain)
 }

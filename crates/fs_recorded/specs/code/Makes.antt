@@ -1,5 +1,5 @@
 -- What is made of the text of a history, before it is written.
-use Rattle.std.specs.Prelude.{◌≡◌, ℕ, List, Option, Result, Ok, Err, IfOk, IfErr}
+use Rattle.std.specs.Prelude.{◌≡◌, ◌⊎◌, ◌<◌, ℕ, Bool, List, [], length, Option, Result, Ok, Err, IfOk, IfErr}
 use Rattle.fs_calls.specs.Starts.{Start}
 use Rattle.fs_histories.specs.declared.heard.Heard.{Heard}
 use Rattle.fs_histories.specs.Faults.{history_fault}
@@ -9,27 +9,40 @@ use Rattle.fs_io.specs.declared.shell.Made.{Made}
 use Rattle.fs_words.specs.declared.fault.ScriptFault.{ScriptFault}
 use Rattle.fs_verdict.specs.Devices.{IsFaultOf, WritesBeginning}
 use Rattle.fs_verdict.specs.declared.fault.RunFault.{RunFault}
-use Rattle.fs_recorded.specs.Texts.{history_of}
-use Rattle.fs_recorded.specs.Answers.{found_text, outcome_of}
-use Rattle.fs_recorded.specs.declared.answer.Outcome.{Outcome}
+use Rattle.fs_verdict.specs.declared.fault.RunFault.TheVariants.{Input, OutOfMemory}
+use Rattle.fs_words.specs.Reading.{fault_at}
+use Rattle.fs_words.specs.declared.fault.FaultKind.TheVariants.{TooLarge}
+use Rattle.fs_recorded.specs.Answers.{outcome_of}
+use Rattle.fs_recorded.specs.code.Fronts.{IsTextOf}
+use Rattle.fs_recorded.specs.declared.answer.Linearized.{Linearized}
+use Rattle.fs_recorded.specs.declared.answer.Outcome.TheVariants.{Lawful}
 
 -- what is found of a history is true of it, its faults come first, and this is its text
-pub record IsFoundOf (h : Start × List Heard) (limit : ℕ) (f : Found) (text : List ℕ) : Type 0 where
+pub record IsFoundOf (h : Start × List Heard) (limit : ℕ) (front : Bool) (f : Found) (text : List ℕ) : Type 0 where
   pub answer : IsAnswerFor h.0 h.1 limit f
   pub fault : fault_in f ≡ history_fault h.1
-  pub text_is : text ≡ found_text h.0 f
+  pub text_is : IsTextOf h limit front f text
+
+-- the fault of a text that is too long, or out of memory
+abbrev pub IsTooLarge : List ℕ → RunFault → Type 0
+IsTooLarge text fault = (fault ≡ OutOfMemory) ⊎ ((16777216 < length text) × (fault ≡ Input (fault_at 1 TooLarge)))
+
+-- what is answered of what is found
+pub record IsAnswered (f : Found) (told : Linearized) : Type 0 where
+  pub outcome : told.outcome ≡ outcome_of f
+  pub quiet : told.outcome ≡ Lawful → told.reason.items ≡ []
 
 -- what is found, as it is written, and what is answered of it
-pub record IsMadeOf (h : Start × List Heard) (limit : ℕ) (f : Found) (made : Made Outcome) : Type 0 where
-  pub found : IsFoundOf h limit f made.text.items
-  pub end : made.end ≡ outcome_of f
+pub record IsMadeOf (h : Start × List Heard) (limit : ℕ) (front : Bool) (f : Found) (made : Made Linearized) : Type 0 where
+  pub found : IsFoundOf h limit front f made.text.items
+  pub end : IsAnswered f made.end
 
 -- the text of what is found of a history; or why there is none
-pub record MakesFound (input : List ℕ) (limit : ℕ) (result : Result (Made Outcome) RunFault) : Type 0 where
-  pub ok : IfOk result (λ made. (h : Start × List Heard) × (f : Found) × (history_of input ≡ Ok h) × IsMadeOf h limit f made)
-  pub fault : IfErr result (IsFaultOf (history_of input))
+pub record MakesFound (given : Result (Start × List Heard) ScriptFault) (limit : ℕ) (front : Bool) (result : Result (Made Linearized) RunFault) : Type 0 where
+  pub ok : IfOk result (λ made. (h : Start × List Heard) × (f : Found) × (given ≡ Ok h) × IsMadeOf h limit front f made)
+  pub fault : IfErr result (IsFaultOf given)
 
 -- a beginning of the text of what is found was written
-abbrev pub IsWrittenOf : Result (Start × List Heard) ScriptFault → ℕ → Option (List ℕ) → Option (List ℕ) → Type 0
-IsWrittenOf (Ok h) limit old new = (f : Found) × (text : List ℕ) × IsFoundOf h limit f text × WritesBeginning text old new
-IsWrittenOf (Err f) limit old new = ⊥
+abbrev pub IsWrittenOf : Result (Start × List Heard) ScriptFault → ℕ → Bool → Option (List ℕ) → Option (List ℕ) → Type 0
+IsWrittenOf (Ok h) limit front old new = (f : Found) × (text : List ℕ) × IsFoundOf h limit front f text × WritesBeginning text old new
+IsWrittenOf (Err f) limit front old new = ⊥

@@ -5,7 +5,8 @@ use Rattle.fs_verdict.specs.declared.fault.RunFault.{RunFault}
 use Rattle.fs_verdict.specs.declared.fault.RunFault.TheVariants.{Input, Write}
 use Rattle.fs_verdict.proofs.Unmade.{unmade, unwritten}
 use Rattle.fs_recorded.specs.Texts.{history_of}
-use Rattle.fs_recorded.proofs.FoundLemmas.{known, known_written, history_short, IsTold, told_made}
+use Rattle.fs_recorded.proofs.InputLemmas.{short}
+use Rattle.fs_recorded.proofs.FoundLemmas.{known, known_written, no_history, IsTold, told_made}
 use Rattle.fs_recorded.proofs.linearizing.linearize_history.Goals as goal
 
 abbrev gives : RunFault → RunFault → Type 0
@@ -15,10 +16,10 @@ pub returns-in-Ok-clause-found : goal.returns-in-Ok-clause-found
 returns-in-Ok-clause-found g c =
     let told = c.in-Ok.ensures.made in
     let found = told.4.1.ok in
-    known _ _ _ (IsTold _ _ _ _) refl told.2 (told_made _ _ _ _ _ found.0 found.1 told.1 found.2 found.3 told.5 told.6)
+    known _ _ _ (IsTold _ _ c.in-Ok.told _ _) refl told.2 (told_made _ _ c.in-Ok.told _ _ _ found.0 found.1 told.1 found.2 found.3 told.5 told.6)
 
 pub returns-in-Ok-clause-end : goal.returns-in-Ok-clause-end
-returns-in-Ok-clause-end g c = let told = c.in-Ok.ensures.made in let found = told.4.1.ok in told.3 (history_short _ _ found.0 refl found.2)
+returns-in-Ok-clause-end g c = let told = c.in-Ok.ensures.made in let found = told.4.1.ok in told.3 (short history_of no_history _ _ found.0 refl found.2)
 
 pub returns-in-Err-clause-input : goal.returns-in-Err-clause-input
 returns-in-Err-clause-input g c f e =
@@ -32,4 +33,4 @@ returns-in-Err-clause-beginning g c e =
     subst (IsFaultOf (history_of told.0.items)) wrong told.2.1.fault in
     let told = c.in-Err.ensures.beginning (ap Err (unwritten gives _ _ Write c.between.ensures (cc) (λ z. cc) (λ z. cc) never)) in
     let found = told.3.1.ok in
-    known_written _ _ _ _ _ _ found.0 found.1 told.1 refl told.2 found.2 found.3 told.4
+    known_written _ _ _ _ _ _ _ found.0 found.1 told.1 refl told.2 found.2 found.3 told.4

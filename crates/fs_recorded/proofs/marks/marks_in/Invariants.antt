@@ -1,10 +1,7 @@
-use Rattle.std.proofs.Common.{◌≡◌, ◌++◌, length}
-use Rattle.fs_words.specs.Lines.{lines_of}
+use Rattle.std.proofs.Common.{◌≡◌, ◌++◌, drop}
+use Rattle.fs_words.proofs.ReadLemmas.{words_in}
 use Rattle.fs_recorded.specs.Texts.{marks_in}
 use Rattle.fs_recorded.proofs.marks.marks_in.Given as goal
 
-abbrev pub invariant-lines : goal.invariant-lines
-invariant-lines l = l.marks.items ++ marks_in (lines_of l.left) ≡ marks_in (lines_of l.fn.text)
-
-abbrev pub decreases-lines : goal.decreases-lines
-decreases-lines l = length l.left
+abbrev pub invariant-loop-line : goal.invariant-loop-line
+invariant-loop-line l = l.marks.items ++ marks_in (words_in (drop l.line-index l.lines)) ≡ marks_in (words_in l.lines)

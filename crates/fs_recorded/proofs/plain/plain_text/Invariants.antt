@@ -1,11 +1,8 @@
-use Rattle.std.proofs.Common.{◌≡◌, ◌++◌, length}
-use Rattle.fs_words.specs.Lines.{lines_of}
+use Rattle.std.proofs.Common.{◌≡◌, ◌++◌, drop}
 use Rattle.std.specs.List.{flat_map}
+use Rattle.fs_words.proofs.ReadLemmas.{words_in}
 use Rattle.fs_recorded.specs.Texts.{plain_line}
 use Rattle.fs_recorded.proofs.plain.plain_text.Given as goal
 
-abbrev pub invariant-lines : goal.invariant-lines
-invariant-lines l = l.plain.items ++ flat_map plain_line (lines_of l.left) ≡ flat_map plain_line (lines_of l.fn.text)
-
-abbrev pub decreases-lines : goal.decreases-lines
-decreases-lines l = length l.left
+abbrev pub invariant-loop-line : goal.invariant-loop-line
+invariant-loop-line l = l.plain.items ++ flat_map plain_line (words_in (drop l.line-index l.lines)) ≡ flat_map plain_line (words_in l.lines)

@@ -1,0 +1,40 @@
+//! The lines of a text.
+
+ghost use Rattle.std.specs.Prelude.{◌≡◌, ◌≤◌, length, map, IfOk, IfErr};
+ghost use Rattle.fs_words.specs.Lines.{lines_of};
+ghost use Rattle.fs_recorded.specs.code.Makes.{IsTooLarge};
+
+use fs_verdict::RunFault;
+use fs_words::lines::cut_line;
+use fs_words::{FaultKind, ScriptFault, TEXT_LIMIT};
+use std::alloc::{AllocError, Global};
+
+/// The lines of a text of allowed length.
+fn cut_lines(alloc: Global, text: &[u8]) -> Result<Vec<&[u8]>, AllocError>
+    ensures { IfOk result (λ lines. map (λ l. l.now) lines.items ≡ lines_of text.now) }
+{
+    let mut lines = Vec::new(alloc);
+    let mut left = text;
+    'lines: while let Some((line, rest)) = cut_line(left) {
+        lines.push(line)?;
+        left = rest;
+    }
+    Ok(lines)
+}
+
+/// The lines of a text.
+pub(crate) fn lines_in(alloc: Global, text: &[u8]) -> Result<Vec<&[u8]>, RunFault>
+    ensures ok { IfOk result (λ lines. (length text.now ≤ 16777216) × (map (λ l. l.now) lines.items ≡ lines_of text.now)) }
+    ensures err { IfErr result (IsTooLarge text.now) }
+{
+    if text.len() > TEXT_LIMIT {
+        return Err(RunFault::Input(ScriptFault {
+            line: 1,
+            kind: FaultKind::TooLarge,
+        }));
+    }
+    match cut_lines(alloc, text) {
+        Ok(lines) => Ok(lines),
+        Err(_) => Err(RunFault::OutOfMemory),
+    }
+}
