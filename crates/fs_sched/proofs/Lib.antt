@@ -25,3 +25,4 @@ pub mod Starts
 pub mod ShortRuns
 pub mod Noting
 pub mod Telling
+pub mod FromRoot

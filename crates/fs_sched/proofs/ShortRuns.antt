@@ -1,5 +1,5 @@
 -- The names of a run are those of its script's calls, so they keep the limit by which these were read.
-use Rattle.std.proofs.Common.{◌≡◌, ℕ, zero, suc, Bool, true, false, List, [], ◌∷◌, ◌++◌, length, get_or, replicate, Option, Some, None, slice_get, refl, sym, ap, ◌∙◌, subst, Ok}
+use Rattle.std.proofs.Common.{◌≡◌, ℕ, zero, suc, Bool, true, false, List, [], ◌∷◌, ◌++◌, length, get_or, replicate, Option, Some, None, slice_get, sym, ap, ◌∙◌, subst, Ok}
 use Rattle.std.specs.List.{AllByRecursion, range_with_len}
 use Rattle.fs_names.specs.Names.{Name}
 use Rattle.fs_names.specs.Limits.{name_limit, file_limit}
@@ -13,7 +13,8 @@ use Rattle.fs_calls.specs.declared.call.Call.{Call}
 use Rattle.fs_timeline.specs.declared.entry.Entry.{Entry}
 use Rattle.fs_timeline.specs.declared.entry.Entry.TheVariants.{Begin, Commit, Return}
 use Rattle.fs_timeline.proofs.KeptNames.{NamesCall, NamesBegun, NamesEntry, NamesTree, lawful_kept, spelled_kept, one_more}
-use Rattle.fs_machine.specs.States.{State, Begins, Reserves, Step}
+use Rattle.fs_nodes.specs.Graphs.{Graph}
+use Rattle.fs_machine.specs.States.{State, Begins, Reserves, Step, Run, fresh}
 use Rattle.fs_machine.specs.declared.answers.Stepped.{Stepped}
 use Rattle.fs_machine.specs.declared.answers.Stepped.TheVariants.{Idle, Took, Busy, LetGo, Helped, Committed, CarriedOut, Returned}
 use Rattle.fs_laws.proofs.journal.ViewOfTimeline.{begin_start, step_start, linearizes}
@@ -29,11 +30,10 @@ use Rattle.fs_script.specs.Journals.{is_told}
 use Rattle.fs_script.specs.Laws.{FitsNode}
 use Rattle.fs_script.proofs.JournalLemmas.{reads_journals_back}
 use Rattle.fs_script.proofs.ShortNames.{ShortLists, short_lists}
-use Rattle.fs_sched.specs.Runs.{Stage, start, Event, Goes, Starts, Spent, Events, ToEnd, Over, More, EndsBy, Does, Words, Runs}
+use Rattle.fs_sched.specs.Runs.{Stage, before_all, Event, Goes, Starts, Spent, Events, ToEnd, Over, More, EndsBy, Does, Words, RunsFrom}
 use Rattle.fs_sched.specs.EachRun.{IsReadAgain}
 use Rattle.fs_sched.specs.Schedules.{words_by, goes_on}
 use Rattle.fs_sched.specs.declared.schedule.Schedule.{Schedule}
-use Rattle.fs_sched.proofs.Whole.{last_run}
 
 module _ (P : Name → Type 0) (limits : Limits) where
   -- what a stage has begun has such names, and its start tree too
@@ -123,8 +123,8 @@ module _ (P : Name → Type 0) (limits : Limits) where
   ends_named true lists old last all ends h = end_named lists old last all ends h
   ends_named false lists old last all same h = subst Named (sym same) h
 
-  start_named : (threads : ℕ) → Named (start limits threads)
-  start_named threads = record { begun = tt; tree = (tt, tt); kept = refl }
+  fresh_named : (limit : ℕ) (first : Start) (graph : Graph) (threads : ℕ) → NamesTree P first.tree → first.limits ≡ limits → Named (before_all (fresh limit first graph) threads)
+  fresh_named limit first graph threads tree kept = record { begun = tt; tree = tree; kept = kept }
 
 -- what the last stage of a run of a script that was read names, by the limits of the script
 pub record Short (limits : Limits) (s : State) : Type 0 where
@@ -132,14 +132,15 @@ pub record Short (limits : Limits) (s : State) : Type 0 where
   pub tree : NamesTree (IsShort (name_limit limits)) s.start.tree
   pub kept : s.start.limits ≡ limits
 
-pub short_run : (schedule : Schedule) (input : List ℕ) (script : Script) (told : List Entry) (last : Stage) → script_of input ≡ Ok script → Runs schedule script told last → Short script.limits last.state
-short_run schedule input script told last is (middle, done, ends) =
+pub short_from : (schedule : Schedule) (input : List ℕ) (script : Script) (limit : ℕ) (first : Start) (graph : Graph) (told : List Entry) (last : Stage) → script_of input ≡ Ok script → NamesTree (IsShort (name_limit script.limits)) first.tree → first.limits ≡ script.limits → Run last.state
+    → RunsFrom schedule script (before_all (fresh limit first graph) (length script.lists)) told last → Short script.limits last.state
+short_from schedule input script limit first graph told last is tree kept run (middle, done, ends) =
     let all : ShortLists script = short_lists input script is in
     let names : Name → Type 0 = IsShort (name_limit script.limits) in
     let h = ends_named names script.limits (goes_on schedule script.words) script.lists middle last all ends
-    (words_named names script.limits script.lists (words_by schedule script.words (length script.lists)) told (start script.limits (length script.lists)) middle all done (start_named names script.limits (length script.lists))) in
+    (words_named names script.limits script.lists (words_by schedule script.words (length script.lists)) told (before_all (fresh limit first graph) (length script.lists)) middle all done (fresh_named names script.limits limit first graph (length script.lists) tree kept)) in
     record {
-      entries = lawful_kept names last.state.start last.state.timeline (linearizes last.state (last_run schedule script told last (middle, done, ends))).lawful h.tree h.begun;
+      entries = lawful_kept names last.state.start last.state.timeline (linearizes last.state run).lawful h.tree h.begun;
       tree = h.tree;
       kept = h.kept;
     }

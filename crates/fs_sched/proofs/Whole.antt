@@ -6,15 +6,15 @@ use Rattle.std.proofs.lemmas.Bool.{ltb-true, ltb-false}
 use Rattle.fs_names.specs.Shapes.{Shape}
 use Rattle.fs_names.specs.declared.limits.TheConstants.{NODE_LIMIT}
 use Rattle.fs_calls.specs.Forms.{reserved_by}
-use Rattle.fs_calls.specs.Starts.{root_start}
+use Rattle.fs_calls.specs.Starts.{Start, root_start}
 use Rattle.fs_names.specs.declared.limits.Limits.{Limits}
 use Rattle.fs_calls.specs.declared.call.Call.{Call}
-use Rattle.fs_nodes.specs.Graphs.{set_at, empty_graph}
+use Rattle.fs_nodes.specs.Graphs.{Graph, set_at, empty_graph}
 use Rattle.fs_timeline.specs.declared.entry.Entry.{Entry}
 use Rattle.fs_timeline.specs.declared.entry.Entry.TheVariants.{Begin, Commit, Return}
 use Rattle.fs_machine.specs.Records.{Record}
 use Rattle.fs_machine.specs.Headline.{IsIdle}
-use Rattle.fs_machine.specs.States.{State, Run, Starting, Begins, Reserves, Step, begun_again}
+use Rattle.fs_machine.specs.States.{State, Run, Starting, Begins, Reserves, Step, begun_again, fresh}
 use Rattle.fs_machine.specs.declared.answers.Stepped.{Stepped}
 use Rattle.fs_machine.specs.declared.answers.Stepped.TheVariants.{Idle, Took, Busy, LetGo, Helped, Committed, CarriedOut, Returned}
 use Rattle.fs_laws.proofs.events.OneCallChanged.{Place, Here, Else, place}
@@ -31,7 +31,7 @@ use Rattle.fs_sched.specs.declared.run_texts.EntryKind.TheVariants as kind
 use Rattle.fs_sched.specs.declared.running.RunEnd.{RunEnd}
 use Rattle.fs_sched.specs.declared.schedule.Schedule.{Schedule}
 use Rattle.fs_sched.specs.declared.schedule.Schedule.TheVariants.{Given, RoundRobin, Seeded}
-use Rattle.fs_sched.specs.Runs.{Stage, start, next_call, Event, Goes, Starts, Spent, Events, IsOver, ToEnd, Over, More, EndsBy, Does, Words, Runs, calls_in, end_of, IsRunOf, IsWhole, HasFinish}
+use Rattle.fs_sched.specs.Runs.{Stage, before_all, start, next_call, Event, Goes, Starts, Spent, Events, IsOver, ToEnd, Over, More, EndsBy, Does, Words, Runs, RunsFrom, calls_in, end_of, IsRunOf, IsWhole, HasFinish}
 use Rattle.fs_sched.specs.Devices.{IsSameText}
 use Rattle.fs_sched.specs.Schedules.{words_by, is_finish, goes_on}
 use Rattle.fs_sched.proofs.Tallies.{number_push, number_append, idle_returned, idle_committed, few_returned, few_committed}
@@ -200,15 +200,18 @@ owed_all (calls ∷ lists) =
     let g : cost_of one calls ≡ length calls = cost_all calls in
     omega (arith, g, h)
 
-pub kept_start : (limits : Limits) (lists : List (List Call)) → ListFacts lists [] (start limits (length lists))
-kept_start limits lists = record {
-  run = Starting NODE_LIMIT (root_start limits) empty_graph (starts_empty limits NODE_LIMIT (omega arith));
+pub kept_fresh : (lists : List (List Call)) (limit : ℕ) (first : Start) (graph : Graph) → Run (fresh limit first graph) → ListFacts lists [] (before_all (fresh limit first graph) (length lists))
+kept_fresh lists limit first graph run = record {
+  run = run;
   same = length_zeros (length lists);
   seats = λ x d on. absurd (none_some None d refl on);
   all = (let h : owed one lists (replicate (length lists) 0) ≡ calls_in lists = owed_all lists in omega (arith, h));
   committed = refl;
   returned = refl;
 }
+
+pub kept_start : (limits : Limits) (lists : List (List Call)) → ListFacts lists [] (start limits (length lists))
+kept_start limits lists = kept_fresh lists NODE_LIMIT (root_start limits) empty_graph (Starting NODE_LIMIT (root_start limits) empty_graph (starts_empty limits NODE_LIMIT (omega arith)))
 
 -- ---- where it is over
 
@@ -255,26 +258,26 @@ complete lists told s k over =
     let p : number_of kind.Commit (told ++ s.state.timeline) ≡ number_of kind.Begin (told ++ s.state.timeline) = again.committed in
     record { begun = omega (arith, z, b); committed = omega (arith, z, b, p); returned = omega (arith, z, b, r) }
 
-run_keeps : (schedule : Schedule) (script : Script) (told : List Entry) (middle : Stage) → Words script.lists (start script.limits (length script.lists)) (words_by schedule script.words (length script.lists)) told middle → ListFacts script.lists told middle
-run_keeps schedule script told middle done = words_keep script.lists (words_by schedule script.words (length script.lists)) [] told (start script.limits (length script.lists)) middle done (kept_start script.limits script.lists)
+run_keeps : (schedule : Schedule) (script : Script) (old : Stage) (told : List Entry) (middle : Stage) → ListFacts script.lists [] old → Words script.lists old (words_by schedule script.words (length script.lists)) told middle → ListFacts script.lists told middle
+run_keeps schedule script old told middle k done = words_keep script.lists (words_by schedule script.words (length script.lists)) [] told old middle done k
 
 ends_keep : (b : Bool) (lists : List (List Call)) (told : List Entry) (old last : Stage) → EndsBy b lists old last → ListFacts lists told old → ListFacts lists told last
 ends_keep true lists told old last ends k = (end_keeps lists told old last ends k).0
 ends_keep false lists told old last ends k = subst (ListFacts lists told) (sym ends) k
 
-last_keeps : (schedule : Schedule) (script : Script) (told : List Entry) (last : Stage) → Runs schedule script told last → ListFacts script.lists told last
-last_keeps schedule script told last (middle, done, ends) = ends_keep (goes_on schedule script.words) script.lists told middle last ends (run_keeps schedule script told middle done)
+pub last_keeps : (schedule : Schedule) (script : Script) (old : Stage) (told : List Entry) (last : Stage) → ListFacts script.lists [] old → RunsFrom schedule script old told last → ListFacts script.lists told last
+last_keeps schedule script old told last k (middle, done, ends) = ends_keep (goes_on schedule script.words) script.lists told middle last ends (run_keeps schedule script old told middle k done)
 
 -- the machine's state is one of a run
 pub last_run : (schedule : Schedule) (script : Script) (told : List Entry) (last : Stage) → Runs schedule script told last → Run last.state
-last_run schedule script told last runs = (last_keeps schedule script told last runs).run
+last_run schedule script told last runs = (last_keeps schedule script (start script.limits (length script.lists)) told last (kept_start script.limits script.lists) runs).run
 
 -- there are no more entries of a kind than the script has calls
-pub few_entries : (schedule : Schedule) (script : Script) (told : List Entry) (last : Stage) → Runs schedule script told last → (k : EntryKind) → number_of k (told ++ last.state.timeline) ≤ calls_in script.lists
-few_entries schedule script told last runs k = by k
+pub few_from : (schedule : Schedule) (script : Script) (old : Stage) (told : List Entry) (last : Stage) → ListFacts script.lists [] old → RunsFrom schedule script old told last → (k : EntryKind) → number_of k (told ++ last.state.timeline) ≤ calls_in script.lists
+few_from schedule script old told last first runs k = by k
   where
     kept : ListFacts script.lists told last
-    kept = last_keeps schedule script told last runs
+    kept = last_keeps schedule script old told last first runs
 
     all : number_of kind.Begin told + number_of kind.Begin last.state.timeline + owed one script.lists last.begun ≡ calls_in script.lists
     all = kept.all
@@ -292,15 +295,18 @@ few_entries schedule script told last runs k = by k
         let n : number_of kind.Return last.state.timeline ≤ number_of kind.Begin last.state.timeline = few_returned last.state kept.run in
         omega (arith, b, r, n, all)
 
-runs_complete : (schedule : Schedule) (script : Script) (told : List Entry) (last : Stage) → Runs schedule script told last → goes_on schedule script.words ≡ true → IsComplete script.lists (told ++ last.state.timeline)
-runs_complete schedule script told last (middle, done, ends) more =
-    let e : ListFacts script.lists told last × IsOver script.lists last = end_keeps script.lists told middle last (ends_by _ script.lists middle last more ends) (run_keeps schedule script told middle done) in
+pub few_entries : (schedule : Schedule) (script : Script) (told : List Entry) (last : Stage) → Runs schedule script told last → (k : EntryKind) → number_of k (told ++ last.state.timeline) ≤ calls_in script.lists
+few_entries schedule script told last runs = few_from schedule script (start script.limits (length script.lists)) told last (kept_start script.limits script.lists) runs
+
+runs_complete : (schedule : Schedule) (script : Script) (old : Stage) (told : List Entry) (last : Stage) → ListFacts script.lists [] old → RunsFrom schedule script old told last → goes_on schedule script.words ≡ true → IsComplete script.lists (told ++ last.state.timeline)
+runs_complete schedule script old told last k (middle, done, ends) more =
+    let e : ListFacts script.lists told last × IsOver script.lists last = end_keeps script.lists told middle last (ends_by _ script.lists middle last more ends) (run_keeps schedule script old told middle k done) in
     complete script.lists told last e.0 e.1
 
 -- where rounds to the end follow, by the numbers of a run's end
-pub whole_end : (schedule : Schedule) (script : Script) (told : List Entry) (last : Stage) (end : RunEnd) → Runs schedule script told last → end ≡ end_of script (told ++ last.state.timeline) → goes_on schedule script.words ≡ true → end.begun < 2 ^ 64 → IsWhole end
-whole_end schedule script told last end runs is more fits =
-    let all : IsComplete script.lists (told ++ last.state.timeline) = runs_complete schedule script told last runs more in
+pub whole_end : (schedule : Schedule) (script : Script) (old : Stage) (told : List Entry) (last : Stage) (end : RunEnd) → ListFacts script.lists [] old → RunsFrom schedule script old told last → end ≡ end_of script (told ++ last.state.timeline) → goes_on schedule script.words ≡ true → end.begun < 2 ^ 64 → IsWhole end
+whole_end schedule script old told last end k runs is more fits =
+    let all : IsComplete script.lists (told ++ last.state.timeline) = runs_complete schedule script old told last k runs more in
     let n : end.calls ≡ min (2 ^ 64 - 1) (calls_in script.lists) = ap (λ (e : RunEnd). e.calls) is in
     let b : end.begun ≡ calls_in script.lists = ap (λ (e : RunEnd). e.begun) is ∙ all.begun in
     let p : end.committed ≡ calls_in script.lists = ap (λ (e : RunEnd). e.committed) is ∙ all.committed in
@@ -308,24 +314,24 @@ whole_end schedule script told last end runs is more fits =
     record { begun = omega (arith, n, b, fits); committed = omega (arith, n, b, p, fits); returned = omega (arith, n, b, r, fits) }
 
 -- the schedules by which they follow
-always_goes_on : (schedule : Schedule) (words : List Word) → schedule ≢ Given → goes_on schedule words ≡ true
+pub always_goes_on : (schedule : Schedule) (words : List Word) → schedule ≢ Given → goes_on schedule words ≡ true
 always_goes_on Given words other = absurd (other refl)
 always_goes_on RoundRobin words other = refl
 always_goes_on (Seeded n) words other = refl
 
-finish_goes_on : (schedule : Schedule) (words : List Word) → list_any is_finish words ≡ true → goes_on schedule words ≡ true
+pub finish_goes_on : (schedule : Schedule) (words : List Word) → list_any is_finish words ≡ true → goes_on schedule words ≡ true
 finish_goes_on Given words has = has
 finish_goes_on RoundRobin words has = refl
 finish_goes_on (Seeded n) words has = refl
 
 pub whole_always : (schedule : Schedule) (text : List ℕ) (end : RunEnd) (out : List ℕ) → IsRunOf schedule text end out → end.begun < 2 ^ 64 → schedule ≢ Given → IsWhole end
-whole_always schedule text end out (script, is, (told, last, runs, (ended, spelled))) fits other = whole_end schedule script told last end runs ended (always_goes_on schedule script.words other) fits
+whole_always schedule text end out (script, is, (told, last, runs, (ended, spelled))) fits other = whole_end schedule script (start script.limits (length script.lists)) told last end (kept_start script.limits script.lists) runs ended (always_goes_on schedule script.words other) fits
 
 whole_finish : (schedule : Schedule) (text : List ℕ) (end : RunEnd) (out : List ℕ) → IsRunOf schedule text end out → end.begun < 2 ^ 64 → HasFinish text → IsWhole end
 whole_finish schedule text end out (script, is, (told, last, runs, (ended, spelled))) fits (other, is_other, has) =
     let z : ◌≡◌ {A = Result Script ScriptFault} (Ok other) (Ok script) = sym is_other ∙ is in
     let y : other ≡ script = cc in
-    whole_end schedule script told last end runs ended (finish_goes_on schedule script.words (subst (λ (s : Script). list_any is_finish s.words ≡ true) y has)) fits
+    whole_end schedule script (start script.limits (length script.lists)) told last end (kept_start script.limits script.lists) runs ended (finish_goes_on schedule script.words (subst (λ (s : Script). list_any is_finish s.words ≡ true) y has)) fits
 
 pub known_whole : (r : Option (List ℕ)) (text items out : List ℕ) (schedule : Schedule) (end : RunEnd) → text ≡ items → IfSome r (IsSameText items) → IsRunOf schedule text end out → end.begun < 2 ^ 64 → IfSome r (λ input. HasFinish input → IsWhole end)
 known_whole None text items out schedule end e s h fits = tt

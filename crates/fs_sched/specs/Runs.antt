@@ -28,9 +28,13 @@ pub record Stage : Type 0 where
   pub state : State
   pub begun : List ℕ
 
--- before the first event, by these limits
+-- before the first event of so many threads, where the machine stands so
+abbrev pub before_all : State → ℕ → Stage
+before_all state threads = record { state = state; begun = replicate threads 0 }
+
+-- the same at the root alone, by these limits
 abbrev pub start : Limits → ℕ → Stage
-start limits threads = record { state = empty limits NODE_LIMIT; begun = replicate threads 0 }
+start limits threads = before_all (empty limits NODE_LIMIT) threads
 
 -- the next call of a thread, where one is left
 abbrev pub next_call : List (List Call) → Stage → ℕ → Option Call
@@ -160,9 +164,13 @@ pub record IsWhole (end : RunEnd) : Type 0 where
 abbrev pub HasFinish : List ℕ → Type 0
 HasFinish input = (script : Script) × (script_of input ≡ Ok script) × (list_any is_finish script.words ≡ true)
 
--- the numbers and the text of a run of a script
+-- the numbers and the text of a run of a script, from a stage on
+abbrev pub IsOutputFrom : Schedule → Script → Stage → RunEnd → List ℕ → Type 0
+IsOutputFrom schedule script old end text = (told : List Entry) × (last : Stage) × RunsFrom schedule script old told last × AreOfRun script told last end text
+
+-- the same from the first stage on
 abbrev pub IsOutput : Schedule → Script → RunEnd → List ℕ → Type 0
-IsOutput schedule script end text = (told : List Entry) × (last : Stage) × Runs schedule script told last × AreOfRun script told last end text
+IsOutput schedule script end text = IsOutputFrom schedule script (start script.limits (length script.lists)) end text
 
 -- the same of the script that an input has
 abbrev pub IsRunOf : Schedule → List ℕ → RunEnd → List ℕ → Type 0

@@ -2,16 +2,14 @@
 //!
 //! `run_script` writes the run text of a script by a schedule, of which there is one; `run_seeds` runs a script by
 //! drawn schedules and has each journal checked. The whole text is made before its first byte is written, and `Read` or
-//! `Write` is answered only if the reader or the writer failed during this call. The check of journals, `check_journal`, and
-//! the faults of all runners are those of `fs_verdict`, handed on.
+//! `Write` is answered only if the reader or the writer failed during this call. Checks and faults are those of `fs_verdict`.
 //!
 //! All of them play a script in one place, `Play`, which tells a `Witness` each moment where it comes; `watch` plays a script for
-//! its witness alone. `Silent` is told nothing, and costs nothing.
+//! its witness alone, `run_on` on a core that begins at a tree. `Silent` is told nothing, and costs nothing.
 //!
 //! Enter at these two, with a `Device` around a reader and a writer, or with a text in memory at `run_bytes`. The definitions
 //! are in `specs/`: `Schedules` and `Runs` (events by each schedule), `RunTexts`, `EachRun` (what is said of every run),
-//! `Seeds`; the module `laws` has what is proved of them, `one_text` among it. `Stages` ties the code to these words, and
-//! changes no meaning.
+//! `Seeds`; the module `laws` has what is proved of them, `one_text` among it.
 #![tactic(auto)]
 
 mod input;
@@ -32,9 +30,9 @@ pub use fs_verdict::{
 };
 pub use fs_witness::{Answer, Moment, Silent, Told, Witness};
 pub use input::script_in;
-pub use play::{checkpoint_fault, refusal_fault, seated};
+pub use play::{checkpoint_fault, refusal_fault};
 pub use run_texts::{Counts, EntryKind, counts_of, number_of, push_counts};
-pub use running::{RunEnd, run_bytes, run_end, run_script};
+pub use running::{RunEnd, run_bytes, run_end, run_on, run_script};
 pub use schedule::{DRAW_LIMIT, Draws, Schedule};
 pub use seats::Divisor;
 pub use seeding::{RUN_LIMIT, SEED_LIMIT, run_seeds};

@@ -2,7 +2,8 @@
 
 ghost use Rattle.std.specs.Prelude.{◌≡◌, ◌∷◌, ℕ, [], List, IfOk, OnOk, IfErr, length};
 ghost use Rattle.fs_calls.specs.declared.call.Call.{Call};
-ghost use Rattle.fs_sched.specs.Runs.{start, Does, Words, RunsFrom, StopsAt, StopsInWords, StopsFrom};
+ghost use Rattle.fs_core.specs.CoreValues.{state_of};
+ghost use Rattle.fs_sched.specs.Runs.{before_all, Does, Words, RunsFrom, StopsAt, StopsInWords, StopsFrom};
 ghost use Rattle.fs_sched.specs.Schedules.{words_by};
 ghost use Rattle.fs_sched.specs.Gives.{single_words, given_words, words_before};
 ghost use Rattle.fs_sched.specs.code.Notes.{Notes, NotesCut, NotesRun};
@@ -13,7 +14,7 @@ ghost use Rattle.fs_sched.specs.code.Done.{HasDone};
 use crate::play::Play;
 use crate::run_texts::{Counts, counts_of};
 use crate::schedule::Schedule;
-use fs_names::Limits;
+use fs_core::Core;
 use fs_script::{CallLists, Script, Word};
 use fs_verdict::RunFault;
 use fs_witness::{Moment, Witness};
@@ -35,13 +36,14 @@ fn events_of(word: Word) -> u64 {
 }
 
 impl Pieces {
-    /// Before the first event of so many threads, by these limits.
-    pub(crate) fn new(alloc: Global, limits: Limits, threads: usize) -> Result<Pieces, AllocError>
-        ensures start { IfOk result (λ run. stage_of run.play ≡ start limits threads) }
+    /// Before the first event of so many threads, on a core without seats.
+    pub(crate) fn new(alloc: Global, core: Core, threads: usize) -> Result<Pieces, AllocError>
+        requires { core.seats ≡ [] }
+        ensures start { IfOk result (λ run. stage_of run.play ≡ before_all (state_of core) threads) }
         ensures told { IfOk result (λ run. AreCapped run.told []) }
         ensures seats { (lists : List (List Call)) → length lists ≡ threads → IfOk result (λ run. IsMarked lists run.play) }
     {
-        let play = Play::new(alloc, limits, threads)?;
+        let play = Play::new(alloc, core, threads)?;
         let told = counts_of(&[]);
         Ok(Pieces { play, told })
     }

@@ -2,11 +2,10 @@
 
 ghost use Rattle.std.specs.Prelude.{◌≡◌, ◌≢◌, ◌<◌, ◌≤◌, ◌+◌, ◌-◌, ◌^◌, ◌∷◌, ◌++◌, ℕ, [], IfOk, OnOk, OnErr, IfErr, IsErrOf, Ok, Err, None, true, false, List, length, map, get_or, replicate, slice_set};
 ghost use Rattle.std.specs.List.{range_with_len};
-ghost use Rattle.fs_names.specs.declared.limits.TheConstants.{NODE_LIMIT};
 ghost use Rattle.fs_calls.specs.declared.call.Call.{Call};
 ghost use Rattle.fs_core.specs.CoreValues.{state_of};
-ghost use Rattle.fs_machine.specs.States.{empty, Begins};
-ghost use Rattle.fs_sched.specs.Runs.{start, has_more, Event, Events, Round, ToEnd, Does, IsRefused, Stops, StopsInRounds, StopsAt};
+ghost use Rattle.fs_machine.specs.States.{Begins};
+ghost use Rattle.fs_sched.specs.Runs.{before_all, has_more, Event, Events, Round, ToEnd, Does, IsRefused, Stops, StopsInRounds, StopsAt};
 ghost use Rattle.fs_sched.specs.Schedules.{drawn_seats, one_event};
 ghost use Rattle.fs_witness.specs.Moments.{Hears, event_of, spent_of};
 ghost use Rattle.fs_sched.specs.code.Notes.{Happens, Notes, NotesCut, NotesToEnd};
@@ -16,7 +15,7 @@ use crate::schedule::DRAW_LIMIT;
 use crate::seats::SeatsAhead;
 use fs_calls::Call;
 use fs_core::{Core, NoCheckpoint, Refusal, Stepped};
-use fs_names::{CallNo, Limits, NODE_LIMIT, SeatNo};
+use fs_names::{CallNo, SeatNo};
 use fs_script::{CallLists, Word};
 use fs_timeline::Entry;
 use fs_verdict::RunFault;
@@ -54,12 +53,13 @@ pub fn checkpoint_fault(why: NoCheckpoint) -> RunFault
     }
 }
 
-/// A core before the first event, with these limits and so many seats.
-pub fn seated(alloc: Global, limits: Limits, threads: usize) -> Result<Core, AllocError>
-    ensures state { IfOk result (λ core. state_of core ≡ empty limits NODE_LIMIT) }
-    ensures seats { IfOk result (λ core. length core.seats ≡ threads) }
+/// A core with so many seats, of one that has none.
+fn seated(core: Core, threads: usize) -> Result<Core, AllocError>
+    requires { core.seats ≡ [] }
+    ensures state { IfOk result (λ seated. state_of seated ≡ state_of core) }
+    ensures seats { IfOk result (λ seated. length seated.seats ≡ threads) }
 {
-    let mut core = Core::with_limits(alloc, NODE_LIMIT, limits)?;
+    let mut core = core;
     for _ in 0..threads {
         core.seat()?;
     }
@@ -67,12 +67,13 @@ pub fn seated(alloc: Global, limits: Limits, threads: usize) -> Result<Core, All
 }
 
 impl Play {
-    /// Before the first event of so many threads, by these limits.
-    pub(crate) fn new(alloc: Global, limits: Limits, threads: usize) -> Result<Play, AllocError>
-        ensures start { IfOk result (λ play. stage_of play ≡ start limits threads) }
+    /// Before the first event of so many threads, on a core without seats.
+    pub(crate) fn new(alloc: Global, core: Core, threads: usize) -> Result<Play, AllocError>
+        requires { core.seats ≡ [] }
+        ensures start { IfOk result (λ play. stage_of play ≡ before_all (state_of core) threads) }
         ensures seats { (lists : List (List Call)) → length lists ≡ threads → IfOk result (λ play. IsMarked lists play) }
     {
-        let core = seated(alloc, limits, threads)?;
+        let core = seated(core, threads)?;
         let begun = vec![in alloc; 0; threads]?;
         let over = vec![in alloc; false; threads]?;
         Ok(Play { core, begun, over })

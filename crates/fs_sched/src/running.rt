@@ -1,26 +1,33 @@
 //! The runner that runs a script.
 
-ghost use Rattle.std.specs.Prelude.{◌≡◌, ◌≢◌, ◌+◌, ◌-◌, ◌<◌, ◌≤◌, ◌^◌, ℕ, List, length, min, map, Ok, Err, IfOk, OnOk, OnErr, IfErr, IfSome, IsErrOf};
+ghost use Rattle.std.specs.Prelude.{◌≡◌, ◌≢◌, ◌+◌, ◌-◌, ◌<◌, ◌≤◌, ◌^◌, ℕ, [], List, length, min, map, Ok, Err, IfOk, OnOk, OnErr, IfErr, IfSome, IsErrOf};
 ghost use Rattle.std.specs.Io.KnownBytes.{Appends, IsAtEnd};
+ghost use Rattle.fs_names.specs.Limits.{name_limit};
+ghost use Rattle.fs_names.specs.declared.limits.TheConstants.{NODE_LIMIT};
 ghost use Rattle.fs_timeline.specs.declared.entry.Entry.{Entry};
+ghost use Rattle.fs_nodes.specs.Stores.{graph_of};
+ghost use Rattle.fs_machine.specs.States.{empty, fresh};
+ghost use Rattle.fs_core.specs.CoreValues.{state_of};
 ghost use Rattle.fs_words.specs.declared.fault.ScriptFault.{ScriptFault};
 ghost use Rattle.fs_script.specs.Script.{script_of};
 ghost use Rattle.fs_script.specs.declared.limits.TheConstants.{CALL_LIMIT};
 ghost use Rattle.fs_sched.specs.Devices.{KeepsDevices, WritesBeginning};
-ghost use Rattle.fs_sched.specs.Runs.{start, calls_in, end_of, IsOutput, IsRunOf, IsFaultOfRun, IsWhole, HasFinish, ReachesStop};
-ghost use Rattle.fs_sched.specs.EachRun.{AreOfTheRun, RunsAreReadAgain, EachIsReadAgain};
+ghost use Rattle.fs_sched.specs.Runs.{before_all, calls_in, end_of, IsOutputFrom, IsFaultOfRun, IsWhole, HasFinish, ReachesStop, StopsFrom};
+ghost use Rattle.fs_sched.specs.EachRun.{AreOfTheRun, EachIsReadAgain, HasShortNames, SomeIsReadAgain};
 ghost use Rattle.fs_sched.specs.code.Counts.{AreCounts};
 ghost use Rattle.fs_sched.specs.code.Mades.{IsRead, MakesRun};
-ghost use Rattle.fs_sched.specs.code.Done.{IsRun, IsStop};
+ghost use Rattle.fs_sched.specs.code.Done.{IsRun};
 ghost use Rattle.fs_sched.specs.code.Notes.{NotesRun};
-ghost use Rattle.fs_sched.specs.code.Stages.{stage_of};
+ghost use Rattle.fs_sched.specs.code.Stages.{stage_of, IsWhy};
 
 use crate::input::script_in;
 use crate::pieces::Pieces;
 use crate::run_texts::{Counts, counted_text};
 use crate::schedule::Schedule;
 use fs_calls::Call;
+use fs_core::Core;
 use fs_io::{Made, Sink, Source, transform};
+use fs_names::NODE_LIMIT;
 use fs_script::Script;
 use fs_verdict::{RunFault, between};
 use fs_witness::{Silent, Witness};
@@ -65,19 +72,32 @@ pub fn run_end(script: &Script, counts: Counts) -> RunEnd
     end_of(count_calls(script.lists.as_slice()), counts)
 }
 
-/// A run of a script that was read, from its first event to its last.
+/// The core of a run that begins at the root alone, by the limits of its script. The only error is out of memory.
+pub(crate) fn root_core(alloc: Global, script: &Script) -> Result<Core, RunFault>
+    ensures state { IfOk result (λ core. state_of core ≡ empty script.now.limits NODE_LIMIT) }
+    ensures seats { IfOk result (λ core. core.seats ≡ []) }
+    ensures fault { IfErr result (λ fault. fault ≡ RunFault.OutOfMemory) }
+{
+    match Core::with_limits(alloc, NODE_LIMIT, script.limits) {
+        Ok(core) => Ok(core),
+        Err(_) => Err(RunFault::OutOfMemory),
+    }
+}
+
+/// A run of a script that was read, from its first event to its last, on a core without seats.
 pub(crate) fn play<Listener: Witness>(
     alloc: Global,
+    core: Core,
     script: &Script,
     schedule: Schedule,
     witness: &mut Listener,
 ) -> Result<Pieces, RunFault>
-    requires few { calls_in script.now.lists ≤ CALL_LIMIT }
-    ensures told { IfOk result (λ run. NotesRun Listener.Told schedule script.now (start script.now.limits (length script.now.lists)) witness.old (stage_of run.play) witness.new) }
-    ensures runs { IfOk result (IsRun schedule script.now) }
-    ensures fault { IfErr result (IsStop schedule script.now) }
+    requires seats { core.seats ≡ [] }
+    ensures told { IfOk result (λ run. NotesRun Listener.Told schedule script.now (before_all (state_of core) (length script.now.lists)) witness.old (stage_of run.play) witness.new) }
+    ensures runs { IfOk result (IsRun schedule script.now (before_all (state_of core) (length script.now.lists))) }
+    ensures why { IfErr result (IsWhy (StopsFrom schedule script.now (before_all (state_of core) (length script.now.lists)))) }
 {
-    let Ok(mut run) = Pieces::new(alloc, script.limits, script.lists.as_slice().len()) else {
+    let Ok(mut run) = Pieces::new(alloc, core, script.lists.as_slice().len()) else {
         return Err(RunFault::OutOfMemory);
     };
     let calls = count_calls(script.lists.as_slice());
@@ -89,26 +109,30 @@ pub(crate) fn play<Listener: Witness>(
     }
 }
 
-/// The text of a run of a script, and how it ended. The script is let go before the text is made.
-fn make_text<Listener: Witness>(
+/// The text of a run of a script on a core on which nothing has begun, and how it ended. The script is let go before.
+pub fn run_on<Listener: Witness>(
     alloc: Global,
+    core: Core,
     script: Script,
     schedule: Schedule,
     witness: &mut Listener,
 ) -> Result<Made<RunEnd>, RunFault>
     requires few { calls_in script.lists ≤ CALL_LIMIT }
-    ensures output { IfOk result (λ made. IsOutput schedule script made.end made.text.items) }
-    ensures again { OnOk result (IsRead script → RunsAreReadAgain schedule script) }
-    ensures fault { IfErr result (IsStop schedule script) }
+    requires seats { core.seats ≡ [] }
+    requires fresh { state_of core ≡ fresh NODE_LIMIT core.start (graph_of core.store) }
+    ensures output { IfOk result (λ made. IsOutputFrom schedule script (before_all (state_of core) (length script.lists)) made.end made.text.items) }
+    ensures again { OnOk result (IsRead script → core.start.limits ≡ script.limits → HasShortNames (name_limit script.limits) core.start.tree → SomeIsReadAgain schedule script (before_all (state_of core) (length script.lists))) }
+    ensures why { IfErr result (IsWhy (StopsFrom schedule script (before_all (state_of core) (length script.lists)))) }
 {
-    let run = match play(alloc, &script, schedule, witness) {
+    core.told();
+    let run = match play(alloc, core, &script, schedule, witness) {
         Ok(run) => run,
         Err(fault) => return Err(fault),
     };
     let calls = count_calls(script.lists.as_slice());
     drop(script);
-    let core = &run.play.core;
-    match counted_text(alloc, core.start(), core.timeline(), core.store()) {
+    let last = &run.play.core;
+    match counted_text(alloc, last.start(), last.timeline(), last.store()) {
         Ok(made) => Ok(Made {
             text: made.text,
             end: end_of(calls, run.told.plus(made.counts)),
@@ -128,19 +152,19 @@ fn text_of_script<Listener: Witness>(
 {
     let script = script_in(alloc, text.as_slice())?;
     drop(text);
-    make_text(alloc, script, schedule, witness)
+    let core = root_core(alloc, &script)?;
+    run_on(alloc, core, script, schedule, witness)
 }
 
-/// The text of a run of a script in memory, as `run_script` writes it. The script is read where it stands, and the text is
-/// handed out as it was made, without its spare room.
+/// The text of a run of a script in memory, as `run_script` writes it, without spare room. The script is read where it stands.
 pub fn run_bytes(alloc: Global, script: &[u8], schedule: Schedule) -> Result<Vec<u8>, RunFault>
     ensures ran { IfOk result (λ text. (end : RunEnd) × AreOfTheRun schedule script.now end text.items) }
     ensures fault { IfErr result (IsFaultOfRun schedule script.now) }
 {
     let read = script_in(alloc, script)?;
-    match make_text(alloc, read, schedule, &mut Silent) {
+    let core = root_core(alloc, &read)?;
+    match run_on(alloc, core, read, schedule, &mut Silent) {
         Ok(mut made) => {
-            // Who keeps the text keeps no more than its bytes.
             made.text.shrink_to_fit();
             Ok(made.text)
         }

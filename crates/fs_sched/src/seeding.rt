@@ -14,7 +14,7 @@ ghost use Rattle.fs_sched.specs.code.Stages.{stage_of};
 
 use crate::input::script_in;
 use crate::play::Play;
-use crate::running::play;
+use crate::running::{play, root_core};
 use crate::schedule::Schedule;
 use fs_io::{Made, Sink, Source, transform};
 use fs_journal::check_from;
@@ -48,7 +48,8 @@ fn drawn(alloc: Global, script: &Script, seed: u64) -> Result<Play, RunFault>
     ensures root { IfOk result (λ play. play.core.start ≡ root_start script.now.limits) }
     ensures fault { IfErr result (λ fault. fault ≡ RunFault.OutOfMemory) }
 {
-    match play(alloc, script, Schedule::Seeded(seed), &mut Silent) {
+    let core = root_core(alloc, script)?;
+    match play(alloc, core, script, Schedule::Seeded(seed), &mut Silent) {
         Ok(run) => Ok(run.play),
         Err(fault) => Err(fault),
     }

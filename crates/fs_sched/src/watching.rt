@@ -7,7 +7,7 @@ ghost use Rattle.fs_sched.specs.Watching.{Watches};
 ghost use Rattle.fs_sched.specs.code.Done.{IsStop};
 
 use crate::run_texts::counts_of;
-use crate::running::{RunEnd, play, run_end};
+use crate::running::{RunEnd, play, root_core, run_end};
 use crate::schedule::Schedule;
 use fs_core::Core;
 use fs_script::Script;
@@ -33,7 +33,8 @@ pub fn watch<W: Witness>(
     ensures watches { IfOk result (λ ran. Watches W.Told schedule script.now witness.old ran witness.new) }
     ensures fault { IfErr result (IsStop schedule script.now) }
 {
-    let run = match play(alloc, script, schedule, witness) {
+    let core = root_core(alloc, script)?;
+    let run = match play(alloc, core, script, schedule, witness) {
         Ok(run) => run,
         Err(fault) => return Err(fault),
     };

@@ -2,7 +2,7 @@
 use Rattle.std.specs.Prelude.{List, ◌++◌}
 use Rattle.fs_script.specs.declared.script.Script.{Script}
 use Rattle.fs_timeline.specs.declared.entry.Entry.{Entry}
-use Rattle.fs_sched.specs.Runs.{Stage, Runs, StopsBy}
+use Rattle.fs_sched.specs.Runs.{Stage, RunsFrom, StopsBy}
 use Rattle.fs_sched.specs.code.Counts.{AreCapped}
 use Rattle.fs_sched.specs.code.Stages.{stage_of}
 use Rattle.fs_verdict.specs.declared.fault.RunFault.{RunFault}
@@ -16,10 +16,10 @@ pub record HasDone (did : List Entry → Stage → Type 0) (old new : Pieces) : 
   pub came : did told (stage_of new.play)
   pub counted : (before : List Entry) → AreCapped old.told before → AreCapped new.told (before ++ told)
 
--- a run of a script, with the entries of the pieces before its last one counted
-pub record IsRun (schedule : Schedule) (script : Script) (run : Pieces) : Type 0 where
+-- a run of a script from a stage on, with the entries of the pieces before its last one counted
+pub record IsRun (schedule : Schedule) (script : Script) (old : Stage) (run : Pieces) : Type 0 where
   pub told : List Entry
-  pub runs : Runs schedule script told (stage_of run.play)
+  pub runs : RunsFrom schedule script old told (stage_of run.play)
   pub counted : AreCapped run.told told
 
 -- why there is no run: out of memory, or a checkpoint while calls are under way

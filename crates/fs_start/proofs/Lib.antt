@@ -1,0 +1,3 @@
+pub mod SameStarts
+pub mod StartNames
+pub mod Starting

@@ -1,0 +1,189 @@
+-- The names of a tree that was read keep the limit by which it was read.
+use Rattle.std.proofs.Common.{◌≡◌, ◌≤◌, ℕ, ◌+◌, Bool, true, false, cond, List, [], ◌∷◌, ◌++◌, length, Result, Ok, Err, refl, sym, ap, subst, ◌∙◌, codes, arith, rules}
+use Rattle.std.proofs.lemmas.Bool.{cond-true, cond-false}
+use Rattle.std.proofs.lemmas.Bool.Decides.{nat_tests}
+use Rattle.std.specs.Prelude.{nat_le, ◌&&◌, ◌==◌, take, drop}
+use Rattle.std.specs.List.{All, AllByRecursion, slice_split, join_with_byte}
+use Rattle.std.proofs.lemmas.List.Splits.{slice_split_at}
+use Rattle.std.proofs.lemmas.List.Elements.{All-from_recursion}
+use Rattle.std.specs.Str.{bytes_eq}
+use Rattle.fs_names.specs.Keys.{Key}
+use Rattle.fs_names.specs.Names.{Name, can_name}
+use Rattle.fs_names.specs.Reading.{is_slash}
+use Rattle.fs_names.specs.Limits.{name_limit, file_limit}
+use Rattle.fs_names.specs.declared.kind.Kind.{Kind}
+use Rattle.fs_names.specs.declared.limits.Limits.{Limits}
+use Rattle.fs_names.specs.declared.limits.Limits.TheVariants.{V1, V2}
+use Rattle.fs_calls.specs.Tree.{Tree, Node, root_tree}
+use Rattle.fs_calls.specs.Starts.{Start, root_start}
+use Rattle.fs_timeline.specs.declared.entry.Entry.{Entry}
+use Rattle.fs_timeline.proofs.KeptNames.{NamesTree}
+use Rattle.fs_seq.specs.Rows.{node_of_kind, fits_at}
+use Rattle.fs_words.specs.Lines.{is_line_feed, without_last_empty, lines_of, is_passed_over}
+use Rattle.fs_words.specs.Words.{Word}
+use Rattle.fs_words.specs.Reading.{◌>>=◌, read_name, name_at, hex_at, words_of, fault_at, first_is, behind_first, behind_header}
+use Rattle.fs_words.specs.declared.fault.FaultKind.{FaultKind}
+use Rattle.fs_words.specs.declared.fault.FaultKind.TheVariants as kind
+use Rattle.fs_words.specs.declared.fault.ScriptFault.{ScriptFault}
+use Rattle.fs_words.proofs.PathLemmas.{IsShort}
+use Rattle.fs_text.specs.Journal.{names_at, entries_from, entries_of}
+use Rattle.fs_text.proofs.ReadNames.{Given, given_then, given_is}
+use Rattle.fs_script.specs.Journals.{Read, key_at, node_at, node_in_line, grown, in_start, with_start, started_from, behind_line, started_header, started_or, journal_of, line_end, nodes_journal, start_read, by_limits, start_of}
+use Rattle.fs_script.specs.TreeText.{node_words}
+
+either : {A F : Type 0} (P : A → Type 0) (b : Bool) (r q : Result A F) → Given P r → Given P q → Given P (cond b r q)
+either P true r q h g = h
+either P false r q h g = g
+
+any_then : {A B F : Type 0} (P : B → Type 0) (r : Result A F) (f : A → Result B F) → ((x : A) → Given P (f x)) → Given P (r >>= f)
+any_then P (Ok x) f each = each x
+any_then P (Err e) f each = tt
+
+-- ---- a line
+
+module _ (most : ℕ) where
+  abbrev Short : Key → Type 0
+  Short key = AllByRecursion (IsShort most) key
+
+  name_given : (name : Name) → Given (IsShort most) (read_name most name)
+  name_given name = by (nat_le (length name) most) (can_name name) refl
+    where
+      by : (b c : Bool) → nat_le (length name) most ≡ b → Given (IsShort most) (cond {A = Result Name FaultKind} (b && c) (Ok name) (Err kind.BadReply))
+      by true true e = let h : length name ≤ most = grind (arith, nat_tests) in h
+      by true false e = tt
+      by false c e = tt
+
+  names_given : (ws : List Word) → Given Short (names_at most ws)
+  names_given [] = tt
+  names_given (w ∷ ws) = given_then (IsShort most) Short (name_at most w) _ (name_given _) (λ n h. given_then Short Short (names_at most ws) _ (names_given ws) (λ ns g. (h, g)))
+
+  key_given : (w : Word) → Given Short (key_at most w)
+  key_given w = either Short (bytes_eq w (codes "/")) (Ok []) (names_at most (behind_first (slice_split is_slash w))) tt (names_given (behind_first (slice_split is_slash w)))
+
+  -- the key of a node
+  abbrev Keyed : Key × Kind × List ℕ → Type 0
+  Keyed n = Short n.0
+
+  node_given : (ws : List Word) → Given Keyed (node_at most ws)
+  node_given [] = tt
+  node_given (k ∷ []) = tt
+  node_given (k ∷ path ∷ []) = given_then Short Keyed (key_at most path) _ (key_given path) (λ key h. h)
+  node_given (k ∷ path ∷ hex ∷ []) = given_then Short Keyed (key_at most path) _ (key_given path) (λ key h. any_then Keyed (hex_at hex) _ (λ bytes. h))
+  node_given (k ∷ path ∷ hex ∷ w ∷ ws) = tt
+
+  line_given : (line : List ℕ) → Given Keyed (node_in_line most line)
+  line_given line = given_then Keyed Keyed (words_of line >>= node_at most) _ (any_then Keyed (words_of line) (node_at most) node_given) (λ n h. either Keyed (bytes_eq line (join_with_byte 32 (node_words n.0 (node_of_kind n.1 n.2)))) (Ok n) (Err kind.BadStart) h tt)
+
+-- ---- a start
+
+-- a start by these limits, whose names are as short as they say
+abbrev pub IsShortStart : Limits → Start → Type 0
+IsShortStart limits start = (start.limits ≡ limits) × NamesTree (IsShort (name_limit limits)) start.tree
+
+abbrev ShortRead : Limits → Start × List Entry → Type 0
+ShortRead limits read = IsShortStart limits read.0
+
+one_more : (most : ℕ) (t : Tree) (e : Key × Node) → NamesTree (IsShort most) t → AllByRecursion (IsShort most) e.0 → NamesTree (IsShort most) (t ++ e ∷ [])
+one_more most [] e h g = (g, tt)
+one_more most (f ∷ t) e h g = (h.0, one_more most t e h.1 g)
+
+entries_given : (limits : Limits) (start : Start) (entries : Result (List Entry) ScriptFault) → IsShortStart limits start → Given (ShortRead limits) (with_start start entries)
+entries_given limits start (Ok es) h = h
+entries_given limits start (Err f) h = tt
+
+placed : {A : Type 0} (P : A → Type 0) (n : ℕ) (r : Result A FaultKind) → Given P r → Given P (in_start n r)
+placed P n (Ok x) h = h
+placed P n (Err k) h = tt
+
+from_given : (limits : Limits) (t : Tree) (n : ℕ) (lines : List (List ℕ)) → NamesTree (IsShort (name_limit limits)) t → Given (ShortRead limits) (started_from limits t n lines)
+unfolding started_from
+from_given limits t n [] h = tt
+from_given limits t n (line ∷ more) h =
+    either (ShortRead limits) (is_passed_over line) _ _ (from_given limits t (n + 1) more h)
+    (either (ShortRead limits) (bytes_eq line (codes "entries")) _ _ (entries_given limits (record { limits = limits; tree = t }) (entries_from (name_limit limits) (n + 1) more) (refl, h))
+    (given_then (NamesTree (IsShort (name_limit limits))) (ShortRead limits) (in_start n (node_in_line (name_limit limits) line >>= grown limits t)) (λ u. started_from limits u (n + 1) more)
+    (placed (NamesTree (IsShort (name_limit limits))) n _ (given_then (Keyed (name_limit limits)) (NamesTree (IsShort (name_limit limits))) (node_in_line (name_limit limits) line) (grown limits t) (line_given (name_limit limits) line)
+    (λ e g. either (NamesTree (IsShort (name_limit limits))) (fits_at (file_limit limits) t e.0 e.1 e.2) (Ok (t ++ (e.0, node_of_kind e.1 e.2) ∷ [])) (Err kind.BadStart) (one_more (name_limit limits) t (e.0, node_of_kind e.1 e.2) h g) tt)))
+    (λ u g. from_given limits u (n + 1) more g)))
+
+behind_given : (P : Start × List Entry → Type 0) (wanted : List ℕ) (read : ℕ → List (List ℕ) → Read) (n : ℕ) (lines : List (List ℕ)) → ((m : ℕ) (rest : List (List ℕ)) → Given P (read m rest)) → Given P (behind_line wanted read n lines)
+unfolding behind_line
+behind_given P wanted read n [] each = tt
+behind_given P wanted read n (line ∷ more) each =
+    either P (is_passed_over line) _ _ (behind_given P wanted read (n + 1) more each) (either P (bytes_eq line wanted) (read (n + 1) more) (Err (fault_at n kind.BadStart)) (each (n + 1) more) tt)
+
+-- what is read by either set of limits
+abbrev AnyRead : Start × List Entry → Type 0
+AnyRead read = ShortRead read.0.limits read
+
+by_given : (limits : Limits) (read : Read) → Given (ShortRead limits) read → Given AnyRead read
+by_given limits (Ok read) (is, h) = let same : limits ≡ read.0.limits = sym is in (refl, subst (λ (l : Limits). NamesTree (IsShort (name_limit l)) read.0.tree) same h)
+by_given limits (Err f) h = tt
+
+header_given : (limits : Limits) (text : List ℕ) → Given (ShortRead limits) (behind_header (started_header limits) text >>= behind_line (codes "start") (behind_line (codes "dir /") (started_from limits root_tree)) 2)
+header_given limits text = any_then (ShortRead limits) (behind_header (started_header limits) text) _ (λ lines. behind_given (ShortRead limits) (codes "start") _ 2 lines (λ m rest. behind_given (ShortRead limits) (codes "dir /") _ m rest (λ k last. from_given limits root_tree k last (tt, tt))))
+
+or_given : (limits : Limits) (text : List ℕ) (other : Read) → Given AnyRead other → Given AnyRead (started_or limits text other)
+or_given limits text other h = either AnyRead (first_is (started_header limits) (lines_of text)) _ _ (by_given limits _ (header_given limits text)) h
+
+journal_given : (text : List ℕ) → Given AnyRead (journal_of text)
+unfolding journal_of
+journal_given text = or_given V2 text _ (or_given V1 text _ (by_given V1 _ (entries_given V1 (root_start V1) (entries_of text) (refl, (tt, tt)))))
+
+-- ---- the tree at which something starts
+
+same_limits : (a b : Limits) → name_limit a == name_limit b ≡ true → b ≡ a
+same_limits V1 V1 e = refl
+same_limits V1 V2 e = absurd (let z : ◌≡◌ {A = Bool} false true = e in cc)
+same_limits V2 V1 e = absurd (let z : ◌≡◌ {A = Bool} false true = e in cc)
+same_limits V2 V2 e = refl
+
+or_first : (limits : Limits) (text : List ℕ) (other : Read) → first_is (started_header limits) (lines_of text) ≡ true → Given (ShortRead limits) (started_or limits text other)
+or_first limits text other e = subst (Given (ShortRead limits)) (sym (cond-true _ _ _ e)) (header_given limits text)
+
+or_other : (P : Start × List Entry → Type 0) (limits : Limits) (text : List ℕ) (other : Read) → first_is (started_header limits) (lines_of text) ≡ false → Given P other → Given P (started_or limits text other)
+or_other P limits text other e h = subst (Given P) (sym (cond-false _ _ _ e)) h
+
+-- the journal of a tree's lines begins with the header of its limits
+no_end : (w : List ℕ) → AllByRecursion (λ b. is_line_feed b ≡ false) w → All (λ b. is_line_feed b ≡ false) w
+no_end w h = All-from_recursion (λ b. is_line_feed b ≡ false) w h
+
+header_no_end : (limits : Limits) → All (λ b. is_line_feed b ≡ false) (started_header limits)
+header_no_end V1 = no_end (codes "atomfs-journal 2") (search rules)
+header_no_end V2 = no_end (codes "atomfs-journal 3") (search rules)
+
+-- what stands behind a line and the line `start`
+split_twice : (line rest : List ℕ) → All (λ b. is_line_feed b ≡ false) line → lines_of (line ++ (10 ∷ (codes "start" ++ (10 ∷ rest)))) ≡ line ∷ without_last_empty (codes "start" ∷ slice_split is_line_feed rest)
+split_twice line rest h = ap without_last_empty (slice_split_at is_line_feed line 10 (codes "start" ++ (10 ∷ rest)) h refl ∙ ap (λ (l : List (List ℕ)). line ∷ l) (slice_split_at is_line_feed (codes "start") 10 rest (no_end (codes "start") (search rules)) refl))
+
+cut : (limits : Limits) (nodes : List ℕ) → lines_of (nodes_journal limits nodes) ≡ started_header limits ∷ without_last_empty (codes "start" ∷ slice_split is_line_feed (nodes ++ line_end nodes ++ codes "entries\n"))
+cut V1 nodes = split_twice (started_header V1) (nodes ++ line_end nodes ++ codes "entries\n") (header_no_end V1)
+cut V2 nodes = split_twice (started_header V2) (nodes ++ line_end nodes ++ codes "entries\n") (header_no_end V2)
+
+nodes_given : (limits : Limits) (nodes : List ℕ) → Given (ShortRead limits) (journal_of (nodes_journal limits nodes))
+unfolding journal_of
+nodes_given V1 nodes =
+    let text : List ℕ = nodes_journal V1 nodes in
+    let plain : Read = with_start (root_start V1) (entries_of text) in
+    or_other (ShortRead V1) V2 text (started_or V1 text plain) (ap (first_is (started_header V2)) (cut V1 nodes)) (or_first V1 text plain (ap (first_is (started_header V1)) (cut V1 nodes)))
+nodes_given V2 nodes =
+    let text : List ℕ = nodes_journal V2 nodes in
+    or_first V2 text (started_or V1 text (with_start (root_start V1) (entries_of text))) (ap (first_is (started_header V2)) (cut V2 nodes))
+
+start_given : (limits : Limits) (read : Read) → Given (ShortRead limits) read → Given (IsShortStart limits) (start_read read)
+start_given limits (Ok read) h = h
+start_given limits (Err f) h = tt
+
+by_limits_given : (limits : Limits) (read : Read) → Given AnyRead read → Given (IsShortStart limits) (by_limits limits read)
+by_limits_given limits (Err f) h = tt
+by_limits_given limits (Ok read) h = by (name_limit limits == name_limit read.0.limits) refl
+  where
+    by : (b : Bool) → name_limit limits == name_limit read.0.limits ≡ b → Given (IsShortStart limits) (cond {A = Result Start ScriptFault} b (Ok (read.0)) (Err (fault_at 1 kind.BadHeader)))
+    by true e = let same : read.0.limits ≡ limits = same_limits limits read.0.limits e in (same, subst (λ (l : Limits). NamesTree (IsShort (name_limit l)) read.0.tree) same h.1)
+    by false e = tt
+
+text_given : (limits : Limits) (text : List ℕ) → Given (IsShortStart limits) (start_of limits text)
+text_given limits text = either (IsShortStart limits) (bytes_eq (take 5 text) (codes "tree\n")) _ _ (start_given limits (journal_of (nodes_journal limits (drop 5 text))) (nodes_given limits (drop 5 text))) (by_limits_given limits (journal_of text) (journal_given text))
+
+pub short_start : (limits : Limits) (text : List ℕ) (start : Start) → start_of limits text ≡ Ok start → (start.limits ≡ limits) × NamesTree (IsShort (name_limit limits)) start.tree
+short_start limits text start is = given_is (IsShortStart limits) (start_of limits text) start (text_given limits text) is

@@ -1,0 +1,5 @@
+use Rattle.fs_start.proofs.StartNames.{short_start}
+use Rattle.fs_start.proofs.laws.starts_keep_limits.Goals as goal
+
+pub returns : goal.returns
+returns c = short_start
