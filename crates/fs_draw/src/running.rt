@@ -66,7 +66,7 @@ fn of_journal(alloc: Global, text: &[u8]) -> Result<Drawing, DrawFault>
     let Ok(verdict) = check_from(alloc, &journal.start, journal.entries.as_slice()) else {
         return Err(out_of_memory());
     };
-    let Ok(scene) = scene_of_journal(alloc, &journal, &verdict) else {
+    let Ok(scene) = scene_of_journal(alloc, &journal, &verdict, text) else {
         return Err(out_of_memory());
     };
     Ok(Drawing {

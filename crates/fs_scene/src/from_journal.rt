@@ -1,6 +1,7 @@
 //! The scene of a journal.
 
 use crate::scene::{Card, Fault, Mark, Reported, Scene, What, short};
+use crate::seat_names::seat_names;
 use fs_calls::Call;
 use fs_names::{CallNo, SeatNo};
 use fs_sched::{call_of, due_reply, kind_text, push_verdict};
@@ -37,13 +38,26 @@ fn lanes_of(alloc: Global, entries: &[Entry]) -> Result<BTreeMap<u64, usize>, Al
     Ok(seats)
 }
 
-/// The names of lanes.
-fn names_of(alloc: Global, lanes: &BTreeMap<u64, usize>) -> Result<Vec<Vec<u8>>, AllocError> {
+/// The name of a lane: that of its seat, or else the number.
+fn name_of(alloc: Global, seat: u64, given: Option<&[u8]>) -> Result<Vec<u8>, AllocError> {
+    if let Some(given) = given {
+        return Vec::from_slice(alloc, given);
+    }
+    let mut name = Addition::new(Vec::new(alloc));
+    name.push_with_number(b"seat ", seat)?;
+    Ok(name.kept())
+}
+
+/// The names of lanes, of a journal that has this text.
+fn names_of(
+    alloc: Global,
+    lanes: &BTreeMap<u64, usize>,
+    text: &[u8],
+) -> Result<Vec<Vec<u8>>, AllocError> {
+    let given = seat_names(alloc, text)?;
     let mut names = Vec::new(alloc);
     for seat in lanes.keys() {
-        let mut name = Addition::new(Vec::new(alloc));
-        name.push_with_number(b"seat ", *seat)?;
-        names.push(name.kept())?;
+        names.push(name_of(alloc, *seat, given.get(seat).copied())?)?;
     }
     Ok(names)
 }
@@ -66,9 +80,14 @@ fn fault_of(alloc: Global, verdict: &Verdict) -> Result<Option<Fault>, AllocErro
 }
 
 impl Reading {
-    fn new(alloc: Global, entries: &[Entry], verdict: &Verdict) -> Result<Reading, AllocError> {
+    fn new(
+        alloc: Global,
+        entries: &[Entry],
+        verdict: &Verdict,
+        text: &[u8],
+    ) -> Result<Reading, AllocError> {
         let lanes = lanes_of(alloc, entries)?;
-        let names = names_of(alloc, &lanes)?;
+        let names = names_of(alloc, &lanes, text)?;
         let mut busy = Vec::new(alloc);
         for _ in &names {
             busy.push(false)?;
@@ -281,14 +300,16 @@ fn set_due(alloc: Global, journal: &Journal, scene: &mut Scene) -> Result<(), Al
     Ok(())
 }
 
-/// The scene of a journal's entries, up to the first one that does not fit those before it.
+/// The scene of a journal's entries, up to the first one that does not fit those before it. `text` is that of the journal, whose
+/// comments `# seat NUMBER NAME` name lanes.
 pub fn scene_of_journal(
     alloc: Global,
     journal: &Journal,
     verdict: &Verdict,
+    text: &[u8],
 ) -> Result<Scene, AllocError> {
     let entries = journal.entries.as_slice();
-    let mut reading = Reading::new(alloc, entries, verdict)?;
+    let mut reading = Reading::new(alloc, entries, verdict, text)?;
     let mut at = 0u64;
     for entry in entries {
         at = at.saturating_add(1);

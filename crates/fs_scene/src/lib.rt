@@ -10,6 +10,7 @@ mod from_run;
 mod labels;
 mod overlap;
 mod scene;
+mod seat_names;
 
 pub use from_journal::scene_of_journal;
 pub use from_run::{Strip, scene_of_run};

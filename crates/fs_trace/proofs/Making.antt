@@ -1,11 +1,10 @@
 -- What is made of a run that was told.
-use Rattle.std.proofs.Common.{◌≡◌, ℕ, Bool, List, [], ap, sym, subst, ◌∙◌}
+use Rattle.std.proofs.Common.{◌≡◌, ℕ, Bool, List, [], sym, subst}
 use Rattle.fs_core.specs.CoreValues.{state_of}
 use Rattle.fs_machine.specs.States.{State}
 use Rattle.fs_script.specs.Script.{script_of}
 use Rattle.fs_script.specs.declared.script.Script.{Script}
 use Rattle.std.specs.Prelude.{Ok}
-use Rattle.fs_witness.specs.declared.moments.Moment.{Moment}
 use Rattle.fs_sched.specs.Watching.{Watches}
 use Rattle.fs_sched.specs.declared.schedule.Schedule.{Schedule}
 use Rattle.fs_sched.specs.declared.watching.Ran.{Ran}
@@ -21,11 +20,11 @@ pub told_all : (every : Bool) (schedule : Schedule) (script : Script) (start : T
 told_all every schedule script start old new ran none w = w.hears old [] (λ e s begins. begins) every start none
 
 -- its trace is one of the script that was read
-pub trace_made : (schedule : Schedule) (every : Bool) (given text made : List ℕ) (script : Script) (old new : Teller TraceLines) (ran : Ran) → given ≡ text → script_of given ≡ Ok script
+pub trace_made : (schedule : Schedule) (every : Bool) (text made : List ℕ) (script : Script) (old new : Teller TraceLines) (ran : Ran) → script_of text ≡ Ok script
     → (w : Watches (λ (first : Teller TraceLines) teller ms. GoesOn HasLines first teller ms) schedule script old ran new) → IsTraceText every script.names w.moments (state_of ran.core) made → IsTraceOf schedule every text ran.end made
-trace_made schedule every given text made script old new ran e is w trace = (
+trace_made schedule every text made script old new ran is w trace = (
   script,
-  sym (ap script_of e) ∙ is,
+  is,
   w.moments,
   w.last,
   w.tells,

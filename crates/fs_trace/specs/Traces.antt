@@ -8,11 +8,12 @@ use Rattle.fs_script.specs.declared.script.Script.{Script}
 use Rattle.fs_script.specs.declared.script.Word.{Word}
 use Rattle.fs_script.specs.declared.script.Word.TheVariants as word
 use Rattle.fs_calls.specs.Tree.{Tree}
-use Rattle.fs_sched.specs.Runs.{Stage, end_of}
+use Rattle.fs_sched.specs.Runs.{Stage, end_of, IsRunOf}
 use Rattle.fs_sched.specs.RunTexts.{end_line}
 use Rattle.fs_sched.specs.Schedules.{one_event}
 use Rattle.fs_sched.specs.declared.running.RunEnd.{RunEnd}
 use Rattle.fs_sched.specs.declared.schedule.Schedule.{Schedule}
+use Rattle.fs_sched.specs.declared.schedule.Schedule.TheVariants.{Given}
 use Rattle.fs_witness.specs.Moments.{entries_told}
 use Rattle.fs_sched.specs.Moments.{TellsRun}
 use Rattle.fs_sched.specs.Gives.{given_words}
@@ -101,3 +102,17 @@ IsScheduleText input names ms text =
 -- the script that an input has, with the moments of a run of it as its words
 abbrev pub IsScheduleOf : Schedule → List ℕ → List ℕ → Type 0
 IsScheduleOf schedule input text = (script : Script) × (script_of input ≡ Ok script) × (ms : List Moment) × (last : Stage) × TellsRun schedule script ms last × IsScheduleText input script.names ms text
+
+-- ---- what is read of such a script
+
+-- a text is read back as the script with the words of these moments, and nothing else of it is changed
+abbrev pub IsReadAs : Script → List Moment → List ℕ → Type 0
+IsReadAs script ms text = (words : List Word) × (given_words words ≡ busy_words ms) × (script_of text ≡ Ok (record script { words = words }))
+
+-- each text of a run of an input by a schedule is that of a run of another input by its own words
+abbrev pub HasSameRun : Schedule → List ℕ → List ℕ → Type 0
+HasSameRun schedule input other = (end : RunEnd) (text : List ℕ) → IsRunOf schedule input end text → IsRunOf Given other end text
+
+-- a text is read back as the script that an input has, with the moments of a run of it as its words, and has the text of that run
+abbrev pub IsReadBack : Schedule → List ℕ → List ℕ → Type 0
+IsReadBack schedule input text = (script : Script) × (script_of input ≡ Ok script) × (ms : List Moment) × (last : Stage) × TellsRun schedule script ms last × IsReadAs script ms text × HasSameRun schedule input text

@@ -5,8 +5,9 @@ ghost use Rattle.std.specs.Io.KnownBytes.{Appends, IsAtEnd};
 ghost use Rattle.fs_words.specs.declared.fault.ScriptFault.{ScriptFault};
 ghost use Rattle.fs_script.specs.Script.{script_of};
 ghost use Rattle.fs_sched.specs.Devices.{KeepsDevices, WritesBeginning};
-ghost use Rattle.fs_sched.specs.Runs.{ReachesStop};
-ghost use Rattle.fs_trace.specs.Traces.{IsScheduleOf, IsTraceOf};
+ghost use Rattle.fs_sched.specs.Runs.{IsFaultOfRun, ReachesStop};
+ghost use Rattle.fs_trace.specs.Faults.{IsFaultOfSchedule};
+ghost use Rattle.fs_trace.specs.Traces.{IsReadBack, IsScheduleOf, IsTraceOf};
 ghost use Rattle.fs_trace.specs.code.Mades.{MakesSchedule, MakesTrace};
 
 use crate::fault::ScheduleFault;
@@ -20,14 +21,13 @@ use std::alloc::Global;
 /// The text of the trace of a script's run, and how that ended.
 fn trace_of(
     alloc: Global,
-    text: Vec<u8>,
+    text: &[u8],
     schedule: Schedule,
     every: bool,
 ) -> Result<Made<RunEnd>, RunFault>
-    ensures { MakesTrace schedule every text.items result }
+    ensures { MakesTrace schedule every text.now result }
 {
-    let script = script_in(alloc, text.as_slice())?;
-    drop(text);
+    let script = script_in(alloc, text)?;
     let Ok(lines) = TraceLines::new(alloc, &script.names) else {
         return Err(RunFault::OutOfMemory);
     };
@@ -41,19 +41,50 @@ fn trace_of(
     }
 }
 
-/// A script's text with the moments of its run as its words.
-fn schedule_of(alloc: Global, text: Vec<u8>, schedule: Schedule) -> Result<Made<()>, ScheduleFault>
-    ensures { MakesSchedule schedule text.items result }
+/// The trace of a script's run in memory, as `trace_script` writes it. The script is read where it stands.
+pub fn trace_bytes(
+    alloc: Global,
+    script: &[u8],
+    schedule: Schedule,
+    every: bool,
+) -> Result<Vec<u8>, RunFault>
+    ensures traced { IfOk result (λ text. (end : RunEnd) × IsTraceOf schedule every script.now end text.items) }
+    ensures fault { IfErr result (IsFaultOfRun schedule script.now) }
 {
-    let script = script_in(alloc, text.as_slice())?;
+    match trace_of(alloc, script, schedule, every) {
+        Ok(made) => Ok(made.text),
+        Err(fault) => Err(fault),
+    }
+}
+
+/// A script's text with the moments of its run as its words.
+fn schedule_of(alloc: Global, text: &[u8], schedule: Schedule) -> Result<Made<()>, ScheduleFault>
+    ensures { MakesSchedule schedule text.now result }
+{
+    let script = script_in(alloc, text)?;
     let mut words = RunWords::new(alloc);
     let ran = watch(alloc, &script, schedule, &mut words);
     if words.are_too_many() {
         return Err(ScheduleFault::TooManyEvents);
     }
     ran?;
-    let text = script_text(alloc, text.as_slice(), &script, words)?;
+    let text = script_text(alloc, text, &script, words)?;
     Ok(Made { text, end: () })
+}
+
+/// A script in memory with the moments of its run as its words, as `schedule_script` writes it. It is read where it stands.
+pub fn schedule_bytes(
+    alloc: Global,
+    script: &[u8],
+    schedule: Schedule,
+) -> Result<Vec<u8>, ScheduleFault>
+    ensures scheduled { IfOk result (λ text. IsScheduleOf schedule script.now text.items) }
+    ensures fault { IfErr result (IsFaultOfSchedule schedule script.now) }
+{
+    match schedule_of(alloc, script, schedule) {
+        Ok(made) => Ok(made.text),
+        Err(fault) => Err(fault),
+    }
 }
 
 /// Reads a script to its end, runs it by a schedule, and writes the trace of the run: a line for each event, or for each that
@@ -96,7 +127,7 @@ pub fn trace_script<R: Source, W: Sink>(
         writer,
         |text| -> Result<Made<RunEnd>, RunFault>
             ensures { MakesTrace schedule every text.items result }
-        { trace_of(alloc, text, schedule, every) },
+        { trace_of(alloc, text.as_slice(), schedule, every) },
     );
     match ended {
         Ok(end) => Ok(end),
@@ -105,8 +136,8 @@ pub fn trace_script<R: Source, W: Sink>(
 }
 
 /// Reads a script to its end, runs it by a schedule, and writes the script again, up to its line `schedule` byte for byte, with
-/// the events and checkpoints of the run as its words. A run of that by its own words has the same text. It is made before its
-/// first byte is written.
+/// the events and checkpoints of the run as its words. What is written is read as a script with the same threads, calls and
+/// limits, and a run of that by its own words has the same text. It is made before its first byte is written.
 pub fn schedule_script<R: Source, W: Sink>(
     alloc: Global,
     reader: &mut R,
@@ -119,6 +150,11 @@ pub fn schedule_script<R: Source, W: Sink>(
     // What is written is the script that was read, with the moments of a run of it as its words.
     ensures ran { OnOk result ((text : List ℕ)
         × IfSome (R.remaining reader.old) (λ input. IsScheduleOf schedule input text)
+        × Appends (W.contents writer.old) (W.contents writer.new) text) }
+
+    // It is read back as that script with these words, and its run by them has the text of that run.
+    ensures again { OnOk result ((text : List ℕ)
+        × IfSome (R.remaining reader.old) (λ input. IsReadBack schedule input text)
         × Appends (W.contents writer.old) (W.contents writer.new) text) }
     ensures end { OnOk result (IsAtEnd (R.remaining reader.new)) }
     ensures input { (f : ScriptFault) → result ≡ Err (ScheduleFault.Run (RunFault.Input f))
@@ -143,7 +179,7 @@ pub fn schedule_script<R: Source, W: Sink>(
         writer,
         |text| -> Result<Made<()>, ScheduleFault>
             ensures { MakesSchedule schedule text.items result }
-        { schedule_of(alloc, text, schedule) },
+        { schedule_of(alloc, text.as_slice(), schedule) },
     );
     match ended {
         Ok(done) => Ok(done),

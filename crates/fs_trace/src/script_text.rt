@@ -1,21 +1,24 @@
 //! A script with other words.
 
-ghost use Rattle.std.specs.Prelude.{◌≡◌, ◌++◌, ◌∷◌, [], ℕ, List, IfOk, IfErr, IfSome, OnOk, get_or};
+ghost use Rattle.std.specs.Prelude.{◌≡◌, ◌≤◌, ◌++◌, ◌∷◌, [], ℕ, List, true, nat_lt, length, IfOk, IfErr, IfSome, OnOk, get_or};
+ghost use Rattle.fs_script.specs.Limits.{events_in};
+ghost use Rattle.fs_script.specs.declared.limits.TheConstants.{EVENT_LIMIT};
 ghost use Rattle.fs_witness.specs.declared.moments.Moment.{Moment};
 ghost use Rattle.fs_sched.specs.Gives.{single_words, given_words};
 ghost use Rattle.fs_sched.specs.Schedules.{one_event};
 ghost use Rattle.fs_sched.specs.declared.schedule.Schedule.{Schedule};
 ghost use Rattle.fs_trace.specs.Faults.{IsFaultOfSchedule};
-ghost use Rattle.fs_trace.specs.Traces.{busy_event, busy_words, times_text, word_text, AreWordTexts, IsGap, IsScheduleText};
-ghost use Rattle.fs_trace.specs.code.WordTexts.{AddsWords, IsBeginning};
+ghost use Rattle.fs_trace.specs.Traces.{busy_event, busy_word, busy_words, times_text, word_text, AreWordTexts, IsGap, IsScheduleText};
+ghost use Rattle.fs_trace.specs.code.WordTexts.{is_schedule, AddsWords, AreTimed, HasHead, HasWords, IsBeginning, IsGapBehind, IsWritten};
+ghost use Rattle.fs_words.specs.declared.limits.TheConstants.{TEXT_LIMIT};
 
 use crate::fault::ScheduleFault;
 use fs_core::Core;
+use fs_names::blocks::place_from;
 use fs_sched::RunFault;
 use fs_script::limits::EVENT_LIMIT;
 use fs_script::{Script, ThreadNames, Word};
 use fs_witness::{Answer, Moment, Told, Witness};
-use fs_words::lines::cut_line;
 use fs_words::{Addition, TEXT_LIMIT};
 use std::alloc::{AllocError, Global};
 
@@ -24,7 +27,8 @@ const LINE_WIDTH: usize = 72;
 
 /// A word with an event of a thread more, where it is one of events of that thread.
 fn with_event(word: Word, seat: usize) -> Option<Word>
-    ensures { IfSome result (λ more. single_words more ≡ single_words word ++ one_event seat ∷ []) }
+    ensures given { IfSome result (λ more. single_words more ≡ single_words word ++ one_event seat ∷ []) }
+    ensures timed { IfSome result (λ more. AreTimed (more ∷ [])) }
 {
     match word {
         Word::Events(other, times) if other == seat && times < u64::MAX => {
@@ -36,7 +40,8 @@ fn with_event(word: Word, seat: usize) -> Option<Word>
 
 /// Adds an event to words.
 fn push_event(seat: usize, words: &mut Vec<Word>) -> Result<(), AllocError>
-    ensures { OnOk result (given_words words.new.items ≡ given_words words.old.items ++ one_event seat ∷ []) }
+    ensures given { OnOk result (given_words words.new.items ≡ given_words words.old.items ++ one_event seat ∷ []) }
+    ensures timed { OnOk result (AreTimed words.old.items → AreTimed words.new.items) }
 {
     let count = words.len();
     if count > 0 {
@@ -51,7 +56,8 @@ fn push_event(seat: usize, words: &mut Vec<Word>) -> Result<(), AllocError>
 
 /// Adds an event to words, where it is no idle turn.
 fn push_told(told: &Told, words: &mut Vec<Word>) -> Result<(), AllocError>
-    ensures { OnOk result (given_words words.new.items ≡ given_words words.old.items ++ busy_event told.now.seat told.now.answer) }
+    ensures given { OnOk result (given_words words.new.items ≡ given_words words.old.items ++ busy_event told.now.seat told.now.answer) }
+    ensures timed { OnOk result (AreTimed words.old.items → AreTimed words.new.items) }
 {
     match told.answer {
         Answer::Spent => Ok(()),
@@ -61,7 +67,8 @@ fn push_told(told: &Told, words: &mut Vec<Word>) -> Result<(), AllocError>
 
 /// Adds a moment to words, where it is no idle turn.
 fn push_moment(moment: &Moment, words: &mut Vec<Word>) -> Result<(), AllocError>
-    ensures { OnOk result (given_words words.new.items ≡ given_words words.old.items ++ busy_words (moment.now ∷ [])) }
+    ensures given { OnOk result (given_words words.new.items ≡ given_words words.old.items ++ busy_words (moment.now ∷ [])) }
+    ensures timed { OnOk result (AreTimed words.old.items → AreTimed words.new.items) }
 {
     match moment {
         Moment::Event(told) => push_told(told, words),
@@ -82,7 +89,7 @@ pub(crate) struct RunWords {
 impl RunWords {
     /// Before the first moment.
     pub(crate) fn new(alloc: Global) -> RunWords
-        ensures { given_words result.words.items ≡ busy_words [] }
+        ensures { HasWords result [] }
     {
         RunWords {
             words: Vec::new(alloc),
@@ -91,13 +98,15 @@ impl RunWords {
     }
 
     /// Whether they give more events than a script may.
-    pub(crate) fn are_too_many(&self) -> bool {
+    pub(crate) fn are_too_many(&self) -> bool
+        ensures { result ≡ nat_lt EVENT_LIMIT self.now.events }
+    {
         self.events > EVENT_LIMIT
     }
 }
 
 impl Witness for RunWords {
-    ghost Told = { λ first words moments. given_words words.words.items ≡ busy_words moments };
+    ghost Told = { λ first words moments. HasWords words moments };
 
     fn begins(&mut self, _calls: usize) {}
 
@@ -116,36 +125,35 @@ impl Witness for RunWords {
 }
 
 /// How many events a moment is of a thread that had something to do.
-fn events_of(moment: &Moment) -> u64 {
+fn events_of(moment: &Moment) -> u64
+    ensures { result ≡ events_in (busy_word moment.now) }
+{
     match moment {
         Moment::Event(told) if !matches!(told.answer, Answer::Spent) => 1,
         _ => 0,
     }
 }
 
-/// The part of a script's text up to its line `schedule`, without the line feed behind that.
-fn blocks_of(text: &[u8]) -> &[u8]
-    ensures { IsBeginning text.now result.now }
+/// Whether this is the line at which the schedule begins.
+fn begins_schedule(line: &[u8]) -> bool
+    ensures { result ≡ is_schedule line.now }
 {
-    let mut left = text;
-    'lines: while let Some((line, rest)) = cut_line(left) {
-        left = rest;
-        if line == b"schedule".as_slice() {
-            return without_line_feed(&text[..text.len() - left.len()]);
-        }
-    }
-    without_line_feed(text)
+    line == b"schedule".as_slice()
 }
 
-/// A text without the line feed at its end.
-fn without_line_feed(text: &[u8]) -> &[u8]
-    ensures { IsBeginning text.now result.now }
+/// The part of a script's text up to its line `schedule`, without the line feed behind that; all where there is no such line.
+fn blocks_of(text: &[u8]) -> &[u8]
+    ensures beginning { IsBeginning text.now result.now }
+    ensures head { HasHead text.now result.now }
 {
-    if text.ends_with(b"\n") {
-        &text[..text.len() - 1]
-    } else {
-        text
+    let mut start = 0;
+    'lines: while let Some(end) = place_from(b'\n', text, start) {
+        if begins_schedule(&text[start..end]) {
+            return &text[..end];
+        }
+        start = end + 1;
     }
+    text
 }
 
 /// The name of the thread on a seat; none where there is no such thread.
@@ -187,7 +195,8 @@ fn word_text(alloc: Global, names: &ThreadNames, word: Word) -> Result<Vec<u8>, 
 
 /// What stands before a word: it goes on a new line where there is no room for it.
 fn gap_before(is_wide: bool) -> u8
-    ensures { IsGap result }
+    ensures gap { IsGap result }
+    ensures wide { is_wide ≡ true → result ≡ 10 }
 {
     if is_wide { b'\n' } else { b' ' }
 }
@@ -200,7 +209,7 @@ fn push_word(
     width: usize,
     text: &mut Vec<u8>,
 ) -> Result<usize, AllocError>
-    ensures { OnOk result ((gap : ℕ) × IsGap gap × (text.new.items ≡ text.old.items ++ gap ∷ word_text names.now word)) }
+    ensures { OnOk result ((gap : ℕ) × IsGapBehind width gap × (text.new.items ≡ text.old.items ++ gap ∷ word_text names.now word)) }
 {
     let word = word_text(alloc, names, word)?;
     let is_wide = width.saturating_add(word.len()) >= LINE_WIDTH;
@@ -210,7 +219,7 @@ fn push_word(
     Ok(before.saturating_add(word.len()))
 }
 
-/// The words, each with a space or a line feed before it.
+/// The words, each with a space or a line feed before it, and a line feed before the first.
 fn push_words(
     alloc: Global,
     names: &ThreadNames,
@@ -233,8 +242,9 @@ fn with_words(
     names: &ThreadNames,
     words: &[Word],
 ) -> Result<Vec<u8>, AllocError>
-    ensures { (moments : List Moment) → given_words words.now ≡ busy_words moments
+    ensures made { (moments : List Moment) → given_words words.now ≡ busy_words moments
         → IfOk result (λ text. IsScheduleText input.now names.now moments text.items) }
+    ensures written { IfOk result (λ text. IsWritten input.now names.now words.now text.items) }
 {
     let mut text = Vec::from_slice(alloc, blocks_of(input))?;
     push_words(alloc, names, words, &mut text)?;
@@ -251,6 +261,8 @@ pub(crate) fn script_text(
 ) -> Result<Vec<u8>, ScheduleFault>
     ensures made { (moments : List Moment) → given_words words.words.items ≡ busy_words moments
         → IfOk result (λ text. IsScheduleText input.now script.now.names moments text.items) }
+    ensures written { IfOk result (λ text. IsWritten input.now script.now.names words.words.items text.items) }
+    ensures short { IfOk result (λ text. length text.items ≤ TEXT_LIMIT) }
     ensures fault { (schedule : Schedule) (given : List ℕ) → IfErr result (IsFaultOfSchedule schedule given) }
 {
     match with_words(alloc, input, &script.names, words.words.as_slice()) {

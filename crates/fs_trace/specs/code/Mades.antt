@@ -6,7 +6,7 @@ use Rattle.fs_sched.specs.declared.running.RunEnd.{RunEnd}
 use Rattle.fs_sched.specs.declared.schedule.Schedule.{Schedule}
 use Rattle.fs_sched.specs.Runs.{IsFaultOfRun}
 use Rattle.fs_trace.specs.Faults.{IsFaultOfSchedule}
-use Rattle.fs_trace.specs.Traces.{IsTraceOf, IsScheduleOf}
+use Rattle.fs_trace.specs.Traces.{IsTraceOf, IsScheduleOf, IsReadBack}
 use Rattle.fs_trace.specs.declared.fault.ScheduleFault.{ScheduleFault}
 
 -- the trace of a run, and how that ended; or why there is none
@@ -17,4 +17,5 @@ pub record MakesTrace (schedule : Schedule) (every : Bool) (input : List ℕ) (r
 -- the script with the moments of a run as its words; or why there is none
 pub record MakesSchedule (schedule : Schedule) (input : List ℕ) (result : Result (Made (Unit {0})) ScheduleFault) : Type 0 where
   pub script : IfOk result (λ made. IsScheduleOf schedule input made.text.items)
+  pub again : IfOk result (λ made. IsReadBack schedule input made.text.items)
   pub fault : IfErr result (IsFaultOfSchedule schedule input)

@@ -5,7 +5,7 @@ use Rattle.fs_verdict.specs.declared.fault.RunFault.TheVariants as run
 use Rattle.fs_sched.proofs.Reasons.{known, known_stop}
 use Rattle.fs_sched.proofs.RunLemmas.{known_script, script_short}
 use Rattle.fs_trace.specs.Faults.{IsFaultOfSchedule}
-use Rattle.fs_trace.specs.Traces.{IsScheduleOf}
+use Rattle.fs_trace.specs.Traces.{IsReadBack, IsScheduleOf}
 use Rattle.fs_trace.specs.declared.fault.ScheduleFault.{ScheduleFault}
 use Rattle.fs_trace.specs.declared.fault.ScheduleFault.TheVariants.{Run}
 use Rattle.fs_verdict.proofs.Unmade.{unmade, unwritten}
@@ -19,6 +19,12 @@ returns-in-Ok-clause-ran g c =
     let told = c.in-Ok.ensures.made in
     let made = told.4.1.script in
     (told.1.text.items, known (λ input. IsScheduleOf c.args.schedule input told.1.text.items) _ _ _ refl (script_short _ _ _ refl made.1) told.2 made, told.6)
+
+pub returns-in-Ok-clause-again : goal.returns-in-Ok-clause-again
+returns-in-Ok-clause-again g c =
+    let told = c.in-Ok.ensures.made in
+    let made = told.4.1.again in
+    (told.1.text.items, known (λ input. IsReadBack c.args.schedule input told.1.text.items) _ _ _ refl (script_short _ _ _ refl made.1) told.2 made, told.6)
 
 pub returns-in-Ok-clause-end : goal.returns-in-Ok-clause-end
 returns-in-Ok-clause-end g c = let told = c.in-Ok.ensures.made in told.3 (script_short _ _ _ refl told.4.1.script.1)

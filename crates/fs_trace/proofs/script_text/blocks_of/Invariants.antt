@@ -1,9 +1,10 @@
-use Rattle.std.proofs.Common.{◌≤◌, length}
+use Rattle.std.proofs.Common.{◌-◌, ◌≤◌, length}
+use Rattle.fs_trace.proofs.Heads.{AreCut}
 use Rattle.fs_trace.proofs.script_text.blocks_of.Given as goal
 
--- what is left is no longer than the text
+-- the lines before this place are no line `schedule`
 abbrev pub invariant-lines : goal.invariant-lines
-invariant-lines l = length l.left ≤ length l.text
+invariant-lines l = record { within : l.start ≤ length l.text; cut : AreCut l.text l.start }
 
 abbrev pub decreases-lines : goal.decreases-lines
-decreases-lines l = length l.left
+decreases-lines l = length l.text - l.start
