@@ -87,6 +87,9 @@ enum {
     ATOMFS_PATH_TOO_MANY_NAMES = 31, /* there are more than 64 names */
     ATOMFS_PATH_DOT = 32,            /* a name is . or .. */
     ATOMFS_PATH_TRAILING_SLASH = 33, /* there is a name, and a slash at the end */
+    /* Of a tool over a text. */
+    ATOMFS_NO_CALL = 34,    /* no call has the number around which is to be drawn */
+    ATOMFS_BAD_CHOICE = 35, /* a schedule, a number or a word is none of those that there are */
     /* The call returned with an error, which is in the journal, and the tree is as before: this and Linux's number of the
        error, as ATOMFS_FAILED + ENOENT. Errors are ENOENT, ENOTDIR, EEXIST, ENOTEMPTY, EISDIR, EINVAL, EBUSY, EPERM,
        ENOSPC (too many entries) and EFBIG. */
@@ -137,6 +140,16 @@ enum {
     ATOMFS_CALL_WRITE = 9,
     ATOMFS_CALL_TRUNCATE = 10
 };
+
+/* By which schedule a script runs. */
+enum {
+    ATOMFS_GIVEN = 0,       /* its own */
+    ATOMFS_ROUND_ROBIN = 1, /* one event of each thread in turn */
+    ATOMFS_SEEDED = 2       /* threads drawn from a seed */
+};
+
+/* By this number atomfs_draw draws all calls. */
+#define ATOMFS_WHOLE UINT64_MAX
 
 /* What stands at a path: a directory and how many entries it has, or a file and how many bytes. */
 struct atomfs_stat {
@@ -371,6 +384,34 @@ uint8_t atomfs_run(const char *script, size_t length, char *out, size_t room, si
 /* Checks a journal, and tells the verdict's line, as `atomfs check` prints it.
  * OK, TOO_SMALL, NO_MEMORY, and the faults of a journal, where *count is the line of the fault. */
 uint8_t atomfs_check(const char *journal, size_t length, char *out, size_t room, size_t *count);
+
+/* ---- Tools over texts, without a handle
+ *
+ * Each tells what the command of its name prints. A schedule is one of ATOMFS_GIVEN and so on; seed is looked at by ATOMFS_SEEDED alone.
+ * OK, TOO_SMALL, NO_MEMORY; BAD_CHOICE, where no schedule has the number; UNDER_WAY and the faults of a script as atomfs_run. */
+
+/* Runs a script, and tells its trace: what each event did, in words, or, where every is not 0, idle turns and repeated waits
+ * too. */
+uint8_t atomfs_trace(const char *script, size_t length, uint8_t schedule, uint64_t seed, uint8_t every, char *out,
+                     size_t room, size_t *count);
+
+/* Draws a script's run, or a journal, whatever the schedule, as an SVG file: all calls by ATOMFS_WHOLE, else the call around and
+ * those that overlap it. NO_CALL and the faults of a journal too. */
+uint8_t atomfs_draw(const char *text, size_t length, uint8_t schedule, uint64_t seed, uint64_t around, char *out, size_t room,
+                    size_t *count);
+
+/* Runs a script, and tells it again with the events of the run as its schedule. TOO_LARGE with the line 0, where a script has no
+ * room for them. */
+uint8_t atomfs_schedule(const char *script, size_t length, uint8_t schedule, uint64_t seed, char *out, size_t room,
+                        size_t *count);
+
+/* Runs a script by so many schedules, drawn from seed, the next number and so on, and tells a line with the verdict on each.
+ * BAD_CHOICE, where there are not 1 to 10,000 runs, or seed is 2^63 or more. */
+uint8_t atomfs_seeds(const char *script, size_t length, uint64_t seed, uint64_t runs, char *out, size_t room, size_t *count);
+
+/* Tells what the word of a fault means, as BadHex or WrongReply, and what to write instead. OK, TOO_SMALL; BAD_CHOICE, where it is
+ * none. */
+uint8_t atomfs_explain(const char *word, size_t length, char *out, size_t room, size_t *count);
 
 /* ---- A tree that threads share
  *

@@ -45,6 +45,11 @@ uint8_t PROVED(call)(atomfs *, uint64_t, const char *, size_t, char *, size_t, s
 uint8_t PROVED(reply)(atomfs *, uint64_t, char *, size_t, size_t *);
 uint8_t PROVED(run)(const char *, size_t, char *, size_t, size_t *);
 uint8_t PROVED(check)(const char *, size_t, char *, size_t, size_t *);
+uint8_t PROVED(trace)(const char *, size_t, uint8_t, uint64_t, uint8_t, char *, size_t, size_t *);
+uint8_t PROVED(draw)(const char *, size_t, uint8_t, uint64_t, uint64_t, char *, size_t, size_t *);
+uint8_t PROVED(schedule)(const char *, size_t, uint8_t, uint64_t, char *, size_t, size_t *);
+uint8_t PROVED(seeds)(const char *, size_t, uint64_t, uint64_t, char *, size_t, size_t *);
+uint8_t PROVED(explain)(const char *, size_t, char *, size_t, size_t *);
 uint8_t PROVED(check_path)(const char *, size_t, uint8_t);
 
 /* What stands at null for no bytes: nothing reads or writes it. */
@@ -275,16 +280,49 @@ uint8_t atomfs_reply(atomfs *fs, uint64_t number, char *out, size_t room, size_t
     return refused(status) ? status : PROVED(reply)(fs, number, into(out), room, count);
 }
 
+/* Of one that makes a text of a text. */
+static uint8_t may_make(const char *text, size_t length, const char *out, size_t room, const size_t *count) {
+    uint8_t status;
+    if (refused(status = bytes_there(text, length)) || refused(status = bytes_there(out, room))) return status;
+    return there(count);
+}
+
 #define ON_TEXT(name)                                                                                                  \
     uint8_t atomfs_##name(const char *text, size_t length, char *out, size_t room, size_t *count) {                    \
-        uint8_t status;                                                                                                \
-        if (refused(status = bytes_there(text, length)) || refused(status = bytes_there(out, room))) return status;    \
-        if (refused(status = there(count))) return status;                                                             \
-        return PROVED(name)(from(text), length, into(out), room, count);                                               \
+        uint8_t status = may_make(text, length, out, room, count);                                                     \
+        return refused(status) ? status : PROVED(name)(from(text), length, into(out), room, count);                    \
     }
 
 ON_TEXT(run)
 ON_TEXT(check)
+ON_TEXT(explain)
+
+uint8_t atomfs_trace(const char *script, size_t length, uint8_t schedule, uint64_t seed, uint8_t every, char *out,
+                     size_t room, size_t *count) {
+    uint8_t status = may_make(script, length, out, room, count);
+    if (refused(status)) return status;
+    return PROVED(trace)(from(script), length, schedule, seed, every, into(out), room, count);
+}
+
+uint8_t atomfs_draw(const char *text, size_t length, uint8_t schedule, uint64_t seed, uint64_t around, char *out, size_t room,
+                    size_t *count) {
+    uint8_t status = may_make(text, length, out, room, count);
+    if (refused(status)) return status;
+    return PROVED(draw)(from(text), length, schedule, seed, around, into(out), room, count);
+}
+
+uint8_t atomfs_schedule(const char *script, size_t length, uint8_t schedule, uint64_t seed, char *out, size_t room,
+                        size_t *count) {
+    uint8_t status = may_make(script, length, out, room, count);
+    if (refused(status)) return status;
+    return PROVED(schedule)(from(script), length, schedule, seed, into(out), room, count);
+}
+
+uint8_t atomfs_seeds(const char *script, size_t length, uint64_t seed, uint64_t runs, char *out, size_t room, size_t *count) {
+    uint8_t status = may_make(script, length, out, room, count);
+    if (refused(status)) return status;
+    return PROVED(seeds)(from(script), length, seed, runs, into(out), room, count);
+}
 
 uint8_t atomfs_check_path(const char *path, size_t length, uint8_t version) {
     uint8_t status = bytes_there(path, length);
@@ -361,6 +399,8 @@ const char *atomfs_status_text(uint8_t status) {
     case ATOMFS_PATH_TOO_MANY_NAMES: return "the path has more than 64 names";
     case ATOMFS_PATH_DOT: return "a name of the path is . or ..";
     case ATOMFS_PATH_TRAILING_SLASH: return "the path ends with a slash";
+    case ATOMFS_NO_CALL: return "no call has this number";
+    case ATOMFS_BAD_CHOICE: return "no schedule, number or word that there is";
     default: return failed_text(status);
     }
 }

@@ -1,3 +1,3 @@
 pub mod Handles
-pub mod Requests
 pub mod Exports
+pub mod Tools

@@ -2,15 +2,17 @@
 
 ghost use Rattle.std.specs.Prelude.{◌≡◌, ◌≤◌, ◌<◌, ◌⊎◌, length};
 ghost use Rattle.fs_embed.specs.Requests.{asked, call_in};
+ghost use Rattle.fs_embed.specs.Numbered.{asked_by};
 ghost use Rattle.fs_embed.specs.Calls.{StepsAs};
-ghost use Rattle.fs_embed.specs.Statuses.{IsRefusal, IsOfBegin, IsToldWhy};
-ghost use Rattle.atomfs_c.specs.Requests.{asked_by};
+ghost use Rattle.fs_embed.specs.Statuses.{IsRefusal, IsOfBegin};
 ghost use Rattle.atomfs_c.specs.Exports.{Goes, ToldIfClosed, IsLawful, IsSpelled, IsBegun, StepsAny, Comes, to_keep};
 
-use crate::handles::{Handle, put, take, to_keep};
+use crate::handles::{Handle, put, take};
 use fs_calls::Reply;
-use fs_embed::status::{CLOSED, NO_SEAT, OK, WAITS, begin_status};
-use fs_embed::{NotReturned, Request, begin_kept, run_kept, step_any, step_seat};
+use fs_embed::numbered::{request_of, to_keep};
+use fs_embed::status::{CLOSED, NO_SEAT, OK, begin_status};
+use fs_embed::told::tell_why;
+use fs_embed::{Request, begin_kept, run_kept, step_any, step_seat};
 use fs_names::SeatNo;
 use std::alloc::Global;
 
@@ -53,33 +55,6 @@ pub extern "C" fn atomfs_begin(
     ensures keeps { handle.new.most ≡ handle.old.most }
 {
     begin(alloc, handle, seat, Request::Line(line), number)
-}
-
-/// The call that a number and what may stand with it ask for.
-fn request_of<'a>(
-    call: u8,
-    path: &'a [u8],
-    other: &'a [u8],
-    off: u64,
-    size: u64,
-    bytes: &'a [u8],
-) -> Request<'a>
-    ensures { asked result ≡ asked_by call path.now other.now off size bytes.now }
-{
-    match call {
-        0 => Request::Mkdir(path),
-        1 => Request::Mknod(path),
-        2 => Request::Unlink(path),
-        3 => Request::Rmdir(path),
-        4 => Request::Rename(path, other),
-        5 => Request::Exchange(path, other),
-        6 => Request::Stat(path),
-        7 => Request::Readdir(path),
-        8 => Request::Read(path, off, size),
-        9 => Request::Write(path, off, bytes),
-        10 => Request::Truncate(path, size),
-        _ => Request::Nothing,
-    }
 }
 
 /// Begins the call that a number and what may stand with it ask for on a seat, and tells its number.
@@ -172,19 +147,6 @@ pub extern "C" fn atomfs_step_any(
         }
     }
     OK
-}
-
-/// Tells why a call did not return, and the number of one that is under way.
-fn tell_why(why: &NotReturned, number: &mut u64) -> u8
-    ensures { IsToldWhy why.now result number.new }
-{
-    match why {
-        NotReturned::Waits(call, _) => {
-            *number = call.get();
-            WAITS
-        }
-        NotReturned::NotBegun(why) => begin_status(*why),
-    }
 }
 
 /// Runs the call that is asked for behind a handle, from its begin to its return, and tells its number. The error is the

@@ -3,15 +3,15 @@
 ghost use Rattle.std.specs.Prelude.{◌≡◌, ◌≢◌, ◌<◌, ◌⊎◌, IsSomeAnd};
 ghost use Rattle.fs_core.specs.Checkpoints.{IsWhyNot};
 ghost use Rattle.fs_script.specs.Journals.{opening, journal_text};
-ghost use Rattle.fs_embed.specs.Keeping.{IsForgotten, calls};
+ghost use Rattle.fs_embed.specs.Keeping.{calls};
 ghost use Rattle.atomfs_c.specs.Exports.{Goes, ToldIfClosed, IsLawful, IsSpelled, IsTooLong, Tells, IsHanded};
-ghost use Rattle.fs_embed.specs.Statuses.{IsOfText, IsToldWhyNot};
+ghost use Rattle.fs_embed.specs.Statuses.{IsOfText};
 
 use crate::handles::{Handle, put, take};
-use crate::told::tell;
-use fs_core::{Core, NoCheckpoint};
+use fs_core::NoCheckpoint;
 use fs_embed::status::{CLOSED, NO_MEMORY, OK, TOO_SMALL, UNDER_WAY, UNTOLD};
-use fs_embed::{opening_text, whole_journal};
+use fs_embed::told::tell;
+use fs_embed::{hand_out, opening_text};
 use std::alloc::Global;
 
 /// Tells what stands before the first entry of the journal: its header, and the tree at which it starts where that is more
@@ -38,67 +38,6 @@ pub extern "C" fn atomfs_opening(
         Ok(text) => tell(text.as_slice(), out, count),
         Err(_) => NO_MEMORY,
     }
-}
-
-/// Tells why a journal did not begin again, and the least number of a call under way.
-pub fn tell_why_not(why: &NoCheckpoint, number: &mut u64) -> u8
-    ensures { IsToldWhyNot why.now result number.new }
-{
-    match why {
-        NoCheckpoint::UnderWay(call) => {
-            *number = call.get();
-            UNDER_WAY
-        }
-        NoCheckpoint::OutOfMemory => NO_MEMORY,
-    }
-}
-
-/// Begins the journal again at the tree as it stands, gives the memory of its entries back, and tells how many calls they were
-/// of. The number of the reason why it did not, where it did not.
-pub fn again(alloc: Global, core: &mut Core, number: &mut u64) -> u8
-    ensures again { result ≡ OK → IsForgotten core.old core.new }
-    ensures calls { result ≡ OK → number.new ≡ calls core.old }
-    ensures same { result ≢ OK → core.new ≡ core.old }
-    ensures under_way { result ≡ UNDER_WAY → IsWhyNot core.old (NoCheckpoint.UnderWay number.new) }
-    ensures only { (result ≡ OK) ⊎ (result ≡ UNDER_WAY) ⊎ (result ≡ NO_MEMORY) }
-{
-    match core.forget(alloc) {
-        Ok(calls) => {
-            *number = calls;
-            OK
-        }
-        Err(why) => tell_why_not(&why, number),
-    }
-}
-
-/// Hands the whole journal of a core out, and begins it again. By any number but `OK` nothing has changed.
-fn hand_out(
-    alloc: Global,
-    core: &mut Core,
-    out: &mut [u8],
-    count: &mut usize,
-    number: &mut u64,
-) -> u8
-    ensures handed { result ≡ OK → IsHanded core.old core.new count.new out.old out.new }
-    ensures calls { result ≡ OK → number.new ≡ calls core.old }
-    ensures same { result ≢ OK → core.new ≡ core.old }
-    ensures too_small { result ≡ TOO_SMALL → IsTooLong (journal_text core.old.start core.old.timeline) count.new out.old out.new }
-    ensures under_way { result ≡ UNDER_WAY → IsWhyNot core.old (NoCheckpoint.UnderWay number.new) }
-    ensures only { IsOfText result ⊎ (result ≡ UNDER_WAY) }
-    ensures other { result ≢ CLOSED }
-{
-    let Ok(text) = whole_journal(alloc, core) else {
-        return NO_MEMORY;
-    };
-    if out.len() < text.len() {
-        *count = text.len();
-        return TOO_SMALL;
-    }
-    let status = again(alloc, core, number);
-    if status == OK {
-        return tell(text.as_slice(), out, count);
-    }
-    status
 }
 
 /// Hands the whole journal out as a text, begins it again at the tree as it stands, and tells how many calls it had.

@@ -6,11 +6,11 @@ ghost use Rattle.fs_core.specs.Checkpoints.{IsWhyNot};
 ghost use Rattle.fs_embed.specs.Keeping.{IsForgotten, calls};
 ghost use Rattle.atomfs_c.specs.Exports.{Goes, ToldIfClosed, IsLawful, IsSpelled, IsToldVerdict};
 
-use crate::checkpoint::again;
 use crate::handles::{Handle, put, take};
-use crate::told::tell_verdict;
 use fs_core::NoCheckpoint;
+use fs_embed::again;
 use fs_embed::status::{CLOSED, NO_MEMORY, OK, UNDER_WAY};
+use fs_embed::told::tell_verdict;
 use std::alloc::Global;
 
 /// Tells the verdict on the entries as they stand: the place of the first that does not fit and what is wrong with it, or 0 and 0.

@@ -5,18 +5,17 @@ ghost use Rattle.fs_names.specs.declared.limits.TheConstants.{NODE_LIMIT};
 ghost use Rattle.fs_names.specs.declared.limits.Limits.TheVariants as Limits;
 ghost use Rattle.fs_core.specs.CoreValues.{state_of};
 ghost use Rattle.fs_embed.specs.Statuses.{IsOfOpen};
-ghost use Rattle.atomfs_c.specs.Exports.{IsNotToOpen, IsOpened, limits_of, to_keep, Goes, ToldIfClosed, IsLawful, IsSpelled};
+ghost use Rattle.fs_embed.specs.declared.numbered.TheConstants.{KEEP_ALL};
+ghost use Rattle.atomfs_c.specs.Exports.{IsNotToOpen, IsOpened, limits_of, Goes, ToldIfClosed, IsLawful, IsSpelled};
 
 use crate::held::Held;
 use crate::parts::Parts;
 use fs_core::Core;
+use fs_embed::numbered::{KEEP_ALL, limits_of};
 use fs_embed::status::{ALREADY_OPEN, BAD_LIMIT, BAD_VERSION, CLOSED, NO_MEMORY, OK};
 use fs_names::{Limits, NODE_LIMIT};
 use std::alloc::Global;
 use std::mem;
-
-/// By this number all calls are kept.
-pub const KEEP_ALL: u32 = 4_294_967_295;
 
 /// A handle: whether it is open, how many calls its core keeps, and the core, where it is open.
 #[repr(C)]
@@ -67,27 +66,6 @@ pub fn put(handle: &mut Handle, core: Box<Core>)
         most: handle.most,
         held: Held::of_parts(Parts::of(core)),
     };
-}
-
-/// The limits of names and files that have a version.
-pub fn limits_of(version: u8) -> Option<Limits>
-    ensures { result ≡ limits_of version }
-{
-    match version {
-        1 => Some(Limits::V1),
-        2 => Some(Limits::V2),
-        _ => None,
-    }
-}
-
-/// How many calls a core is to keep by a number.
-pub fn to_keep(most: u32) -> Option<u64>
-    ensures { result ≡ to_keep most }
-{
-    if most == KEEP_ALL {
-        return None;
-    }
-    Some(most as u64)
 }
 
 /// Gives a closed handle a core, all calls of which are kept.

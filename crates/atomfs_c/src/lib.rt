@@ -6,10 +6,9 @@
 //! (`lawful`), and that the nodes spell the tree of its commits at rest (`spelled`). Each refuses a closed handle, and says
 //! which statuses it answers (`only`).
 //!
-//! Enter at `handles`, `calls`, `texts` and `runs`, which have the exports; `embed/atomfs.h` declares them for C. In
-//! `specs/`: `Handles` says what a handle owns, `Exports` what the clauses say; `Statuses` of
-//! `fs_embed` which number each answer has.
-//! `docs/EMBEDDING.md` has what a C caller must keep to.
+//! Enter at `handles`, `starting`, `calls`, `texts`, `runs` and `tools`, which have the exports; `embed/atomfs.h` declares them for
+//! C. In `specs/`: `Handles` says what a handle owns, `Exports` and `Tools` what the clauses say; `Told` and `Statuses` of `fs_embed`
+//! what is told by which number. `docs/EMBEDDING.md` has what a C caller must keep to.
 #![tactic(auto)]
 
 mod calls;
@@ -22,5 +21,5 @@ mod replies;
 mod runs;
 mod starting;
 mod texts;
-mod told;
+mod tools;
 mod typed;

@@ -1,39 +1,17 @@
 //! The exports that tell the reply of a call that has returned.
 
-ghost use Rattle.std.specs.Prelude.{◌≡◌, ◌≢◌, ◌⊎◌, Some, MatchOption};
-ghost use Rattle.fs_embed.specs.Texts.{IsReply, HasNoReply};
+ghost use Rattle.std.specs.Prelude.{◌≡◌, ◌⊎◌};
 ghost use Rattle.fs_embed.specs.Statuses.{IsOfReply};
-ghost use Rattle.atomfs_c.specs.Exports.{ToldIfClosed, IsReplied, IsToldText, IsToldStat, IsToldNames, IsToldBytes, IsToldWrote, IsToldBehind, done_status};
+ghost use Rattle.atomfs_c.specs.Exports.{ToldIfClosed, IsReplied, IsToldText, IsToldStat, IsToldBytes, IsToldWrote, IsToldBehind, done_status};
 
 use crate::handles::{Handle, put, take};
-use crate::told::{Stat, tell, tell_behind, tell_bytes, tell_done, tell_stat, tell_wrote};
-use fs_calls::Reply;
-use fs_core::Core;
-use fs_embed::status::{CLOSED, NO_MEMORY, NO_REPLY};
-use fs_embed::{find_reply, reply_text};
-use fs_names::CallNo;
+use fs_embed::replies::{
+    tell_reply, tell_reply_bytes, tell_reply_done, tell_reply_names, tell_reply_stat,
+    tell_reply_wrote,
+};
+use fs_embed::status::{CLOSED, NO_MEMORY};
+use fs_embed::told::Stat;
 use std::alloc::Global;
-
-/// The reply of a call that has returned; `None` where it has not.
-fn reply_of(core: &Core, number: u64) -> Option<&Reply>
-    ensures { MatchOption result (HasNoReply core.now.timeline number) (λ reply. IsReply core.now.timeline number reply.now) }
-{
-    find_reply(core.timeline(), CallNo::new(number))
-}
-
-fn text_of(alloc: Global, core: &Core, number: u64, out: &mut [u8], count: &mut usize) -> u8
-    ensures replied { IsReplied (Some core.now) (λ reply. IsToldText reply result count.new out.old out.new) number result }
-    ensures only { IsOfReply result ⊎ (result ≡ NO_MEMORY) }
-    ensures other { result ≢ CLOSED }
-{
-    match reply_of(core, number) {
-        Some(reply) => match reply_text(alloc, reply) {
-            Ok(text) => tell(text.as_slice(), out, count),
-            Err(_) => NO_MEMORY,
-        },
-        None => NO_REPLY,
-    }
-}
 
 /// Tells the text of the reply of a call.
 #[unsafe(no_mangle)]
@@ -53,20 +31,9 @@ pub extern "C" fn atomfs_reply(
     let Some(core) = take(alloc, handle) else {
         return CLOSED;
     };
-    let status = text_of(alloc, &core, number, out, count);
+    let status = tell_reply(alloc, &core, number, out, count);
     put(handle, core);
     status
-}
-
-fn done_of(core: &Core, number: u64) -> u8
-    ensures replied { IsReplied (Some core.now) (λ reply. result ≡ done_status reply) number result }
-    ensures only { IsOfReply result }
-    ensures other { result ≢ CLOSED }
-{
-    match reply_of(core, number) {
-        Some(reply) => tell_done(reply),
-        None => NO_REPLY,
-    }
 }
 
 /// Tells that a call is done which answers no more.
@@ -81,20 +48,9 @@ pub extern "C" fn atomfs_reply_done(alloc: Global, handle: &mut Handle, number: 
     let Some(core) = take(alloc, handle) else {
         return CLOSED;
     };
-    let status = done_of(&core, number);
+    let status = tell_reply_done(&core, number);
     put(handle, core);
     status
-}
-
-fn stat_of(core: &Core, number: u64, stat: &mut Stat) -> u8
-    ensures replied { IsReplied (Some core.now) (λ reply. IsToldStat reply result stat.new) number result }
-    ensures only { IsOfReply result }
-    ensures other { result ≢ CLOSED }
-{
-    match reply_of(core, number) {
-        Some(reply) => tell_stat(reply, stat),
-        None => NO_REPLY,
-    }
 }
 
 /// Tells the reply of a stat.
@@ -114,27 +70,9 @@ pub extern "C" fn atomfs_reply_stat(
     let Some(core) = take(alloc, handle) else {
         return CLOSED;
     };
-    let status = stat_of(&core, number, stat);
+    let status = tell_reply_stat(&core, number, stat);
     put(handle, core);
     status
-}
-
-fn names_of(
-    alloc: Global,
-    core: &Core,
-    number: u64,
-    after: &[u8],
-    out: &mut [u8],
-    count: &mut usize,
-) -> u8
-    ensures replied { IsReplied (Some core.now) (λ reply. IsToldBehind reply after.now result count.new out.old out.new) number result }
-    ensures only { IsOfReply result }
-    ensures other { result ≢ CLOSED }
-{
-    match reply_of(core, number) {
-        Some(reply) => tell_behind(alloc, reply, after, out, count),
-        None => NO_REPLY,
-    }
 }
 
 /// Tells the names of a readdir that come behind one, as many as there is room for.
@@ -156,20 +94,9 @@ pub extern "C" fn atomfs_reply_names(
     let Some(core) = take(alloc, handle) else {
         return CLOSED;
     };
-    let status = names_of(alloc, &core, number, after, out, count);
+    let status = tell_reply_names(alloc, &core, number, after, out, count);
     put(handle, core);
     status
-}
-
-fn bytes_of(core: &Core, number: u64, out: &mut [u8], count: &mut usize) -> u8
-    ensures replied { IsReplied (Some core.now) (λ reply. IsToldBytes reply result count.new out.old out.new) number result }
-    ensures only { IsOfReply result }
-    ensures other { result ≢ CLOSED }
-{
-    match reply_of(core, number) {
-        Some(reply) => tell_bytes(reply, out, count),
-        None => NO_REPLY,
-    }
 }
 
 /// Tells the bytes of a read.
@@ -190,20 +117,9 @@ pub extern "C" fn atomfs_reply_bytes(
     let Some(core) = take(alloc, handle) else {
         return CLOSED;
     };
-    let status = bytes_of(&core, number, out, count);
+    let status = tell_reply_bytes(&core, number, out, count);
     put(handle, core);
     status
-}
-
-fn wrote_of(core: &Core, number: u64, wrote: &mut u64) -> u8
-    ensures replied { IsReplied (Some core.now) (λ reply. IsToldWrote reply result wrote.new) number result }
-    ensures only { IsOfReply result }
-    ensures other { result ≢ CLOSED }
-{
-    match reply_of(core, number) {
-        Some(reply) => tell_wrote(reply, wrote),
-        None => NO_REPLY,
-    }
 }
 
 /// Tells how many bytes a write wrote.
@@ -223,7 +139,7 @@ pub extern "C" fn atomfs_reply_wrote(
     let Some(core) = take(alloc, handle) else {
         return CLOSED;
     };
-    let status = wrote_of(&core, number, wrote);
+    let status = tell_reply_wrote(&core, number, wrote);
     put(handle, core);
     status
 }

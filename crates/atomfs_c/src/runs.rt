@@ -6,34 +6,14 @@ ghost use Rattle.fs_sched.specs.Checks.{verdict_line, verdict_of};
 ghost use Rattle.fs_sched.specs.EachRun.{AreOfTheRun};
 ghost use Rattle.fs_sched.specs.declared.running.RunEnd.{RunEnd};
 ghost use Rattle.atomfs_c.specs.Exports.{Tells, TellsPath, limits_of};
-ghost use Rattle.fs_embed.specs.Statuses.{IsRefusal, IsToldFault, TellsFault, TellsNoRun};
+ghost use Rattle.fs_embed.specs.Statuses.{IsRefusal, TellsFault, TellsNoRun};
 
-use crate::handles::limits_of;
-use crate::told::tell;
+use fs_embed::numbered::limits_of;
 use fs_embed::path_fault;
-use fs_embed::status::{
-    BAD_VERSION, CLOSED, NO_MEMORY, OK, UNDER_WAY, UNTOLD, fault_status, path_status,
-};
-use fs_sched::{RunFault, Schedule, check_bytes, run_bytes};
+use fs_embed::status::{BAD_VERSION, CLOSED, NO_MEMORY, OK, UNTOLD, path_status};
+use fs_embed::told::{tell, tell_fault};
+use fs_sched::{Schedule, check_bytes, run_bytes};
 use std::alloc::Global;
-
-/// Tells why a run has no text: its number, and the line of a fault of the input, or the number of a call under way.
-fn tell_fault(fault: RunFault, count: &mut usize) -> u8
-    ensures told { IsToldFault fault result count.new }
-    ensures refused { IsRefusal result }
-{
-    match fault {
-        RunFault::Input(fault) => {
-            *count = fault.line as usize;
-            fault_status(fault.kind)
-        }
-        RunFault::UnderWay(call) => {
-            *count = call.get() as usize;
-            UNDER_WAY
-        }
-        _ => NO_MEMORY,
-    }
-}
 
 /// Runs a script by its own schedule, and tells its run text, as `atomfs run` prints it. Where the script has a fault its
 /// line is told in the place of a length, and where it asks for a checkpoint too early the number of a call under way.

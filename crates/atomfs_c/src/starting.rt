@@ -11,12 +11,13 @@ ghost use Rattle.fs_timeline.specs.Timeline.{commits};
 ghost use Rattle.fs_script.specs.Journals.{start_of};
 ghost use Rattle.fs_embed.specs.Statuses.{IsRefusal, IsToldWhyNot, fault_status};
 ghost use Rattle.atomfs_c.specs.Exports.{IsNotToOpen, IsOpenedAt, IsToldStart, limits_of};
-ghost use Rattle.atomfs_c.specs.declared.handles.TheConstants.{KEEP_ALL};
+ghost use Rattle.fs_embed.specs.declared.numbered.TheConstants.{KEEP_ALL};
 
-use crate::checkpoint::tell_why_not;
-use crate::handles::{Handle, give, limits_of, not_to_open, put, take};
+use crate::handles::{Handle, give, not_to_open, put, take};
 use fs_core::{Core, NoCheckpoint, NoStart};
+use fs_embed::numbered::limits_of;
 use fs_embed::status::{BAD_VERSION, CLOSED, FULL, NO_MEMORY, OK, UNDER_WAY, fault_status};
+use fs_embed::tell_why_not;
 use fs_script::read_start;
 use fs_seq::SeqTree;
 use std::alloc::Global;

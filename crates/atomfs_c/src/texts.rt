@@ -7,9 +7,9 @@ ghost use Rattle.fs_embed.specs.Statuses.{IsOfText};
 ghost use Rattle.atomfs_c.specs.Exports.{ToldIfClosed, Tells};
 
 use crate::handles::{Handle, put, take};
-use crate::told::tell;
 use fs_core::Core;
 use fs_embed::status::{CLOSED, NO_MEMORY, UNTOLD};
+use fs_embed::told::tell;
 use fs_embed::{journal_text, tree_text};
 use std::alloc::{AllocError, Global};
 

@@ -9,8 +9,8 @@ ghost use Rattle.atomfs_c.specs.Exports.{IsLawful, IsSpelled, IsCalled, IsToldTe
 
 use crate::calls::run;
 use crate::handles::Handle;
-use crate::told::{Stat, tell_bytes, tell_done, tell_names, tell_stat, tell_text, tell_wrote};
 use fs_embed::Request;
+use fs_embed::told::{Stat, tell_bytes, tell_done, tell_names, tell_stat, tell_text, tell_wrote};
 use std::alloc::Global;
 
 /// Runs a call that answers no more than that it is done.

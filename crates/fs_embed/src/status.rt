@@ -87,7 +87,7 @@ pub const BAD_REPLY: u8 = 26;
 /// The start tree of a journal is none.
 pub const BAD_START: u8 = 27;
 
-/// A path does not begin with a slash. The numbers from here on say why bytes are no path: the check of a path alone answers
+/// A path does not begin with a slash. The numbers from here to 33 say why bytes are no path: the check of a path alone answers
 /// them, and every other function `BAD_PATH`.
 pub const PATH_NOT_ABSOLUTE: u8 = 28;
 
@@ -105,6 +105,12 @@ pub const PATH_DOT: u8 = 32;
 
 /// A path has a name, and ends with a slash.
 pub const PATH_TRAILING_SLASH: u8 = 33;
+
+/// No call has the number around which is to be drawn.
+pub const NO_CALL: u8 = 34;
+
+/// A number or a word that is handed in is none of those that the function takes.
+pub const BAD_CHOICE: u8 = 35;
 
 /// The call returned with an error: this and Linux's number of the error.
 pub const FAILED: u8 = 128;

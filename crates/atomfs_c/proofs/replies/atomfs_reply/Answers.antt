@@ -5,4 +5,4 @@ use Rattle.atomfs_c.proofs.replies.atomfs_reply.Goals as goal
 pub returns-clause-replied : goal.returns-clause-replied
 returns-clause-replied c =
     let is : c.args.handle.now.held.core ≡ Some c.deref.result.now = search rules in
-    behind c.args.handle.now.held.core c.deref.result.now is c.text_of-status.ensures.replied
+    behind c.args.handle.now.held.core c.deref.result.now is c.tell_reply-status.ensures.replied

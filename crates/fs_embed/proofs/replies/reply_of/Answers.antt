@@ -1,4 +1,4 @@
-use Rattle.atomfs_c.proofs.replies.reply_of.Goals as goal
+use Rattle.fs_embed.proofs.replies.reply_of.Goals as goal
 
 pub returns : goal.returns
 returns c = rw (c.timeline.ensures, c.new.ensures) at c.find_reply.ensures

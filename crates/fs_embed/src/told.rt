@@ -1,13 +1,18 @@
-//! What tells a reply in a caller's memory.
+//! What tells replies, verdicts and faults in a caller's memory.
 
 ghost use Rattle.std.specs.Prelude.{◌≡◌, ◌<◌, length};
-ghost use Rattle.fs_embed.specs.Statuses.{IsReturned};
-ghost use Rattle.atomfs_c.specs.Exports.{Tells, IsToldText, IsToldStat, IsToldNames, IsToldBytes, IsToldWrote, IsToldBehind, IsToldVerdict, done_status, is_dir, kind_number};
+ghost use Rattle.fs_embed.specs.Statuses.{IsReturned, IsRefusal, IsToldFault, IsToldWhy};
+ghost use Rattle.fs_embed.specs.Told.{Tells, IsToldText, IsToldStat, IsToldNames, IsToldBytes, IsToldWrote, IsToldBehind, IsToldVerdict, done_status, is_dir, kind_number};
 
+use crate::calls::NotReturned;
+use crate::names::{names_behind, names_text};
+use crate::status::{
+    NO_MEMORY, OK, TOO_SMALL, UNDER_WAY, UNTOLD, WAITS, begin_status, failed_status, fault_status,
+};
+use crate::texts::{copy_out, reply_text};
 use fs_calls::Reply;
-use fs_embed::status::{OK, TOO_SMALL, UNTOLD, failed_status};
-use fs_embed::{copy_out, names_behind, names_text, reply_text};
 use fs_names::Kind;
+use fs_sched::RunFault;
 use fs_timeline::{FaultKind, Verdict};
 use std::alloc::Global;
 
@@ -167,4 +172,35 @@ pub fn tell_verdict(verdict: &Verdict, place: &mut u64, kind: &mut u8)
         Verdict::Lawful => (0, 0),
         Verdict::Fault(at, why) => (*at as u64, kind_number(*why)),
     };
+}
+
+/// Tells why a call did not return, and the number of one that is under way.
+pub fn tell_why(why: &NotReturned, number: &mut u64) -> u8
+    ensures { IsToldWhy why.now result number.new }
+{
+    match why {
+        NotReturned::Waits(call, _) => {
+            *number = call.get();
+            WAITS
+        }
+        NotReturned::NotBegun(why) => begin_status(*why),
+    }
+}
+
+/// Tells why a run has no text: its number, and the line of a fault of the input, or the number of a call under way.
+pub fn tell_fault(fault: RunFault, count: &mut usize) -> u8
+    ensures told { IsToldFault fault result count.new }
+    ensures refused { IsRefusal result }
+{
+    match fault {
+        RunFault::Input(fault) => {
+            *count = fault.line as usize;
+            fault_status(fault.kind)
+        }
+        RunFault::UnderWay(call) => {
+            *count = call.get() as usize;
+            UNDER_WAY
+        }
+        _ => NO_MEMORY,
+    }
 }
