@@ -2,13 +2,11 @@
 
 use crate::transcript::shown;
 use anyhow::{Result, bail, ensure};
-use fs_calls::{Bytes, Call, NameList, Reply};
-use fs_names::{Limits, Name};
-use fs_text::calls::call_at;
-use fs_text::lines::cut_words;
+use check_cores::spelled::{calls_of, reply_in, return_of};
+use fs_calls::{Bytes, NameList, Reply};
+use fs_names::Name;
+use fs_text::Addition;
 use fs_text::words::parts;
-use fs_text::{Addition, read_entries};
-use fs_timeline::Entry;
 use std::alloc::{AllocError, Global};
 
 /// What stands before and behind ` = `.
@@ -19,48 +17,12 @@ fn sides(text: &str) -> Result<(&str, &str)> {
     }
 }
 
-/// The call that a text spells.
-fn call_of(alloc: Global, text: &str) -> Result<Call> {
-    let mut words = Vec::new(alloc);
-    cut_words(text.as_bytes(), &mut words)?;
-    Ok(call_at(alloc, Limits::V1, &words)?)
-}
-
-/// The calls that texts spell.
-pub fn calls_of(alloc: Global, texts: &[&str]) -> Result<Vec<Call>> {
-    let mut calls = Vec::new(alloc);
-    for text in texts {
-        calls.push(call_of(alloc, text)?)?;
-    }
-    Ok(calls)
-}
-
 /// Whether two calls are the same.
 pub fn calls(alloc: Global, text: &str) -> Result<String> {
     let (first, second) = sides(text)?;
     let calls = calls_of(alloc, &[first, second])?;
     let is_same = matches!(calls.as_slice(), [first, second] if second.same(first));
     Ok(format!(in alloc; "{is_same}")?)
-}
-
-/// The entry of a return with the reply that a text spells.
-fn return_of(alloc: Global, text: &str) -> Result<Vec<Entry>> {
-    let line = format!(in alloc; "atomfs-journal 1\nreturn 1 {text}\n")?;
-    Ok(read_entries(alloc, line.as_bytes())?)
-}
-
-/// The reply of a return.
-fn reply_in(entries: &[Entry]) -> Result<&Reply> {
-    match entries.last() {
-        Some(Entry::Return(_, reply)) => Ok(reply),
-        _ => bail!("no reply"),
-    }
-}
-
-/// Whether a reply is the one that a text spells.
-pub fn is_reply(alloc: Global, reply: &Reply, text: &str) -> Result<bool> {
-    let due = return_of(alloc, text)?;
-    Ok(reply_in(&due)?.same(reply))
 }
 
 /// Whether two replies are the same.

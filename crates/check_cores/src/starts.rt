@@ -7,7 +7,7 @@ ghost use Rattle.fs_names.specs.declared.limits.TheConstants.{NODE_LIMIT};
 use crate::checkpoints::end;
 use crate::cores::{take_seats, tell};
 use crate::rows::{A, A_F, B, Line, ROOT, rows_of, tells};
-use crate::words::{calls_of, is_reply};
+use crate::spelled::{calls_of, is_reply};
 use anyhow::{Result, bail, ensure};
 use fs_core::{Core, NoStart, Refusal};
 use fs_names::{Kind, Limits, NODE_LIMIT, SeatNo};
@@ -108,17 +108,32 @@ fn go_on(alloc: Global, core: &mut Core) -> Result<()>
     Ok(())
 }
 
-/// A second core begins where the first one stands, unless it is for fewer nodes than there are.
+/// A second core for so many nodes, which begins where the first one stands.
+fn second_of(alloc: Global, core: &Core, limit: usize) -> Result<Result<Core, NoStart>>
+    requires least { 1 ≤ limit }
+    requires most { limit ≤ NODE_LIMIT }
+{
+    match core.prepare(alloc) {
+        Ok(start) => Ok(Core::from_tree(alloc, start, limit)),
+        Err(_) => bail!("a tree where it stands"),
+    }
+}
+
+/// It has the nodes of the first one, and no seats.
 fn begin_second(alloc: Global, core: &Core, rows: &[Row]) -> Result<()> {
-    let (Ok(start), Ok(other)) = (core.prepare(alloc), core.prepare(alloc)) else {
-        bail!("a tree where it stands");
-    };
-    let Ok(second) = Core::from_tree(alloc, start, 6) else {
-        bail!("a second core");
-    };
-    ensure!(second.seats() == 0, "no seats");
-    ensure!(begins_at(alloc, &second, rows)?, "the same tree");
-    let why = Core::from_tree(alloc, other, 5).err();
+    match second_of(alloc, core, 6)? {
+        Ok(second) => ensure!(
+            second.seats() == 0 && begins_at(alloc, &second, rows)?,
+            "the same tree, and no seats"
+        ),
+        Err(_) => bail!("a second core"),
+    }
+    Ok(())
+}
+
+/// There is none for fewer nodes than there are.
+fn refuse_second(alloc: Global, core: &Core) -> Result<()> {
+    let why = second_of(alloc, core, 5)?.err();
     ensure!(why == Some(NoStart::TooManyNodes), "a node too many");
     Ok(())
 }
@@ -139,6 +154,7 @@ fn compare_on(alloc: Global, core: &mut Core, rows: &[Row], behind: &[Row]) -> R
     take_seats(core)?;
     go_on(alloc, core)?;
     begin_second(alloc, core, behind)?;
+    refuse_second(alloc, core)?;
     begin_again(alloc, core, behind)
 }
 
@@ -175,13 +191,23 @@ fn made(alloc: Global, rows: &[Row], limit: usize) -> Result<Core>
     }
 }
 
+/// A core for as many nodes as there are rows.
+fn compare_full(alloc: Global, rows: &[Row]) -> Result<()> {
+    let mut core = made(alloc, rows, 6)?;
+    fill(alloc, &mut core)
+}
+
+/// A core with room, whose calls leave other rows.
+fn compare_roomy(alloc: Global, rows: &[Row], behind: &[Row]) -> Result<()> {
+    let mut core = made(alloc, rows, NODE_LIMIT)?;
+    compare_on(alloc, &mut core, rows, behind)
+}
+
 /// All of this.
 pub fn compare(alloc: Global) -> Result<()> {
     let rows = rows_of(alloc, &TREE)?;
     refuse(alloc, &rows)?;
-    let mut full = made(alloc, &rows, 6)?;
-    fill(alloc, &mut full)?;
+    compare_full(alloc, &rows)?;
     let behind = rows_of(alloc, &BEHIND)?;
-    let mut core = made(alloc, &rows, NODE_LIMIT)?;
-    compare_on(alloc, &mut core, &rows, &behind)
+    compare_roomy(alloc, &rows, &behind)
 }

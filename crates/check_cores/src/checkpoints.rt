@@ -3,7 +3,7 @@
 ghost use Rattle.std.specs.Prelude.{◌≡◌, length};
 
 use crate::cores::{take_seats, tell};
-use crate::words::calls_of;
+use crate::spelled::calls_of;
 use anyhow::{Result, bail, ensure};
 use fs_calls::{Call, Reply};
 use fs_core::{Core, NoCheckpoint};

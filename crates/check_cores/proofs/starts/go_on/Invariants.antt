@@ -1,5 +1,5 @@
 use Rattle.std.proofs.Common.{◌≡◌, length}
-use Rattle.check_calls.proofs.starts.go_on.Given as goal
+use Rattle.check_cores.proofs.starts.go_on.Given as goal
 
 -- the seats stay
 abbrev pub invariant-loop-call : goal.invariant-loop-call

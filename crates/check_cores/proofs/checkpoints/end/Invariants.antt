@@ -1,5 +1,5 @@
 use Rattle.std.proofs.Common.{◌≡◌, length}
-use Rattle.check_calls.proofs.checkpoints.end.Given as goal
+use Rattle.check_cores.proofs.checkpoints.end.Given as goal
 
 -- the seats stay
 abbrev pub invariant-loop : goal.invariant-loop

@@ -3,7 +3,7 @@
 
 ghost use Rattle.std.specs.Prelude.{◌≡◌, OnOk, length};
 
-use crate::words::calls_of;
+use crate::spelled::calls_of;
 use anyhow::{Result, bail, ensure};
 use fs_calls::Call;
 use fs_core::{Core, Event, Ran, Refusal, Stepped};
