@@ -1,6 +1,6 @@
-//! The program `atomfs`. `atomfs run` runs the script on standard input, `atomfs seeds` runs it by drawn schedules,
-//! `atomfs threads` runs its threads on real ones, `atomfs check` reads a journal there, and `atomfs linearize` a history; each
-//! writes what came of it.
+//! The program `atomfs`. `atomfs run` runs the script on standard input, from the tree in a file if one is named, `atomfs seeds`
+//! runs it by drawn schedules, `atomfs threads` runs its threads on real ones, `atomfs check` reads a journal there, and
+//! `atomfs linearize` a history; each writes what came of it.
 //! `atomfs explain` writes what the words of a message mean.
 //!
 //! `fs_command` reads the command line and has the exit statuses. Each part is proved to mean what its clauses say. The
@@ -14,23 +14,26 @@ ghost use Rattle.fs_command.specs.Commands.{IsWithin};
 mod tests;
 
 use fs_command::{
-    Line, SharedLine, Subcommand, Topic, explanation, parse, report, report_check, report_draw,
-    report_linearize, report_schedule, status_of_run, status_of_unreadable_args, status_of_usage,
-    status_of_verdict,
+    Histories, Line, SharedLine, Subcommand, Topic, explanation, parse, report, report_check,
+    report_draw, report_file, report_from, report_linearize, report_many, report_schedule,
+    status_of_run, status_of_unreadable_args, status_of_usage, status_of_verdict,
 };
 use fs_draw::{DrawFault, draw_input};
-use fs_recorded::linearize_history;
+use fs_recorded::{linearize_history, linearize_many};
 use fs_sched::{
     Device, RunFault, Schedule, Silent, Sink, Source, Witness, check_journal, run_script,
     run_seeds, write_text,
 };
 use fs_share::Open;
+use fs_start::{StartFault, run_from, whole_text};
 use fs_threads::{ThreadsFault, Watch, run_threads};
 use fs_trace::{ScheduleFault, schedule_script, trace_script};
 use std::alloc::Global;
 use std::convert::AsStr;
+use std::fs::File;
 use std::io::{IsTerminal, Read, Stderr, Write};
 use std::process::ExitCode;
+use std::rt::Files;
 use std::sync::Wait;
 use std::thread::Threads;
 use std::time::Clock;
@@ -47,6 +50,24 @@ fn run<R: Source, W: Sink, P: Witness>(
     requires writes { W.failures writer.old < 2 ^ 64 - 1 }
 {
     match run_script(alloc, reader, writer, schedule, progress) {
+        Ok(end) => Ok(status_of_run(&end)),
+        Err(fault) => Err(fault),
+    }
+}
+
+/// Runs a script from the tree that a text has, and answers the status.
+fn run_at<R: Source, W: Sink, P: Witness>(
+    alloc: Global,
+    tree: Vec<u8>,
+    reader: &mut R,
+    writer: &mut W,
+    schedule: Schedule,
+    progress: &mut P,
+) -> Result<u8, StartFault>
+    requires reads { R.failures reader.old < 2 ^ 64 - 1 }
+    requires writes { W.failures writer.old < 2 ^ 64 - 1 }
+{
+    match run_from(alloc, tree, reader, writer, schedule, progress) {
         Ok(end) => Ok(status_of_run(&end)),
         Err(fault) => Err(fault),
     }
@@ -175,6 +196,59 @@ fn run_shown<C: Clock, R: Source, W: Sink>(
     outcome
 }
 
+/// Runs a script from the tree that a text has, and tells on a terminal how far that is.
+fn run_at_shown<C: Clock, R: Source, W: Sink>(
+    clock: &C,
+    alloc: Global,
+    tree: Vec<u8>,
+    reader: &mut R,
+    writer: &mut W,
+    schedule: Schedule,
+    terminal: Option<Stderr>,
+) -> Result<u8, StartFault>
+    requires reads { R.failures reader.old < 2 ^ 64 - 1 }
+    requires writes { W.failures writer.old < 2 ^ 64 - 1 }
+{
+    let Some(errors) = terminal else {
+        return run_at(alloc, tree, reader, writer, schedule, &mut Silent);
+    };
+    let mut line = Line::new(alloc, clock, errors);
+    let outcome = run_at(alloc, tree, reader, writer, schedule, &mut line);
+    line.end();
+    outcome
+}
+
+/// The text of a file. The only faults are those of reading, and out of memory.
+fn file_text<T: Files>(rt: &T, alloc: Global, file: &str) -> Result<Vec<u8>, RunFault> {
+    let Ok(opened) = File::open(rt, file) else {
+        return Err(RunFault::Read);
+    };
+    let mut reader = Device::new(opened);
+    whole_text(alloc, &mut reader)
+}
+
+/// Runs a script from the tree in a file, which is read first, and answers the exit status.
+fn run_at_file<T: Clock + Files, R: Source, W: Sink, E: Write>(
+    rt: &T,
+    alloc: Global,
+    file: &str,
+    reader: &mut R,
+    writer: &mut W,
+    schedule: Schedule,
+    errors: &mut E,
+    terminal: Option<Stderr>,
+) -> u8
+    requires reads { R.failures reader.old < 2 ^ 64 - 1 }
+    requires writes { W.failures writer.old < 2 ^ 64 - 1 }
+{
+    let tree = match file_text(rt, alloc, file) {
+        Ok(tree) => tree,
+        Err(fault) => return report_file(errors, file, fault),
+    };
+    let outcome = run_at_shown(rt, alloc, tree, reader, writer, schedule, terminal);
+    report_from(errors, file, outcome)
+}
+
 /// Makes drawn runs of a script, and tells on a terminal how far they are.
 fn seeds_shown<C: Clock, R: Source, W: Sink>(
     clock: &C,
@@ -220,10 +294,10 @@ fn threads_shown<T: Threads + Wait + Clock + Sync, R: Source, W: Sink>(
 
 /// Does what a subcommand asks for, from a reader to a writer, and answers the exit status. The message of a fault goes
 /// to `errors`. Where these are shown on a terminal, that is told how far a long command is.
-fn perform<T: Threads + Wait + Clock + Sync, R: Source, W: Sink, E: Write>(
+fn perform<T: Threads + Wait + Clock + Files + Sync, R: Source, W: Sink, E: Write>(
     rt: &T,
     alloc: Global,
-    subcommand: &Subcommand,
+    subcommand: &Subcommand<'_>,
     reader: &mut R,
     writer: &mut W,
     errors: &mut E,
@@ -234,13 +308,23 @@ fn perform<T: Threads + Wait + Clock + Sync, R: Source, W: Sink, E: Write>(
     requires writes { W.failures writer.old < 2 ^ 64 - 1 }
 {
     let outcome = match subcommand {
-        Subcommand::Run(order) => run_shown(rt, alloc, reader, writer, *order, terminal),
+        Subcommand::Run(order, None) => run_shown(rt, alloc, reader, writer, *order, terminal),
+        Subcommand::Run(order, Some(file)) => {
+            return run_at_file(rt, alloc, file, reader, writer, *order, errors, terminal);
+        }
         Subcommand::Seeds(first, runs) => {
             seeds_shown(rt, alloc, reader, writer, (*first, *runs), terminal)
         }
         Subcommand::Check => return report_check(errors, check_journal(alloc, reader, writer)),
-        Subcommand::Linearize(limit) => {
-            let outcome = linearize_history(alloc, reader, writer, *limit as usize);
+        Subcommand::Linearize(Histories::Many, limit) => {
+            return report_many(
+                errors,
+                linearize_many(alloc, reader, writer, *limit as usize),
+            );
+        }
+        Subcommand::Linearize(histories, limit) => {
+            let front = *histories == Histories::Front;
+            let outcome = linearize_history(alloc, reader, writer, *limit as usize, front);
             return report_linearize(errors, outcome);
         }
         Subcommand::Explain(first, second) => explain(alloc, writer, *first, *second),
@@ -269,7 +353,7 @@ fn status_of_args<T, S: AsStr, R: Read + Drop, W: Write + Drop, E: Write>(
     terminal: Option<Stderr>,
 ) -> u8
 where
-    T: Threads + Wait + Clock + Sync,
+    T: Threads + Wait + Clock + Files + Sync,
 {
     match parse(alloc, args) {
         Ok(subcommand) => {
@@ -291,7 +375,7 @@ where
 
 /// The same from the arguments of the process. The runtime comes twice: by its own type, and by the right to start threads,
 /// which it has in `main` alone.
-fn exit_status<T: Threads + Wait + Clock + Sync>(rt: &HostRuntime, threads: &T) -> u8 {
+fn exit_status<T: Threads + Wait + Clock + Files + Sync>(rt: &HostRuntime, threads: &T) -> u8 {
     let alloc = rt.alloc();
     let mut errors = rt.stderr();
     let terminal = if errors.is_terminal() {

@@ -7,11 +7,11 @@ use Rattle.fs_command.specs.declared.cli.Subcommand.TheVariants.{Run, Seeds, Thr
 
 -- the word by which a subcommand is asked for
 abbrev pub name_of : Subcommand → List ℕ
-name_of (Run schedule) = codes "run"
+name_of (Run schedule from) = codes "run"
 name_of (Seeds seed runs) = codes "seeds"
 name_of Threads = codes "threads"
 name_of Check = codes "check"
-name_of (Linearize limit) = codes "linearize"
+name_of (Linearize histories limit) = codes "linearize"
 name_of (Trace schedule every) = codes "trace"
 name_of (Draw schedule call) = codes "draw"
 name_of (Schedule schedule) = codes "schedule"
@@ -19,11 +19,11 @@ name_of (Explain first second) = codes "explain"
 
 -- the numbers of drawn runs, and the limit of a search, are within their ranges
 abbrev pub IsWithin : Subcommand → Type 0
-IsWithin (Run schedule) = Unit {0}
+IsWithin (Run schedule from) = Unit {0}
 IsWithin (Seeds seed runs) = (seed ≤ SEED_LIMIT) × (1 ≤ runs) × (runs ≤ RUN_LIMIT)
 IsWithin Threads = Unit {0}
 IsWithin Check = Unit {0}
-IsWithin (Linearize limit) = (1 ≤ limit) × (limit ≤ CONFIGURATION_LIMIT)
+IsWithin (Linearize histories limit) = (1 ≤ limit) × (limit ≤ CONFIGURATION_LIMIT)
 IsWithin (Trace schedule every) = Unit {0}
 IsWithin (Draw schedule call) = Unit {0}
 IsWithin (Schedule schedule) = Unit {0}

@@ -1,15 +1,20 @@
 -- The exit statuses.
-use Rattle.std.specs.Prelude.{ℕ, Bool, ◌==◌, if◌then◌else◌, Result, Ok, Err}
+use Rattle.std.specs.List.{list_any}
+use Rattle.std.specs.Prelude.{ℕ, List, Bool, ◌==◌, if◌then◌else◌, Result, Ok, Err}
 use Rattle.fs_sched.specs.declared.running.RunEnd.{RunEnd}
 use Rattle.fs_sched.specs.Faults.{status_of_fault}
 use Rattle.fs_verdict.specs.declared.checking.Checked.{Checked}
 use Rattle.fs_verdict.specs.declared.fault.RunFault.{RunFault}
+use Rattle.fs_recorded.specs.declared.answer.Linearized.{Linearized}
 use Rattle.fs_recorded.specs.declared.answer.Outcome.{Outcome}
 use Rattle.fs_recorded.specs.declared.answer.Outcome.TheVariants as outcome
+use Rattle.fs_recorded.specs.declared.many.Histories.{Histories}
 use Rattle.fs_threads.specs.declared.fault.ThreadsFault.{ThreadsFault}
 use Rattle.fs_threads.specs.declared.fault.ThreadsFault.TheVariants.{Run, Lists}
 use Rattle.fs_draw.specs.Faults.{status_of_draw}
 use Rattle.fs_draw.specs.declared.fault.DrawFault.{DrawFault}
+use Rattle.fs_start.specs.Faults.{status_of_start}
+use Rattle.fs_start.specs.declared.fault.StartFault.{StartFault}
 use Rattle.fs_trace.specs.Faults.{status_of_schedule}
 use Rattle.fs_trace.specs.declared.fault.ScheduleFault.{ScheduleFault}
 
@@ -35,9 +40,26 @@ status_of_outcome outcome.NoOrder = 1
 status_of_outcome outcome.Fault = 1
 status_of_outcome outcome.Unknown = 4
 
-abbrev pub status_of_linearized : Result Outcome RunFault → ℕ
-status_of_linearized (Ok came) = status_of_outcome came
+abbrev pub status_of_linearized : Result Linearized RunFault → ℕ
+status_of_linearized (Ok told) = status_of_outcome told.outcome
 status_of_linearized (Err fault) = status_of_fault fault
+
+-- whether one of them came to this status
+abbrev pub has_status : ℕ → List Outcome → Bool
+has_status status outcomes = list_any (λ o. status_of_outcome o == status) outcomes
+
+-- the status of histories: 1 where no journal explains one of them, else 4 where the limit was reached, else success
+abbrev pub status_of_outcomes : List Outcome → ℕ
+status_of_outcomes outcomes = if has_status 1 outcomes then 1 else (if has_status 4 outcomes then 4 else 0)
+
+abbrev pub status_of_many : Result Histories RunFault → ℕ
+status_of_many (Ok told) = status_of_outcomes told.outcomes.items
+status_of_many (Err fault) = status_of_fault fault
+
+-- the same of a run from a tree
+abbrev pub status_of_started : Result ℕ StartFault → ℕ
+status_of_started (Ok status) = status
+status_of_started (Err fault) = status_of_start fault
 
 -- the same of a schedule that is written
 abbrev pub status_of_scheduled : Result ℕ ScheduleFault → ℕ

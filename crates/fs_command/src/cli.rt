@@ -4,11 +4,11 @@ ghost use Rattle.std.specs.Prelude.{◌≡◌, Some, None, IfOk, IfSome, codes};
 ghost use Rattle.std.specs.Option.{ForSome};
 ghost use Rattle.clap.specs.Matches.{first_value, found_of, one_text, subcommand_name_of};
 ghost use Rattle.fs_command.specs.Commands.{IsWithin, name_of};
-ghost use Rattle.fs_command.specs.Topics.{word_of};
+ghost use Rattle.fs_explain.specs.Topics.{word_of};
 
-use crate::topic::{Topic, WORDS, topic_of};
 use clap::error::ErrorKind;
 use clap::{Arg, ArgAction, ArgMatches, Command, Error, value_parser};
+use fs_explain::{Topic, WORDS, topic_of};
 use fs_sched::{RUN_LIMIT, SEED_LIMIT, Schedule};
 use std::alloc::Global;
 use std::convert::AsStr;
@@ -22,19 +22,30 @@ pub const CONFIGURATION_LIMIT: u64 = 1_000_000_000;
 /// How many it makes where no limit is given.
 pub const CONFIGURATIONS: u64 = 10_000_000;
 
+/// What is written of histories.
+#[derive(Clone, Copy, Debug, PartialEq, Eq)]
+pub enum Histories {
+    /// The journal that explains one, or the line that says why there is none.
+    Whole,
+    /// The same; with `none` the journal up to the return that nothing explains.
+    Front,
+    /// Of histories one after the other a line each, and counts.
+    Many,
+}
+
 /// What the command line asks for.
 #[derive(Clone, Copy, Debug, PartialEq, Eq)]
-pub enum Subcommand {
-    /// A run of a script by a schedule.
-    Run(Schedule),
+pub enum Subcommand<'a> {
+    /// A run of a script by a schedule; and the file that has the tree at which it starts, where that is more than the root.
+    Run(Schedule, Option<&'a str>),
     /// Runs of a script that are drawn from a number, the next one, and so on: the number, and how many.
     Seeds(u64, u64),
     /// The calls of a script on real threads.
     Threads,
     /// The verdict on a journal.
     Check,
-    /// The journal that explains a history, where no more configurations are made than this.
-    Linearize(u64),
+    /// What is found of histories, where no more configurations are made than this.
+    Linearize(Histories, u64),
     /// The events of a script's run by a schedule, in words; and whether each is told, or those alone that tell something new.
     Trace(Schedule, bool),
     /// A picture of a script's run by a schedule, or of a journal; and the number of the call around which is drawn.
@@ -52,7 +63,7 @@ Exit status:
   0  every call of the script returned
   1  the script ended with calls left: begun and not returned, or not begun; or a checkpoint found calls under way
   2  usage error
-  3  the input is no script: `atomfs explain` says what to write instead
+  3  the input is no script, or the file no tree: `atomfs explain` says what to write instead
   4  out of memory, or no node number left
   5  a read or a write failed
 
@@ -103,8 +114,8 @@ const LINEARIZE_STATUSES: &str = "\
 A history is a journal without its `commit` lines, up to the end or a line `tree`. Where a reply is not known, `return N failed ?` fits any error, and `return N stat dir ?` any size.
 
 Exit status:
-  0  the journal that is written explains the history: `atomfs check` says that it is lawful
-  1  `none PLACE CALL`: no journal explains the entries up to the return at PLACE; or `fault PLACE KIND`: they are no history
+  0  the journal that is written explains the history: `atomfs check` says that it is lawful; with --many each history is lawful
+  1  `none PLACE CALL`: no journal explains the entries up to the return at PLACE, or with --front a journal up to there; or `fault PLACE KIND`: they are no history
   2  usage error
   3  the input is no history: `atomfs explain` says what to write instead
   4  `unknown PLACE`: the limit was reached; or out of memory
@@ -211,9 +222,16 @@ fn run_alone<'a>(alloc: Global) -> Command<'a> {
         .after_help(RUN_STATUSES)
 }
 
+fn from_argument<'a>(alloc: Global) -> Arg<'a> {
+    Arg::new(alloc, "from").long("from").value_name("TREE").help(
+        "Starts at the tree in the file TREE: a tree text, or a journal, at whose start tree",
+    )
+}
+
 fn run_command<'a>(alloc: Global) -> Result<Command<'a>, Error> {
     let seed = seed_argument(alloc)?;
-    with_arguments(run_alone(alloc), robin_argument(alloc), seed)
+    let by_schedule = with_arguments(run_alone(alloc), robin_argument(alloc), seed)?;
+    Ok(by_schedule.arg(from_argument(alloc))?)
 }
 
 fn every_argument<'a>(alloc: Global) -> Arg<'a> {
@@ -343,8 +361,29 @@ fn linearize_alone<'a>(alloc: Global) -> Command<'a> {
         .after_help(LINEARIZE_STATUSES)
 }
 
+fn front_argument<'a>(alloc: Global) -> Arg<'a> {
+    Arg::new(alloc, "front")
+        .long("front")
+        .action(ArgAction::SetTrue)
+        .help("With `none` the journal up to that return, for `atomfs draw`")
+}
+
+fn many_argument<'a>(alloc: Global) -> Result<Arg<'a>, Error> {
+    Ok(
+        Arg::new(alloc, "many")
+            .long("many")
+            .action(ArgAction::SetTrue)
+            .conflicts_with("front")?
+            .help(
+                "Histories one after the other, each begun by its header line: a line for each, and counts",
+            ),
+    )
+}
+
 fn linearize_command<'a>(alloc: Global) -> Result<Command<'a>, Error> {
-    Ok(linearize_alone(alloc).arg(limit_argument(alloc))?)
+    let many = many_argument(alloc)?;
+    let by_form = with_arguments(linearize_alone(alloc), front_argument(alloc), many)?;
+    Ok(by_form.arg(limit_argument(alloc))?)
 }
 
 fn kind_argument<'a>(alloc: Global, id: &'a str) -> Arg<'a> {
@@ -453,7 +492,7 @@ fn schedule_of<'a>(matches: &ArgMatches<'a>) -> Schedule
 }
 
 /// The numbers of drawn runs. `clap` has read them within their ranges, and here they are looked at once more.
-fn seeds_of<'a>(matches: &ArgMatches<'a>) -> Option<Subcommand>
+fn seeds_of<'a>(matches: &ArgMatches<'a>) -> Option<Subcommand<'a>>
     ensures within { ForSome result IsWithin }
     ensures name { IfSome result (λ command. name_of command ≡ codes "seeds") }
 {
@@ -465,8 +504,23 @@ fn seeds_of<'a>(matches: &ArgMatches<'a>) -> Option<Subcommand>
     Some(Subcommand::Seeds(seed, runs))
 }
 
+/// What is written of histories.
+fn histories_of<'a>(matches: &ArgMatches<'a>) -> Histories
+    ensures many { one_text (found_of matches.now) (codes "many") ≡ Some (codes "true") → result ≡ Histories.Many }
+    ensures front { one_text (found_of matches.now) (codes "many") ≡ Some (codes "false") → one_text (found_of matches.now) (codes "front") ≡ Some (codes "true") → result ≡ Histories.Front }
+    ensures whole { one_text (found_of matches.now) (codes "many") ≡ Some (codes "false") → one_text (found_of matches.now) (codes "front") ≡ Some (codes "false") → result ≡ Histories.Whole }
+{
+    if matches.get_flag("many") {
+        return Histories::Many;
+    }
+    if matches.get_flag("front") {
+        return Histories::Front;
+    }
+    Histories::Whole
+}
+
 /// The limit of a search. `clap` has read it within its range, and here it is looked at once more.
-fn limit_of<'a>(matches: &ArgMatches<'a>) -> Option<Subcommand>
+fn limit_of<'a>(matches: &ArgMatches<'a>) -> Option<Subcommand<'a>>
     ensures within { ForSome result IsWithin }
     ensures name { IfSome result (λ command. name_of command ≡ codes "linearize") }
 {
@@ -477,7 +531,7 @@ fn limit_of<'a>(matches: &ArgMatches<'a>) -> Option<Subcommand>
     if limit < 1 || limit > CONFIGURATION_LIMIT {
         return None;
     }
-    Some(Subcommand::Linearize(limit))
+    Some(Subcommand::Linearize(histories_of(matches), limit))
 }
 
 /// The topic that the argument with an identifier names, if it is given.
@@ -488,7 +542,7 @@ fn topic_given<'a>(matches: &ArgMatches<'a>, id: &str) -> Option<Topic>
 }
 
 /// What is to be explained.
-fn topics_of<'a>(matches: &ArgMatches<'a>) -> Option<Subcommand>
+fn topics_of<'a>(matches: &ArgMatches<'a>) -> Option<Subcommand<'a>>
     ensures within { ForSome result IsWithin }
     ensures name { IfSome result (λ command. name_of command ≡ codes "explain") }
 {
@@ -496,13 +550,13 @@ fn topics_of<'a>(matches: &ArgMatches<'a>) -> Option<Subcommand>
     Some(Subcommand::Explain(first, topic_given(matches, "second")))
 }
 
-fn subcommand_of<'a>(matches: &ArgMatches<'a>) -> Option<Subcommand>
+fn subcommand_of<'a>(matches: &ArgMatches<'a>) -> Option<Subcommand<'a>>
     ensures within { ForSome result IsWithin }
     ensures name { IfSome result (λ command. subcommand_name_of matches.now ≡ Some (name_of command)) }
 {
     let (name, given) = matches.subcommand()?;
     match name {
-        "run" => Some(Subcommand::Run(schedule_of(given))),
+        "run" => Some(Subcommand::Run(schedule_of(given), given.get_str("from"))),
         "seeds" => seeds_of(given),
         "threads" => Some(Subcommand::Threads),
         "check" => Some(Subcommand::Check),
@@ -516,7 +570,7 @@ fn subcommand_of<'a>(matches: &ArgMatches<'a>) -> Option<Subcommand>
 }
 
 /// What was matched, which is a subcommand.
-fn asked_for<'a>(alloc: Global, matches: &ArgMatches<'a>) -> Result<Subcommand, Error>
+fn asked_for<'a>(alloc: Global, matches: &ArgMatches<'a>) -> Result<Subcommand<'a>, Error>
     ensures within { IfOk result IsWithin }
 {
     match subcommand_of(matches) {
@@ -527,7 +581,7 @@ fn asked_for<'a>(alloc: Global, matches: &ArgMatches<'a>) -> Result<Subcommand, 
 
 /// What the command line asks for; its first argument is the name of the program. The error is what is to be printed
 /// instead: help, the version, or what is wrong with the arguments.
-pub fn parse<'a, S: AsStr>(alloc: Global, args: &'a [S]) -> Result<Subcommand, Error>
+pub fn parse<'a, S: AsStr>(alloc: Global, args: &'a [S]) -> Result<Subcommand<'a>, Error>
     ensures within { IfOk result IsWithin }
 {
     if args.len() < 2 {

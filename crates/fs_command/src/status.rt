@@ -3,13 +3,15 @@
 ghost use Rattle.std.specs.Prelude.{◌≡◌, ◌≢◌, ◌⊎◌};
 ghost use Rattle.std.specs.IoError.{error_kind};
 ghost use Rattle.clap.specs.Values.{kind_of};
-ghost use Rattle.fs_command.specs.Statuses.{status_of, status_of_checked, status_of_drawn, status_of_linearized, status_of_outcome, status_of_run, status_of_scheduled, status_of_verdict};
+ghost use Rattle.fs_command.specs.Statuses.{has_status, status_of, status_of_checked, status_of_drawn, status_of_linearized, status_of_many, status_of_outcome, status_of_outcomes, status_of_run, status_of_scheduled, status_of_started, status_of_verdict};
+ghost use Rattle.fs_sched.specs.Faults.{status_of_fault};
 
 use clap::Error;
 use clap::error::ErrorKind;
 use fs_draw::DrawFault;
-use fs_recorded::Outcome;
+use fs_recorded::{Histories, Linearized, Outcome};
 use fs_sched::{Checked, RunEnd, RunFault};
+use fs_start::StartFault;
 use fs_threads::ThreadsFault;
 use fs_trace::ScheduleFault;
 use std::io::{self, ErrorKind as IoErrorKind, Write};
@@ -44,6 +46,15 @@ pub fn report<E: Write>(errors: &mut E, outcome: Result<u8, ThreadsFault>) -> u8
     }
 }
 
+/// Writes what is wrong, if anything is.
+fn tell<E: Write>(errors: &mut E, reason: &[u8]) {
+    if !reason.is_empty() {
+        let _ = errors.write_all(b"atomfs: ");
+        let _ = errors.write_all(reason);
+        let _ = errors.write_all(b"\n");
+    }
+}
+
 /// The status that a check came to, or that of its fault, whose message is written. Of a journal that is not lawful the message
 /// says what is wrong.
 pub fn report_check<E: Write>(errors: &mut E, outcome: Result<Checked, RunFault>) -> u8
@@ -53,11 +64,7 @@ pub fn report_check<E: Write>(errors: &mut E, outcome: Result<Checked, RunFault>
         Ok(checked) => checked,
         Err(fault) => return report(errors, Err(ThreadsFault::Run(fault))),
     };
-    if !checked.lawful {
-        let _ = errors.write_all(b"atomfs: ");
-        let _ = errors.write_all(checked.reason.as_slice());
-        let _ = errors.write_all(b"\n");
-    }
+    tell(errors, checked.reason.as_slice());
     status_of_verdict(checked.lawful)
 }
 
@@ -71,14 +78,74 @@ fn status_of_outcome(outcome: Outcome) -> u8
     }
 }
 
-/// The status that a history came to, or that of its fault, whose message is written.
-pub fn report_linearize<E: Write>(errors: &mut E, outcome: Result<Outcome, RunFault>) -> u8
+/// The status that a history came to, or that of its fault, whose message is written. Of `none` and `fault` the message
+/// says which entry that is, and of which call.
+pub fn report_linearize<E: Write>(errors: &mut E, outcome: Result<Linearized, RunFault>) -> u8
     ensures { result ≡ status_of_linearized outcome }
 {
+    let told = match outcome {
+        Ok(told) => told,
+        Err(fault) => return report(errors, Err(ThreadsFault::Run(fault))),
+    };
+    tell(errors, told.reason.as_slice());
+    status_of_outcome(told.outcome)
+}
+
+fn has_status(status: u8, outcomes: &[Outcome]) -> bool
+    ensures { result ≡ has_status status outcomes.now }
+{
+    for outcome in outcomes {
+        if status_of_outcome(*outcome) == status {
+            return true;
+        }
+    }
+    false
+}
+
+fn status_of_outcomes(outcomes: &[Outcome]) -> u8
+    ensures { result ≡ status_of_outcomes outcomes.now }
+{
+    if has_status(1, outcomes) {
+        return 1;
+    }
+    if has_status(4, outcomes) { 4 } else { 0 }
+}
+
+/// The status that histories came to, or that of their fault, whose message is written.
+pub fn report_many<E: Write>(errors: &mut E, outcome: Result<Histories, RunFault>) -> u8
+    ensures { result ≡ status_of_many outcome }
+{
     match outcome {
-        Ok(outcome) => status_of_outcome(outcome),
+        Ok(told) => status_of_outcomes(told.outcomes.as_slice()),
         Err(fault) => report(errors, Err(ThreadsFault::Run(fault))),
     }
+}
+
+/// The status that a run from the tree in a file came to, or that of its fault, whose message is written: a fault of the tree
+/// behind the name of the file.
+pub fn report_from<E: Write>(errors: &mut E, file: &str, outcome: Result<u8, StartFault>) -> u8
+    ensures { result ≡ status_of_started outcome }
+{
+    let fault = match outcome {
+        Ok(status) => return status,
+        Err(fault) => fault,
+    };
+    let _ = match fault {
+        StartFault::Tree(_) => writeln!(errors, "atomfs: {file}: {fault}"),
+        StartFault::Run(_) => writeln!(errors, "atomfs: {fault}"),
+    };
+    fault.status()
+}
+
+/// The status where a file cannot be read, and the message behind its name: 4 where there is no memory for its text.
+pub fn report_file<E: Write>(errors: &mut E, file: &str, fault: RunFault) -> u8
+    ensures { result ≡ status_of_fault fault }
+{
+    if let RunFault::OutOfMemory = fault {
+        return report(errors, Err(ThreadsFault::Run(fault)));
+    }
+    let _ = writeln!(errors, "atomfs: {file}: {fault}");
+    fault.status()
 }
 
 /// The status that a schedule which is written came to, or that of its fault, whose message is written.
