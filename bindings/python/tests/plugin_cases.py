@@ -8,8 +8,6 @@ import zipfile
 
 import pytest
 
-from atomfs.__main__ import program
-
 SECTION = ["*- atom_tree -*", "<atomfs.Tree open: 3 of 1,048,576 nodes, 3 calls, Limits.V2>", "/", "└── a/", "    └── f (2 bytes)", "The last calls:"]
 
 
@@ -148,10 +146,6 @@ def pictured(result):
     return paths
 
 
-of_program = pytest.mark.skipif(not os.path.exists(program()), reason="there is no program in the package: ATOMFS_PROGRAM names one")
-
-
-@of_program
 def test_picture(pytester):
     """It is in the tmp_path of the test, or in a folder of its own beside those; a test that makes no call has none."""
     text = """
@@ -177,7 +171,6 @@ def test_picture(pytester):
     assert pictured(result) == [temp / name / "atom_tree.svg" for name in ("test_own0", "test_beside0", "test_removed0")]
 
 
-@of_program
 def test_picture_of_a_patch(pytester):
     """It is on the disk, also where the tree stands above it, and where the test works in the tree."""
     text = f"""
@@ -193,15 +186,19 @@ def test_picture_of_a_patch(pytester):
     assert len(pictured(outcomes(pytester, text, "--basetemp=temp", failed=1))) == 1
 
 
-def test_no_picture(pytester, monkeypatch):
-    """A report says why it has none, as where the program is missing."""
-    monkeypatch.setenv("ATOMFS_PROGRAM", "/none")
-    result = outcomes(pytester, FAILS.format(False), failed=1)
-    result.stdout.fnmatch_lines([*SECTION, "No picture: there is no program: No such file or directory: /none; *"])
+def test_no_picture(pytester):
+    """A report says why it has none."""
+    text = """
+        def test_taken(atom_tree, tmp_path):
+            atom_tree.mkdir("/a")
+            (tmp_path / "atom_tree.svg").mkdir()
+            assert False
+    """
+    result = outcomes(pytester, text, failed=1)
+    result.stdout.fnmatch_lines(["*- atom_tree -*", "No picture: *Is a directory: *"])
     assert pictured(result) == []
 
 
-@of_program
 def test_explore(pytester):
     """The report of a run that fails names its picture, which the exception has too."""
     text = """

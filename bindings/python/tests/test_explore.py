@@ -1,7 +1,6 @@
 """Interleavings that are drawn, and a check behind each."""
 import errno
 import importlib.util
-import os
 import pathlib
 import subprocess
 import sys
@@ -10,7 +9,6 @@ import unittest
 
 import atomfs
 from atomfs import Limits, ScheduleError, Stat, explore
-from atomfs.__main__ import program
 
 MOVED = {"m": ["mkdir /a/d/x", ("stat", "/a/d/x")], "r": [("rename", "/a", "/b")]}
 BEFORE = ["mkdir /a", "mkdir /a/d"]
@@ -100,7 +98,6 @@ class Runs(unittest.TestCase):
         for part in ("seed 1: KeyError: 'none'", error.script, error.journal):
             self.assertIn(part, str(error))
 
-    @unittest.skipUnless(os.path.exists(program()), "there is no program in the package: ATOMFS_PROGRAM names one")
     def test_picture(self):
         """The error of a check draws its run; where a picture was written, the plugin of pytest says."""
         error = failed(self, MOVED, before=BEFORE)

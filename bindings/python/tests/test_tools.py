@@ -1,4 +1,4 @@
-"""What the program of the package makes of texts: pictures, traces, schedules, verdicts, explanations; and what it refuses."""
+"""What the library makes of texts, beside what the program writes: pictures, traces, schedules, verdicts, explanations; and what it refuses."""
 import os
 import pathlib
 import random
@@ -6,11 +6,10 @@ import re
 import subprocess
 import tempfile
 import unittest
-import unittest.mock
 import xml.etree.ElementTree as ElementTree
 
 import atomfs
-from atomfs import Error, Limits, Picture, ProgramError, Status, Tree
+from atomfs import Error, Limits, Picture, Status, Tree
 from atomfs.__main__ import program
 
 SVG = "{http://www.w3.org/2000/svg}"
@@ -53,15 +52,6 @@ class OfTools(unittest.TestCase):
         self.addCleanup(folder.cleanup)
         self.folder = pathlib.Path(folder.name)
 
-    def other_program(self, path, text=None):
-        """The package is without its program, or has another one, a script of the shell, until the test ends."""
-        if text is not None:
-            path.write_text(f"#!/bin/sh\n{text}\n")
-            path.chmod(0o755)
-        changed = unittest.mock.patch.dict(os.environ, ATOMFS_PROGRAM=str(path))
-        changed.start()
-        self.addCleanup(changed.stop)
-
 
 @unittest.skipUnless(os.path.exists(program()), "there is no program in the package: ATOMFS_PROGRAM names one")
 class Tools(OfTools):
@@ -102,6 +92,16 @@ class Tools(OfTools):
         self.assertEqual(path.read_bytes(), picture.svg.encode())
         self.assertRaises(FileNotFoundError, picture.save, self.folder / "none" / "run.svg")
 
+    def test_names_of_seats(self):
+        """A seat that has a name is drawn by it, also where the last calls alone are."""
+        with atomfs.Tree() as tree:
+            writer = tree.seat(name="writer")
+            for path in ("/a", "/b"):
+                writer.begin.mkdir(path)
+                writer.finish()
+            for picture in (tree.draw(), tree.draw(last=1)):
+                self.assertIn("\nwriter, entries ", picture.svg)
+
     def test_trace(self):
         for words, told in (
             ((), atomfs.trace(SCRIPT)),
@@ -124,23 +124,21 @@ class Tools(OfTools):
         self.assertEqual(atomfs.schedule(told, seed=1), told)
 
     def test_seeds(self):
-        """The runs of `schedule` with the same seeds; a verdict that is none of lawful stays as it is told."""
+        """The runs of `schedule` with the same seeds."""
         told = atomfs.seeds(SCRIPT, 5, 3)
         self.assertEqual(told, [(5, "lawful"), (6, "lawful"), (7, "lawful")])
         self.assertEqual((told[1].seed, told[1].verdict), (6, "lawful"))
         self.assertEqual(atomfs.seeds(SCRIPT.encode(), seed=2**63 - 1, runs=1), [(2**63 - 1, "lawful")])
-        self.other_program(self.folder / "program", "cat > /dev/null; echo seed 1 lawful; echo seed 2 fault 3 WrongReply; exit 1")
-        self.assertEqual(atomfs.seeds(SCRIPT, 1, 2), [(1, "lawful"), (2, "fault 3 WrongReply")])
+        self.assertEqual("".join(f"seed {seed} {verdict}\n" for seed, verdict in told), written("seeds", "--seed", "5", "--runs", "3", given=SCRIPT))
 
     def test_explain(self):
         self.assertRegex(atomfs.explain("BadHex"), r"(?s)^BadHex: .*\nwrite ")
-        self.assertRegex(atomfs.explain(" BadPath  TrailingSlash"), r"(?s)^BadPath: .*\nTrailingSlash: ")
+        self.assertEqual(atomfs.explain(" BadPath  TrailingSlash"), written("explain", "BadPath", "TrailingSlash", given=""))
         for status in Status:
             if Status.BAD_HEADER <= status < Status.PATH_NOT_ABSOLUTE:
                 self.assertTrue(atomfs.explain(status.kind).startswith(f"{status.kind}: "))
 
 
-@unittest.skipUnless(os.path.exists(program()), "there is no program in the package: ATOMFS_PROGRAM names one")
 class Refused(OfTools):
     def look(self, kind, words, call):
         """A call raises an exception of this very class, which says this."""
@@ -150,7 +148,7 @@ class Refused(OfTools):
         return raised.exception
 
     def test_faults_of_texts(self):
-        """As `run` and `check` raise them, and of a path with what is wrong with it."""
+        """As `run` and `check` raise them."""
         for text in ("", "atomfs 1\nthread T\n", "atomfs 1\nthread m\nmkdr /a\nschedule\n", "atomfs 1\nthread m\nread /a 0 x\nschedule\n"):
             wanted = self.look(Error, "line ", lambda: atomfs.run(text))
             for tool in (atomfs.draw, atomfs.trace, lambda given: atomfs.schedule(given, seed=1), lambda given: atomfs.seeds(given, 1, 1)):
@@ -158,7 +156,7 @@ class Refused(OfTools):
                 self.assertEqual((str(error), error.status, error.about), (str(wanted), wanted.status, wanted.about))
         journal = "atomfs-journal 1\nbegin 1 0 mkdir /a\ncommit 1 2\n"
         self.assertEqual(str(self.look(Error, "line 3: ", lambda: atomfs.draw(journal))), str(self.look(Error, "line 3: ", lambda: atomfs.check(journal))))
-        error = self.look(Error, "line 3: BadPath Dot: no path", lambda: atomfs.draw("atomfs 1\nthread m\nmkdir /.\nschedule\n"))
+        error = self.look(Error, "line 3: BadPath: no path", lambda: atomfs.draw("atomfs 1\nthread m\nmkdir /.\nschedule\n"))
         self.assertEqual((error.status, error.about), (Status.BAD_PATH, 3))
         error = self.look(Error, "line 1: BadHeader", lambda: atomfs.trace("atomfs-journal 1\n"))
         self.assertEqual((error.status, error.status.kind), (Status.BAD_HEADER, "BadHeader"))
@@ -183,63 +181,30 @@ class Refused(OfTools):
             (ValueError, "a schedule is drawn by a seed, or goes round robin, and not both", lambda: atomfs.schedule(SCRIPT, seed=0, robin=True)),
             (TypeError, "schedule takes a seed, or robin=True", lambda: atomfs.schedule(SCRIPT)),
             (TypeError, "seed is a whole number, and this is float", lambda: atomfs.trace(SCRIPT, seed=1.0)),
-            (ValueError, "invalid value '0' for '--runs <K>': 0 is not in 1..=10000", lambda: atomfs.seeds(SCRIPT, 1, 0)),
-            (ValueError, "invalid value '9223372036854775808' for '--seed <N>'", lambda: atomfs.seeds(SCRIPT, 2**63, 1)),
+            (ValueError, "there is no call 18446744073709551615", lambda: atomfs.draw(SCRIPT, 2**64 - 1)),
+            (ValueError, "there are 1 to 10,000 runs, and not 0", lambda: atomfs.seeds(SCRIPT, 1, 0)),
+            (ValueError, "there are 1 to 10,000 runs, and not 10001", lambda: atomfs.seeds(SCRIPT, 1, 10_001)),
+            (ValueError, "a seed is below 9223372036854775808, and this is 9223372036854775808", lambda: atomfs.seeds(SCRIPT, 2**63, 1)),
             (ValueError, "a negative number of runs", lambda: atomfs.seeds(SCRIPT, 1, -1)),
-            *((ValueError, f"invalid value '{word}' for '<KIND>'\n  [possible values: BadHeader, ", lambda word=word: atomfs.explain(word)) for word in ("Dott", "--help", "--")),
-            (ValueError, "a value is required for '<KIND>'", lambda: atomfs.explain(" ")),
-            (ValueError, "unexpected argument 'Dot' found", lambda: atomfs.explain("BadPath Dot Dot")),
-            (ValueError, "embedded null byte", lambda: atomfs.explain("Dot\0")),
+            *((ValueError, f"{word!r} is none of BadHeader, ", lambda word=word: atomfs.explain(word)) for word in ("Dott", "--help", "--", "Dot\0", "\udcff")),
+            (ValueError, "explain takes one word or two, and not 0", lambda: atomfs.explain(" ")),
+            (ValueError, "explain takes one word or two, and not 3", lambda: atomfs.explain("BadPath Dot Dot")),
             (TypeError, "explain takes str, and this is bytes", lambda: atomfs.explain(b"Dot")),
             *((TypeError, "memoryview: ", lambda tool=tool: tool(7)) for tool in (atomfs.draw, atomfs.trace)),
         ):
             with self.subTest(words):
                 self.look(kind, words, call)
 
-    def test_other_ends(self):
-        """A program that has no memory, that fails, that is killed, and one that reads nothing."""
-        large = b"atomfs 1\n" * 1_000_000
-        for text, kind, words, status in (
-            ("echo atomfs: out of memory >&2; exit 4", MemoryError, "out of memory", None),
-            ("echo atomfs: full >&2; exit 4", Error, "the tree has as many nodes as it may", Status.FULL),
-            ("echo atomfs: the script would have more than 16777216 bytes >&2; exit 4", Error, "the script would have more", Status.TOO_LARGE),
-            ("echo atomfs: write failed >&2; exit 5", ProgramError, "the program ended with 5: write failed", 5),
-            ("echo atomfs: no worker >&2; exit 4", ProgramError, "the program ended with 4: no worker", 4),
-            ("echo atomfs: line >&2; exit 3", ProgramError, "the program ended with 3: line", 3),
-            ("echo atomfs: line 3: Other >&2; exit 3", ProgramError, "the program ended with 3: line 3: Other", 3),
-            ("exit 1", ProgramError, "the program ended with 1: ", 1),
-            ("exit 0", ProgramError, "the program ended with 0: ", 0),
-            ("echo half; kill -9 $$", ProgramError, "the program ended with -9: ", -9),
-        ):
-            with self.subTest(text):
-                self.other_program(self.folder / "program", text)
-                error = self.look(kind, words if kind is ProgramError else "", lambda: atomfs.draw(large))
-                self.assertEqual(getattr(error, "status", None), status)
+    def test_words(self):
+        """The words that `explain` lists are those that it knows."""
+        with self.assertRaises(ValueError) as raised:
+            atomfs.explain("Dott")
+        words = str(raised.exception).removeprefix("'Dott' is none of ").split(", ")
+        self.assertEqual(len(words), 26)
+        for word in words:
+            self.assertTrue(atomfs.explain(word).startswith(f"{word}: "))
 
 
-class WithoutProgram(OfTools):
-    def test_missing(self):
-        """It says what is missing; a notebook shows the words of the tree then."""
-        self.other_program(self.folder / "none")
-        for tool in (lambda: atomfs.draw(SCRIPT), lambda: atomfs.trace(SCRIPT), lambda: atomfs.seeds(SCRIPT, 1, 1), lambda: atomfs.explain("Dot")):
-            with self.assertRaises(ProgramError) as raised:
-                tool()
-            words = f"there is no program: No such file or directory: {self.folder}/none; ATOMFS_PROGRAM names one that is elsewhere"
-            self.assertEqual((str(raised.exception), raised.exception.status), (words, None))
-            self.assertIsInstance(raised.exception.__cause__, FileNotFoundError)
-        with Tree() as tree:
-            tree.mkdir("/a")
-            self.assertRaises(ProgramError, tree.draw)
-            self.assertIsNone(tree._repr_svg_())
-
-    def test_no_program(self):
-        (self.folder / "file").write_text("no program")
-        self.other_program(self.folder / "file")
-        with self.assertRaisesRegex(ProgramError, "^the program does not start: Permission denied: "):
-            atomfs.draw(SCRIPT)
-
-
-@unittest.skipUnless(os.path.exists(program()), "there is no program in the package: ATOMFS_PROGRAM names one")
 class OfTrees(OfTools):
     def setUp(self):
         super().setUp()
@@ -295,7 +260,7 @@ class OfTrees(OfTools):
         self.assertIsNone(self.tree._repr_svg_())
 
     def test_in_a_patch(self):
-        """The program knows nothing of a tree at a directory of the disk, also where that is worked in; a picture is saved there."""
+        """A picture is drawn and saved where a tree stands, also where that is worked in."""
         before = os.getcwd()
         with atomfs.patch(self.tree, self.folder / "sandbox") as patched:
             os.chdir(patched.at)

@@ -170,6 +170,8 @@ impl Error {
         let kind = match status {
             ffi::NO_MEMORY => ErrorKind::OutOfMemory,
             ffi::UNDER_WAY => ErrorKind::UnderWay(line as u64),
+            ffi::NO_CALL => ErrorKind::NoCall,
+            ffi::BAD_CHOICE => ErrorKind::BadChoice,
             _ => ErrorKind::BadText(status, line),
         };
         kind.into()
@@ -236,8 +238,12 @@ pub enum ErrorKind {
     SeatBusy,
     /// The last call of the seat has not returned, or none was begun since the last checkpoint.
     NoReply,
-    /// A script, a journal or the text of a tree is none: the status and the line.
+    /// A script, a journal or the text of a tree is none: the status and the line. With the line 0 what would come of it is too large.
     BadText(u8, usize),
+    /// No call has the number around which is to be drawn.
+    NoCall,
+    /// The number of runs, their seed or the word of a fault is none.
+    BadChoice,
     /// The options to open a file by contradict each other, or ask for no access.
     BadOptions,
     /// Another status of the library.
@@ -281,6 +287,8 @@ impl ErrorKind {
             ErrorKind::SeatBusy => ffi::SEAT_BUSY,
             ErrorKind::Full => ffi::FULL,
             ErrorKind::NoReply => ffi::NO_REPLY,
+            ErrorKind::NoCall => ffi::NO_CALL,
+            ErrorKind::BadChoice => ffi::BAD_CHOICE,
             ErrorKind::UnderWay(_) => ffi::UNDER_WAY,
             ErrorKind::BadPath(fault) => fault.status(),
             // The library has no status for these.
@@ -298,6 +306,7 @@ impl fmt::Display for ErrorKind {
         }
         let words = ffi::words(unsafe { ffi::atomfs_status_text(self.status()) });
         match self {
+            ErrorKind::BadText(_, 0) => f.write_str(words),
             ErrorKind::BadText(status, line) => match kind_of(*status) {
                 Some(kind) => write!(f, "line {line}: {kind}: {words}"),
                 None => write!(f, "line {line}: {words}"),

@@ -49,8 +49,13 @@ pub const PATH_NAME_TOO_LONG: u8 = 30;
 pub const PATH_TOO_MANY_NAMES: u8 = 31;
 pub const PATH_DOT: u8 = 32;
 pub const PATH_TRAILING_SLASH: u8 = 33;
+pub const NO_CALL: u8 = 34;
+pub const BAD_CHOICE: u8 = 35;
 /// From here on a call has failed, and the rest is the number of its error.
 pub const FAILED: u8 = 128;
+
+/// By this number all calls are drawn.
+pub const WHOLE: u64 = u64::MAX;
 
 /// A function on one path.
 pub type OnPath = unsafe extern "C" fn(*mut Handle, u64, *const u8, usize, *mut u64) -> u8;
@@ -235,6 +240,52 @@ extern "C" {
     ) -> u8;
     pub fn atomfs_check(
         journal: *const u8,
+        length: usize,
+        out: *mut u8,
+        room: usize,
+        count: *mut usize,
+    ) -> u8;
+
+    pub fn atomfs_trace(
+        script: *const u8,
+        length: usize,
+        schedule: u8,
+        seed: u64,
+        every: u8,
+        out: *mut u8,
+        room: usize,
+        count: *mut usize,
+    ) -> u8;
+    pub fn atomfs_draw(
+        text: *const u8,
+        length: usize,
+        schedule: u8,
+        seed: u64,
+        around: u64,
+        out: *mut u8,
+        room: usize,
+        count: *mut usize,
+    ) -> u8;
+    pub fn atomfs_schedule(
+        script: *const u8,
+        length: usize,
+        schedule: u8,
+        seed: u64,
+        out: *mut u8,
+        room: usize,
+        count: *mut usize,
+    ) -> u8;
+    pub fn atomfs_seeds(
+        script: *const u8,
+        length: usize,
+        seed: u64,
+        runs: u64,
+        out: *mut u8,
+        room: usize,
+        count: *mut usize,
+    ) -> u8;
+    pub fn atomfs_explain(
+        word: *const u8,
         length: usize,
         out: *mut u8,
         room: usize,

@@ -20,6 +20,8 @@
 //! Threads share a tree as a [`SharedTree`] or by [`Session`]s, whose calls interleave step by step. [`Tree::seat`], [`Tree::begin`] and
 //! [`Tree::step`] play an interleaving of your own.
 //!
+//! [`check`], [`run`], [`trace`], [`draw`], [`schedule`], [`seeds`] and [`explain`] are what the program `atomfs` does with texts.
+//!
 //! Errors of calls are those of the operating system:
 //!
 //! ```
@@ -45,6 +47,7 @@ mod limits;
 mod path;
 mod session;
 mod shared;
+mod texts;
 mod tree;
 mod whole;
 
@@ -55,7 +58,8 @@ pub use limits::{Journal, Limits};
 pub use path::AsPath;
 pub use session::Session;
 pub use shared::SharedTree;
-pub use tree::{check, run, Tree};
+pub use texts::{check, draw, explain, run, schedule, seeds, trace, Schedule};
+pub use tree::Tree;
 pub use whole::{Calls, Entry};
 
 /// The greatest limit of nodes.

@@ -11,10 +11,8 @@ use crate::error::{Error, ErrorKind};
 use crate::ffi::{self, Handle, OnPath, OnPaths, RawStat, OK, TOO_SMALL, UNTOLD, WAITS};
 use crate::limits::{Journal, Limits, KEEP_ALL};
 use crate::path::AsPath;
+use crate::texts::{ascii, ROOM};
 use crate::NODE_LIMIT;
-
-/// Room for the names of a full directory, and for the bytes of most files: where a file has more, the room becomes longer.
-const ROOM: usize = 65_536;
 
 /// How many trees have been opened.
 static TREES: AtomicU64 = AtomicU64::new(0);
@@ -862,57 +860,4 @@ fn names_of(told: &[u8]) -> Vec<Vec<u8>> {
     let mut names: Vec<Vec<u8>> = told.split(|byte| *byte == 0).map(<[u8]>::to_vec).collect();
     names.pop();
     names
-}
-
-/// The library's texts are ASCII: names are percent-encoded.
-fn ascii(bytes: &[u8]) -> String {
-    String::from_utf8_lossy(bytes).into_owned()
-}
-
-/// The verdict on a journal: `lawful`, or the first entry at fault. `ErrorKind::BadText` tells the line of what is no journal.
-///
-/// ```
-/// assert_eq!(atomfs::check("atomfs-journal 1\n")?, "lawful");
-/// let error = atomfs::check("no journal").unwrap_err();
-/// assert!(matches!(error.kind(), atomfs::ErrorKind::BadText(_, 1)));
-/// # Ok::<(), atomfs::Error>(())
-/// ```
-pub fn check(journal: impl AsRef<[u8]>) -> Result<String, Error> {
-    Ok(of_text(ffi::atomfs_check, journal.as_ref())?
-        .trim_end()
-        .to_string())
-}
-
-/// The journal, the tree and the counts of a script, run by its own schedule. `ErrorKind::BadText` tells the line of what is no
-/// script.
-///
-/// ```
-/// let ran = atomfs::run("atomfs 1\nschedule\nfinish\n")?;
-/// assert!(ran.ends_with("begun 0 committed 0 returned 0\n"));
-/// # Ok::<(), atomfs::Error>(())
-/// ```
-pub fn run(script: impl AsRef<[u8]>) -> Result<String, Error> {
-    of_text(ffi::atomfs_run, script.as_ref())
-}
-
-type OfText = unsafe extern "C" fn(*const u8, usize, *mut u8, usize, *mut usize) -> u8;
-
-fn of_text(function: OfText, given: &[u8]) -> Result<String, Error> {
-    let mut out = vec![0; ROOM];
-    loop {
-        let mut count = 0;
-        match unsafe {
-            function(
-                given.as_ptr(),
-                given.len(),
-                out.as_mut_ptr(),
-                out.len(),
-                &mut count,
-            )
-        } {
-            OK => return Ok(ascii(&out[..count])),
-            TOO_SMALL => out.resize(count, 0),
-            status => return Err(Error::of_text(status, count)),
-        }
-    }
 }

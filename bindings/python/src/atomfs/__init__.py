@@ -9,18 +9,21 @@
         print(tree.read("/a/f"), tree.check())
 
 `atomfs.patch` lets `open`, `os` and what is made of them go to a tree below a directory. `atomfs.explore` draws interleavings of
-calls, and `atomfs.draw` a picture of them. `atomfs.fs` is the same as a file system of PyFilesystem2, `atomfs.fsspec` as one of fsspec.
+calls, and `atomfs.draw` a picture of them. `atomfs.History` records the calls of any other tree, and judges them. `atomfs.fs` is the
+same as a file system of PyFilesystem2, `atomfs.fsspec` as one of fsspec.
 """
 from ._errors import ClosedError, Error, ProgramError, UnderWayError, WaitsError
 from ._explore import ScheduleError, explore, simulate
+from ._history import Answer, History
 from ._journal import ALL, LAST, NONE, Journal
 from ._library import NODE_LIMIT, PATH_LIMIT, Did, Limits, Status
 from ._library import library as _shared_object
+from ._linearize import Lawful, Linearized, NoHistory, NoOrder, Unknown, linearize
 from ._load import Snapshot, diff
 from ._patch import patch
 from ._path import Path
-from ._program import Picture, SeedVerdict, draw, explain, schedule, seeds, trace
 from ._texts import check, run
+from ._tools import Picture, SeedVerdict, draw, explain, schedule, seeds, trace
 from ._tree import Begin, Seat, Stat, Step, Tree
 
 __version__ = "0.3.0"
@@ -33,15 +36,21 @@ def library_version() -> str:
 
 __all__ = [
     "ALL",
+    "Answer",
     "Begin",
     "ClosedError",
     "Did",
     "Error",
+    "History",
     "Journal",
     "LAST",
+    "Lawful",
     "Limits",
+    "Linearized",
     "NODE_LIMIT",
     "NONE",
+    "NoHistory",
+    "NoOrder",
     "PATH_LIMIT",
     "Path",
     "Picture",
@@ -55,6 +64,7 @@ __all__ = [
     "Step",
     "Tree",
     "UnderWayError",
+    "Unknown",
     "WaitsError",
     "check",
     "diff",
@@ -62,6 +72,7 @@ __all__ = [
     "explain",
     "explore",
     "library_version",
+    "linearize",
     "patch",
     "run",
     "schedule",

@@ -8,8 +8,8 @@ from typing import Any, Callable, Dict, Iterable, List, Mapping, Optional
 
 from ._errors import error_at
 from ._library import NODE_LIMIT, Did, Limits
-from ._program import Picture, draw
 from ._script import AnyCall, Planned, planned_threads, script
+from ._tools import Picture, draw
 from ._tree import Seat, Tree
 from ._values import number_of
 

@@ -75,6 +75,8 @@ class Status(enum.IntEnum):
     PATH_TOO_MANY_NAMES = 31
     PATH_DOT = 32
     PATH_TRAILING_SLASH = 33
+    NO_CALL = 34
+    BAD_CHOICE = 35
 
     @property
     def kind(self) -> str:
@@ -127,6 +129,14 @@ class Call(enum.IntEnum):
     READ = 8
     WRITE = 9
     TRUNCATE = 10
+
+
+class By(enum.IntEnum):
+    """By which schedule a script runs."""
+
+    GIVEN = 0
+    ROUND_ROBIN = 1
+    SEEDED = 2
 
 
 class Handle(ctypes.Structure):
@@ -187,12 +197,18 @@ _ARGUMENTS: Dict[str, List[Any]] = {
     "tree": [_AT, *_TOLD],
     "run": [*_GIVEN, *_TOLD],
     "check": [*_GIVEN, *_TOLD],
+    "trace": [*_GIVEN, ctypes.c_uint8, _NUMBER, ctypes.c_uint8, *_TOLD],
+    "draw": [*_GIVEN, ctypes.c_uint8, _NUMBER, _NUMBER, *_TOLD],
+    "schedule": [*_GIVEN, ctypes.c_uint8, _NUMBER, *_TOLD],
+    "seeds": [*_GIVEN, _NUMBER, _NUMBER, *_TOLD],
+    "explain": [*_GIVEN, *_TOLD],
     "check_path": [*_GIVEN, ctypes.c_uint8],
 }
 
 
 # What may take long, and lets other threads of Python run meanwhile. A call takes less time than it takes to let them.
 _LONG = {"open_from", "open_at", "close", "journal", "checkpoint", "forget", "verdict", "tree", "run", "check"}
+_LONG |= {"trace", "draw", "schedule", "seeds"}
 
 
 class Library:

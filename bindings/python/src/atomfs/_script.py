@@ -60,8 +60,8 @@ def planned(given: AnyCall, limits: Limits) -> Planned:
     size = numbers["size"] or numbers["count"]
     request = Request(call, raw[0], len(raw[0]), other, len(other), numbers["offset"], size, data, len(data))
     told = {**{what: str(value) for what, value in numbers.items()}, "bytes": data.hex() or "-"}
-    quoted = iter(map(_quoted, raw))
-    line = " ".join([name, *(next(quoted) if what == "path" else told[what] for what in _TAKES[call])])
+    words_of_paths = iter(map(quoted, raw))
+    line = " ".join([name, *(next(words_of_paths) if what == "path" else told[what] for what in _TAKES[call])])
     return Planned(call, request, tuple(paths), line)
 
 
@@ -80,7 +80,7 @@ def make(tree: Tree, line: str) -> Any:
     return getattr(tree, name)(*map(_read, words, _TAKES[Call[name.upper()]]))
 
 
-def _quoted(path: bytes) -> str:
+def quoted(path: bytes) -> str:
     """A path as a word of a script."""
     return "".join(chr(one) if 0x20 < one < 0x7F and one != 0x25 else f"%{one:02X}" for one in path)
 

@@ -11,15 +11,15 @@ import time
 import weakref
 from typing import IO, Any, Callable, Dict, Iterator, List, Mapping, NamedTuple, NoReturn, Optional, Tuple, Type, TypeVar, Union, overload
 
-from . import _last, _load, _program, _rows, _seats, _walk
-from ._errors import AnyPath, Error, ProgramError, WaitsError, encoded, error_at, error_of
+from . import _last, _load, _rows, _seats, _tools, _walk
+from ._errors import AnyPath, Error, WaitsError, encoded, error_at, error_of
 from ._file import open_file
 from ._journal import ALL, Journal, Noting, Standing
 from ._library import NODE_LIMIT, Call, CStat, Did, Fault, Handle, Limits, Request, Status, library
 from ._load import Snapshot
 from ._path import Path, class_of
-from ._program import Picture
 from ._texts import ROOM, Room, told_text
+from ._tools import Picture
 from ._values import NAME, Data, bytes_of, number_of
 
 _Self = TypeVar("_Self", bound="Tree")
@@ -571,13 +571,13 @@ class Tree:
         text = self.journal()
         if last is not None:
             text = _last.of_last(Tree, text, self.limits, number_of(last, "number of calls"))
-        return _program.draw(text, around)
+        return _tools.draw(text, around)
 
     def _repr_svg_(self) -> Optional[str]:
         """The last calls, for notebooks: nothing where there are none, or too many, or where they can't be drawn."""
         try:
             return self.draw(last=_SHOWN).svg if 0 < self.calls <= _OF_CALLS else None
-        except (Error, ProgramError):
+        except Error:
             return None
 
     def _named(self, journal: str) -> str:

@@ -24,13 +24,13 @@ from typing import TYPE_CHECKING, Any, Callable, ContextManager, Dict, Generator
 
 import pytest
 
-from ._errors import Error, ProgramError
+from ._errors import Error
 from ._explore import ScheduleError
 from ._library import NODE_LIMIT, Limits
 from ._load import Snapshot, of_snapshot
 from ._patch import patch
 from ._path import Path
-from ._program import Picture
+from ._tools import Picture
 from ._tree import Tree
 
 if TYPE_CHECKING:
@@ -138,7 +138,7 @@ def _written(node: Any, name: str, drawn: Callable[[], Picture]) -> Tuple[str, O
     try:
         with aside:
             path = drawn().save(_folder(node) / f"{name}.svg")
-    except (Error, ProgramError, OSError) as error:
+    except (Error, OSError) as error:
         return f"No picture: {error}", None
     return f"The picture: {path}", path
 

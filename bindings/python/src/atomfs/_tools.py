@@ -1,0 +1,164 @@
+"""What the library makes of texts: pictures, traces, schedules, verdicts on drawn runs, explanations.
+
+What it refuses is raised as `run` and `check` raise it: `Error` with the line of a fault, `UnderWayError`, `MemoryError`. An argument
+that is none is a `ValueError`.
+"""
+from __future__ import annotations
+
+import dataclasses
+import os
+import pathlib
+import re
+from typing import List, NamedTuple, Optional, Tuple, Union
+
+from ._errors import Error, error_of
+from ._library import By, Fault, Status, library
+from ._texts import ROOM, Room
+from ._values import bytes_of, number_of
+
+StrPath = Union[str, "os.PathLike[str]"]
+Text = Union[str, bytes]
+# By this number all calls are drawn.
+_WHOLE = 2**64 - 1
+# There are so many runs, and the first is drawn by a seed below this.
+_RUNS, _SEEDS = range(1, 10_001), 2**63
+
+
+def _told(name: str, text: bytes, *given: int) -> str:
+    """The text that a function of the library tells."""
+    of, room = library(), Room(ROOM)
+    while status := getattr(of, name)(text, len(text), *given, room.at, room.size, room.at_count):
+        if status != Status.TOO_SMALL:
+            raise _refusal(status, room.count.value)
+        room.make(room.count.value)
+    # The comments of a script stay as they are, also where they are no text.
+    return room.told().decode("utf-8", "surrogateescape")
+
+
+def _refusal(status: int, about: int) -> Exception:
+    """The exception of a status that is not OK."""
+    if status == Status.TOO_LARGE and not about:
+        return Error(status, "the run takes more events than a script gives, or the script would have more than 16,777,216 bytes")
+    return error_of(library(), status, about)
+
+
+def _bytes_of(text: Text, what: str) -> bytes:
+    return text.encode("utf-8", "surrogateescape") if isinstance(text, str) else bytes_of(text, what)
+
+
+def _drawn(seed: Optional[int], robin: bool) -> Tuple[By, int]:
+    """By which schedule a script runs, and its seed: its own, where none is asked for."""
+    if seed is not None and robin:
+        raise ValueError("a schedule is drawn by a seed, or goes round robin, and not both")
+    return (By.SEEDED, number_of(seed, "seed")) if seed is not None else (By.ROUND_ROBIN if robin else By.GIVEN, 0)
+
+
+@dataclasses.dataclass(frozen=True, repr=False)
+class Picture:
+    """A picture: `str` is its text, an SVG file of ASCII alone; `save` writes it, and notebooks show it."""
+
+    #: The text of the SVG file.
+    svg: str
+
+    def __str__(self) -> str:
+        return self.svg
+
+    def __repr__(self) -> str:
+        title = re.search("<title[^>]*>([^<]*)", self.svg)
+        return f"<atomfs.Picture of {len(self.svg):,} bytes{f': {title[1]}' if title else ''}>"
+
+    def _repr_svg_(self) -> str:
+        return self.svg
+
+    def save(self, path: StrPath) -> pathlib.Path:
+        """Writes the SVG file to a path of the disk, which it answers; a file there is replaced."""
+        at = pathlib.Path(path)
+        at.write_bytes(self.svg.encode())
+        return at
+
+
+class SeedVerdict(NamedTuple):
+    """The verdict on a run by a seed: `lawful`, or the first entry at fault, as `check` tells it."""
+
+    seed: int
+    verdict: str
+
+
+def draw(text: Text, around: Optional[int] = None, *, seed: Optional[int] = None, robin: bool = False) -> Picture:
+    """The picture of a journal, or of a run of a script: by its own schedule, by one that `seed` draws, or round robin.
+
+    `around` is the number of a call: then only this one is drawn, and those that overlap it or help. Calls that are left, and the fault
+    of a journal that is not lawful, are in the picture. `Error` tells the line of what is no script and no journal, `ValueError` that
+    there is no such call.
+    """
+    call = _WHOLE if around is None else number_of(around, "number of a call")
+    try:
+        if around is None or call != _WHOLE:
+            return Picture(_told("draw", _bytes_of(text, "draw"), *_drawn(seed, robin), call))
+    except Error as error:
+        if error.status != Status.NO_CALL:
+            raise
+    raise ValueError(f"there is no call {around}")
+
+
+def trace(script: Text, *, seed: Optional[int] = None, robin: bool = False, every: bool = False) -> str:
+    """What each event of a run of a script did, in words: by its own schedule, by one that `seed` draws, or round robin.
+
+    With `every` idle turns and repeated waits have a line, too. `Error` tells the line of what is no script.
+    """
+    return _told("trace", _bytes_of(script, "trace"), *_drawn(seed, robin), int(every))
+
+
+def schedule(script: Text, *, seed: Optional[int] = None, robin: bool = False) -> str:
+    """The script with the events of a run as its schedule: of one that `seed` draws, or round robin; one of both has to be given.
+
+    `run` of what comes back is that run. `Error` tells the line of what is no script, and with `Status.TOO_LARGE` that the run takes more
+    events than a script gives.
+    """
+    by = _drawn(seed, robin)
+    if by[0] == By.GIVEN:
+        raise TypeError("schedule takes a seed, or robin=True")
+    return _told("schedule", _bytes_of(script, "schedule"), *by)
+
+
+def seeds(script: Text, seed: int, runs: int) -> List[SeedVerdict]:
+    """The verdicts on so many runs of a script, of which the first is drawn by `seed`, and each other by the next number.
+
+    `run` of `schedule` with the seed of one is that run. `Error` tells the line of what is no script, `ValueError` that there are not 1
+    to 10,000 runs.
+    """
+    first, count = number_of(seed, "seed"), number_of(runs, "number of runs")
+    if first >= _SEEDS:
+        raise ValueError(f"a seed is below {_SEEDS}, and this is {seed}")
+    if count not in _RUNS:
+        raise ValueError(f"there are {_RUNS.start} to {_RUNS.stop - 1:,} runs, and not {runs}")
+    told = [line.split(" ", 2) for line in _told("seeds", _bytes_of(script, "seeds"), first, count).splitlines()]
+    return [SeedVerdict(int(number), verdict) for _, number, verdict in told]
+
+
+def explain(word: str) -> str:
+    """What the word of a message or a verdict means, and what to write instead: `BadHex`, or two, as `BadPath Dot`.
+
+    The word of an `Error` is `error.status.kind`. A `ValueError` lists the words, where this is none.
+    """
+    if not isinstance(word, str):
+        raise TypeError(f"explain takes str, and this is {type(word).__name__}")
+    words = word.split()
+    if len(words) not in (1, 2):
+        raise ValueError(f"explain takes one word or two, and not {len(words)}")
+    return "\n".join(map(_explained, words))
+
+
+def _explained(word: str) -> str:
+    try:
+        return _told("explain", word.encode("utf-8", "surrogateescape"))
+    except Error as error:
+        if error.status != Status.BAD_CHOICE:
+            raise
+    raise ValueError(f"{word!r} is none of {', '.join(_words())}")
+
+
+def _words() -> List[str]:
+    """The words of all faults."""
+    texts = [status.kind.removeprefix("Path") for status in Status if Status.BAD_HEADER <= status <= Status.PATH_TRAILING_SLASH]
+    return [*texts, "OutOfMemory", *(fault.kind for fault in Fault if fault)]

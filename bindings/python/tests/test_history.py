@@ -1,0 +1,411 @@
+"""Histories of any tree: how they are recorded, and what the program of the package finds of them."""
+import asyncio
+import errno
+import os
+import pathlib
+import tempfile
+import threading
+import unittest
+import unittest.mock
+
+import fs.errors
+import fs.memoryfs
+
+import atomfs
+from atomfs import Error, History, Lawful, Limits, NoHistory, NoOrder, ProgramError, Status, Tree, Unknown
+from atomfs.__main__ import program
+
+HEADER = "atomfs-journal 1\n"
+BEGUN = HEADER + "begin 1 0 mkdir /a\nbegin 2 1 stat /a\n"
+OF_PROGRAM = unittest.skipUnless(os.path.exists(program()), "there is no program in the package: ATOMFS_PROGRAM names one")
+
+
+def lines(history):
+    """The lines of the entries."""
+    return history.text().partition("entries\n")[2].splitlines()
+
+
+def replies(history):
+    """The replies, in the order of the returns."""
+    return [line.split(" ", 2)[2] for line in lines(history) if line.startswith("return ")]
+
+
+@OF_PROGRAM
+class Linearize(unittest.TestCase):
+    def test_lawful(self):
+        for text in (BEGUN + "return 2 failed ?\nreturn 1 ok\n", (BEGUN + "return 2 stat dir ?\nreturn 1 ok\n").encode()):
+            found = atomfs.linearize(text)
+            self.assertIsInstance(found, Lawful)
+            self.assertEqual((found.verdict, atomfs.check(found.journal)), ("lawful", "lawful"))
+            self.assertEqual(found.journal.count("commit "), 2)
+
+    def test_others(self):
+        for text, limit, wanted in (
+            (BEGUN + "return 2 stat dir 1\n", None, NoOrder(3, 2)),
+            (BEGUN + "return 2 stat dir 1\n", 1, Unknown(2)),
+            (BEGUN + "begin 3 1 stat /\n", None, NoHistory(3, "SeatBusy")),
+            (HEADER + "return 7 ok\n", 5, NoHistory(1, "ReturnUnbegun")),
+        ):
+            with self.subTest(wanted):
+                self.assertEqual(atomfs.linearize(text, limit=limit), wanted)
+        self.assertNotEqual(NoOrder(3, 2), NoOrder(3, 1))
+        verdicts = [found.verdict for found in (NoOrder(3, 2), NoHistory(3, "SeatBusy"), Unknown(2))]
+        self.assertEqual(verdicts, ["none 3 2", "fault 3 SeatBusy", "unknown 2"])
+
+    def test_refused(self):
+        for kind, words, call in (
+            (Error, "line 1: BadHeader: ", lambda: atomfs.linearize("")),
+            (Error, "line 4: BadLine: ", lambda: atomfs.linearize(BEGUN + "commit 1\n")),
+            (Error, "line 4: BadReply: ", lambda: atomfs.linearize(BEGUN + "return 1 done\n")),
+            (Error, "line 4: BadNumber: ", lambda: atomfs.linearize(BEGUN + "return 2 stat file ?\n")),
+            (Error, "line 2: BadPath NotAbsolute: ", lambda: atomfs.linearize(HEADER + "begin 1 0 mkdir a\n")),
+            (ValueError, "invalid value '0' for '--limit <N>': 0 is not in 1..=1000000000", lambda: atomfs.linearize(BEGUN, 0)),
+            (ValueError, "a negative limit", lambda: atomfs.linearize(BEGUN, -1)),
+            (TypeError, "limit is a whole number, and this is str", lambda: atomfs.linearize(BEGUN, "1")),
+            (TypeError, "memoryview: ", lambda: atomfs.linearize(7)),
+        ):
+            with self.subTest(words), self.assertRaises(kind) as raised:
+                call()
+            self.assertEqual((type(raised.exception), str(raised.exception)[: len(words)]), (kind, words))
+        with self.assertRaises(Error) as raised:
+            atomfs.linearize(BEGUN + "commit 1\n")
+        self.assertEqual((raised.exception.status, raised.exception.about), (Status.BAD_LINE, 4))
+
+    def test_other_ends(self):
+        """What the program says of what it found; and one that ends as it should not, or says what is no verdict."""
+        with tempfile.TemporaryDirectory() as folder:
+            path = pathlib.Path(folder, "program")
+            for text, kind in (
+                ("echo atomfs: out of memory >&2; exit 4", MemoryError),
+                ("echo none 3; exit 1", ProgramError),
+                ("echo unknown >&1; exit 4", ProgramError),
+                ("exit 0", ProgramError),
+                ("kill -9 $$", ProgramError),
+                ("echo none 3 2; echo atomfs: line 4 is told >&2; exit 1", "line 4 is told"),
+                ("echo fault 3 SeatBusy; echo atomfs: line 4 is told >&2; exit 1", "line 4 is told"),
+            ):
+                with self.subTest(text), unittest.mock.patch.dict(os.environ, ATOMFS_PROGRAM=str(path)):
+                    path.write_text(f"#!/bin/sh\n{text}\n")
+                    path.chmod(0o755)
+                    if isinstance(kind, str):
+                        self.assertEqual(History().linearize().words, kind)
+                    else:
+                        self.assertRaises(kind, History().linearize)
+                    path.unlink()
+                    self.assertRaisesRegex(ProgramError, "there is no program: ", History().linearize)
+
+
+class Texts(unittest.TestCase):
+    """What is recorded of one thread."""
+
+    def setUp(self):
+        self.history = History()
+
+    def test_replies(self):
+        with self.history.call("mkdir /a%20b"):
+            pass
+        with self.history.call("write", "/a b/f", 0, b"\x07") as answer:
+            answer.wrote(1)
+        with self.history.call("read", "/a b/f", 1, 4) as answer:
+            answer.data(b"")
+        with self.history.call("read", b"/a b/f", 0, 4) as answer:
+            answer.data(bytearray(b"\x07"))
+        with self.history.call("readdir", pathlib.PurePosixPath("/a b")) as answer:
+            answer.names(["g\xe9", b"f", "%"])
+        with self.history.call("readdir /") as answer:
+            answer.names(iter(()))
+        for is_dir, size, entries in ((True, 4096, None), (True, None, 2), (False, 5, None), (False, 5, 5)):
+            with self.history.call("stat", "/x") as answer:
+                answer.stat(is_dir, size, entries=entries)
+        with self.history.call("rename", "/x", "/y") as answer:
+            answer.failed(errno.ENOENT)
+        with self.history.call("rename /x /y") as answer:
+            answer.failed()
+        begun = [line.split(" ", 3)[3] for line in lines(self.history) if line.startswith("begin ")]
+        self.assertEqual(begun[:5], ["mkdir /a%20b", "write /a%20b/f 0 07", "read /a%20b/f 1 4", "read /a%20b/f 0 4", "readdir /a%20b"])
+        wanted = ["ok", "wrote 1", "bytes -", "bytes 07", "names %25 f g%C3%A9", "names", "stat dir ?", "stat dir 2", "stat file 5", "stat file 5"]
+        self.assertEqual(replies(self.history), [*wanted, "failed ENOENT", "failed ?"])
+        self.assertEqual(lines(self.history)[:3], ["begin 1 0 mkdir /a%20b", "return 1 ok", "begin 2 0 write /a%20b/f 0 07"])
+
+    def test_errors(self):
+        """An error that is a reply ends the block, and is kept."""
+        for line, error, word in (
+            ("mkdir /a", OSError(errno.EEXIST, "there"), "EEXIST"),
+            ("mkdir /a", FileNotFoundError("as fsspec says it"), "ENOENT"),
+            ("rmdir /a", OSError(errno.ENOTEMPTY, "full"), "ENOTEMPTY"),
+            ("unlink /a", IsADirectoryError(errno.EISDIR, "Linux says so"), "EPERM"),
+            ("truncate /a 1", IsADirectoryError(errno.EISDIR, "a directory"), "EISDIR"),
+            ("stat /a", OSError(errno.ELOOP, "no tree has it"), "?"),
+            ("readdir /a", OSError("without a number"), "?"),
+            ("stat /a", PermissionError("without a number"), "?"),
+        ):
+            with self.subTest(line=line, error=error):
+                with self.history.call(line) as answer:
+                    raise error
+                self.assertEqual(replies(self.history)[-1], f"failed {word}")
+                self.assertIs(answer.error, error)
+
+    def test_errors_of_others(self):
+        """A library's own errors are named; the first class that fits decides."""
+        history = History(errors={KeyError: errno.ENOENT, LookupError: None, TimeoutError: None, FileExistsError: errno.EBUSY})
+        for error, word in ((KeyError("a"), "ENOENT"), (IndexError(), "?"), (TimeoutError(), "?"), (FileExistsError(), "EBUSY")):
+            with history.call("stat /a"):
+                raise error
+            self.assertEqual(replies(history)[-1], f"failed {word}")
+
+    def test_under_way(self):
+        """Behind what is no reply the call stays under way, and what was raised goes on; the next call has another seat."""
+        for error in (RuntimeError(), KeyboardInterrupt(), TimeoutError(), ConnectionResetError(), OSError(errno.EIO, "broken")):
+            with self.assertRaises(type(error)), self.history.call("mkdir /a"):
+                raise error
+        with self.history.call("stat /a") as answer:
+            answer.stat(True)
+        self.assertEqual(lines(self.history), [*(f"begin {at + 1} {at} mkdir /a" for at in range(5)), "begin 6 5 stat /a", "return 6 stat dir ?"])
+        self.assertEqual(repr(self.history), "<atomfs.History of 6 calls, 5 of them under way>")
+
+    def test_told_before_an_error(self):
+        """A reply that was told is recorded, whatever is raised behind it."""
+        with self.assertRaises(OSError), self.history.call("readdir /") as answer:
+            answer.names([])
+            raise OSError(errno.ENOENT, "of something else")
+        self.assertEqual(replies(self.history), ["names"])
+
+    def test_not_told(self):
+        """A reply that is not told leaves the call under way; one that is none of the call's is refused."""
+        for line in ("stat /", "readdir /", "read / 0 1", "write / 0 07"):
+            with self.subTest(line), self.assertRaisesRegex(TypeError, "has ended, and its reply is not told: "), self.history.call(line):
+                pass
+        self.assertEqual(replies(self.history), [])
+        for line, tell, kind, words in (
+            ("mkdir /a", lambda answer: answer.names([]), TypeError, "names tells no reply of mkdir"),
+            ("readdir /", lambda answer: answer.data(b""), TypeError, "data tells no reply of readdir"),
+            ("readdir /", lambda answer: answer.names("ab"), TypeError, "names takes several names, and this is str"),
+            ("readdir /", lambda answer: answer.names(["a/b"]), ValueError, "b'a/b' is no name"),
+            ("readdir /", lambda answer: answer.names([".."]), ValueError, "b'..' is no name"),
+            ("readdir /", lambda answer: answer.names([""]), ValueError, "b'' is no name"),
+            ("readdir /", lambda answer: answer.names(["a" * 65]), ValueError, "b'aaa"),
+            ("readdir /", lambda answer: (answer.names([]), answer.names([])), TypeError, "the reply is told already: names"),
+            ("stat /", lambda answer: answer.stat(os.stat("/")), TypeError, "stat takes whether there is a directory, and this is stat_result"),
+            ("stat /", lambda answer: answer.stat(False), TypeError, "the size of a file is not told"),
+            ("stat /", lambda answer: answer.stat(False, -1), ValueError, "a negative size"),
+            ("read / 0 1", lambda answer: answer.data("a"), TypeError, "data takes bytes, and this is str: encode it"),
+            ("write / 0 07", lambda answer: answer.wrote(b"a"), TypeError, "count is a whole number, and this is bytes"),
+        ):
+            with self.subTest(words), self.assertRaises(kind) as raised, self.history.call(line) as answer:
+                tell(answer)
+            self.assertEqual(str(raised.exception)[: len(words)], words)
+
+    def test_no_call(self):
+        """What is no call is refused, by no error that looks like one of the tree; and nothing is recorded."""
+        for kind, words, given in (
+            (ValueError, "'touch /a' is no call: 'touch' is none of the eleven calls", ("touch /a",)),
+            (ValueError, "'mkdir a' is no call: ", ("mkdir a",)),
+            (ValueError, "('mkdir', '/..') is no call: ", ("mkdir", "/..")),
+            (ValueError, f"'mkdir /{'a' * 65}' is no call: ", (f"mkdir /{'a' * 65}",)),
+            (ValueError, "'read / 0 x' is no call: ", ("read / 0 x",)),
+            (ValueError, "'write / 0 0' is no call: ", ("write / 0 0",)),
+            (TypeError, "rename takes path, path", ("rename /a",)),
+            (TypeError, "mkdir takes path", ("mkdir", "/a", 0o777)),
+            (TypeError, "call takes the name of a call, or its line, and this is tuple", (("mkdir", "/a"),)),
+        ):
+            with self.subTest(words), self.assertRaises(kind) as raised:
+                self.history.call(*given)
+            self.assertEqual((type(raised.exception), str(raised.exception)[: len(words)]), (kind, words))
+        self.assertEqual(lines(self.history), [])
+
+    def test_with(self):
+        """A call that no block makes is not recorded, and that is told; one is for one block."""
+        with self.assertWarnsRegex(RuntimeWarning, "^mkdir /a is not recorded: "):
+            self.history.call("mkdir /a")
+        call = self.history.call("mkdir /a")
+        with call:
+            pass
+        with self.assertRaisesRegex(RuntimeError, "^mkdir /a is recorded already: "), call:
+            self.fail("the block began")
+        self.assertEqual(lines(self.history), ["begin 1 0 mkdir /a", "return 1 ok"])
+
+    def test_start(self):
+        """The start tree is that of the moment when the history was made, and its limits are those of the history."""
+        with Tree.from_dict({"a/f": "\x07", "b": None}, limits=Limits.V1) as tree:
+            history, nodes = History(tree), "start\ndir /\ndir /a\nfile /a/f 07\ndir /b\nentries\n"
+            tree.rmdir("/b")
+            self.assertEqual((history.text(), history.limits), (f"atomfs-journal 2\n{nodes}", Limits.V1))
+            self.assertEqual(History(tree.snapshot(), limits=Limits.V1).text(), f"atomfs-journal 2\n{nodes.replace('dir /b' + chr(10), '')}")
+            with self.assertRaisesRegex(ValueError, "the start tree is by Limits.V1, and not by Limits.V2"):
+                History(tree, limits=Limits.V2)
+        self.assertEqual(History(limits=Limits.V1).text(), HEADER)
+        self.assertEqual(History().text(), "atomfs-journal 3\nstart\ndir /\nentries\n")
+        with self.assertRaisesRegex(ValueError, "is no call: "):
+            History(limits=Limits.V1).call("mkdir", "/" + "a" * 33)
+
+
+class Threads(unittest.TestCase):
+    def look(self, history, calls):
+        """Each call is there, on a seat where no other is under way."""
+        self.assertEqual(repr(history), f"<atomfs.History of {calls:,} calls, 0 of them under way>")
+        busy, seat_of = set(), {}
+        for line in lines(history):
+            word, number, *rest = line.split()
+            if word == "begin":
+                self.assertEqual((int(number), rest[0] in busy), (len(seat_of) + 1, False))
+                seat_of[number] = rest[0]
+                busy.add(rest[0])
+            else:
+                busy.remove(seat_of[number])
+        self.assertEqual(len(seat_of), calls)
+        return set(seat_of.values())
+
+    def test_threads(self):
+        """Each thread has a seat of its own."""
+        history, together = History(), threading.Barrier(4)
+
+        def work():
+            together.wait()
+            for _ in range(500):
+                with history.call("mkdir /a"):
+                    pass
+
+        threads = [threading.Thread(target=work) for _ in range(4)]
+        for thread in threads:
+            thread.start()
+        for thread in threads:
+            thread.join()
+        self.assertEqual(self.look(history, 2_000), set("0123"))
+
+    def test_interval(self):
+        """What another thread records while a call is under way stands between its begin and its return."""
+        history = History()
+
+        def other():
+            with history.call("mkdir /b"):
+                pass
+
+        with history.call("mkdir /a"):
+            thread = threading.Thread(target=other)
+            thread.start()
+            thread.join()
+        self.assertEqual(lines(history), ["begin 1 0 mkdir /a", "begin 2 1 mkdir /b", "return 2 ok", "return 1 ok"])
+
+    def test_tasks(self):
+        """Calls of one thread that overlap have seats of their own, which later calls get again."""
+        history = History()
+
+        async def work(at):
+            for _ in range(3):
+                with history.call(f"mkdir /{at}"):
+                    await asyncio.sleep(0)
+
+        async def all_of_them():
+            await asyncio.gather(*map(work, range(5)))
+
+        asyncio.run(all_of_them())
+        self.assertEqual(self.look(history, 15), set("01234"))
+
+    @OF_PROGRAM
+    def test_tree(self):
+        """What threads do on a tree of this package is lawful."""
+        with Tree() as tree:
+            history = History(tree)
+
+            def work(at):
+                for name in "abcd":
+                    with history.call("mkdir", f"/{name}"):
+                        tree.mkdir(f"/{name}")
+                    with history.call("readdir /") as answer:
+                        answer.names(tree.readdir("/"))
+                    with history.call("rename", f"/{name}", f"/{at}"):
+                        tree.rename(f"/{name}", f"/{at}")
+                    with history.call("stat", f"/{name}") as answer:
+                        reply = tree.stat(f"/{name}")
+                        answer.stat(reply.is_dir, reply.size, entries=reply.size)
+
+            threads = [threading.Thread(target=work, args=(at,)) for at in range(3)]
+            for thread in threads:
+                thread.start()
+            for thread in threads:
+                thread.join()
+        self.look(history, 48)
+        self.assertEqual(history.linearize().verdict, "lawful")
+
+
+class Others(unittest.TestCase):
+    """Trees of others."""
+
+    @OF_PROGRAM
+    def test_kernel(self):
+        """One thread on a directory of this machine is lawful."""
+        history = History()
+        with tempfile.TemporaryDirectory() as folder:
+            for line, made in (
+                ("mkdir /a", lambda answer: os.mkdir(f"{folder}/a")),
+                ("mkdir /a", lambda answer: os.mkdir(f"{folder}/a")),
+                ("mknod /a/f", lambda answer: os.mknod(f"{folder}/a/f")),
+                ("write /a/f 0 0707", lambda answer: answer.wrote(pathlib.Path(folder, "a", "f").write_bytes(b"\x07\x07"))),
+                ("mkdir /a/f/b", lambda answer: os.mkdir(f"{folder}/a/f/b")),
+                ("unlink /a", lambda answer: os.unlink(f"{folder}/a")),
+                ("rmdir /a", lambda answer: os.rmdir(f"{folder}/a")),
+                ("rename /a /b", lambda answer: os.rename(f"{folder}/a", f"{folder}/b")),
+                ("readdir /b", lambda answer: answer.names(os.listdir(f"{folder}/b"))),
+                ("stat /b", lambda answer: answer.stat(True, os.stat(f"{folder}/b").st_size)),
+                ("stat /b/f", lambda answer: answer.stat(False, os.stat(f"{folder}/b/f").st_size)),
+                ("truncate /b/f 1", lambda answer: os.truncate(f"{folder}/b/f", 1)),
+                ("read /b/f 0 9", lambda answer: answer.data(pathlib.Path(folder, "b", "f").read_bytes())),
+            ):
+                with history.call(line) as answer:
+                    made(answer)
+        wanted = ["ok", "failed EEXIST", "ok", "wrote 2", "failed ENOTDIR", "failed EPERM", "failed ENOTEMPTY", "ok"]
+        self.assertEqual(replies(history), [*wanted, "names f", "stat dir ?", "stat file 2", "ok", "bytes 07"])
+        self.assertEqual(history.linearize().verdict, "lawful")
+
+    @OF_PROGRAM
+    def test_memory_fs(self):
+        """`removedir` of PyFilesystem2 looks whether a directory is empty before it takes the lock: one that is made meanwhile is lost."""
+        looked, made = threading.Event(), threading.Event()
+
+        class Slow(fs.memoryfs.MemoryFS):
+            def isempty(self, path):
+                empty = super().isempty(path)
+                looked.set()
+                made.wait(10)
+                return empty
+
+        files, history = Slow(), History()
+
+        def remove():
+            with history.call("rmdir /a"):
+                files.removedir("/a")
+
+        with history.call("mkdir /a"):
+            files.makedir("/a")
+        thread = threading.Thread(target=remove)
+        thread.start()
+        looked.wait(10)
+        with history.call("mkdir /a/b"):
+            files.makedir("/a/b")
+        made.set()
+        thread.join()
+        self.assertEqual(replies(history), ["ok", "ok", "ok"])
+        self.assertEqual(history.linearize(), NoOrder(6, 2))
+
+    def test_errors_of_fs(self):
+        history = History()
+        for line, error, word in (
+            ("mkdir /a", fs.errors.DirectoryExists("/a"), "EEXIST"),
+            ("mkdir /a/b", fs.errors.ResourceNotFound("/a"), "?"),
+            ("readdir /f", fs.errors.DirectoryExpected("/f"), "ENOTDIR"),
+            ("unlink /a", fs.errors.FileExpected("/a"), "EPERM"),
+            ("read /a 0 1", fs.errors.FileExpected("/a"), "EISDIR"),
+            ("rmdir /a", fs.errors.DirectoryNotEmpty("/a"), "ENOTEMPTY"),
+            ("rmdir /", fs.errors.RemoveRootError(), "EBUSY"),
+            ("stat /a", fs.errors.FilesystemClosed(), "?"),
+        ):
+            with history.call(line) as answer:
+                raise error
+            self.assertEqual((replies(history)[-1], answer.error), (f"failed {word}", error))
+        for kind in (fs.errors.OperationTimeout, fs.errors.RemoteConnectionError):
+            with self.assertRaises(kind), history.call("mkdir /a"):
+                raise kind("/a")
+
+
+if __name__ == "__main__":
+    unittest.main()

@@ -1,0 +1,178 @@
+//! What the library makes of scripts and journals.
+
+use crate::error::Error;
+use crate::ffi::{self, OK, TOO_SMALL};
+
+/// Room for the names of a full directory, and for the bytes of most files and texts: where one has more, the room becomes longer.
+pub(crate) const ROOM: usize = 65_536;
+
+/// By which schedule a script runs.
+#[derive(Clone, Copy, Debug, Default, PartialEq, Eq, Hash)]
+pub enum Schedule {
+    /// The script's own.
+    #[default]
+    Given,
+    /// One event of each thread in turn.
+    RoundRobin,
+    /// Threads that are drawn from this number.
+    Seeded(u64),
+}
+
+impl Schedule {
+    /// The two numbers that the library knows it by.
+    fn numbers(self) -> (u8, u64) {
+        match self {
+            Schedule::Given => (0, 0),
+            Schedule::RoundRobin => (1, 0),
+            Schedule::Seeded(seed) => (2, seed),
+        }
+    }
+}
+
+/// The library's texts are ASCII: names are percent-encoded.
+pub(crate) fn ascii(bytes: &[u8]) -> String {
+    String::from_utf8_lossy(bytes).into_owned()
+}
+
+/// The verdict on a journal: `lawful`, or the first entry at fault. `ErrorKind::BadText` tells the line of what is no journal.
+///
+/// ```
+/// assert_eq!(atomfs::check("atomfs-journal 1\n")?, "lawful");
+/// let error = atomfs::check("no journal").unwrap_err();
+/// assert!(matches!(error.kind(), atomfs::ErrorKind::BadText(_, 1)));
+/// # Ok::<(), atomfs::Error>(())
+/// ```
+pub fn check(journal: impl AsRef<[u8]>) -> Result<String, Error> {
+    Ok(of_text(ffi::atomfs_check, journal.as_ref())?
+        .trim_end()
+        .to_string())
+}
+
+/// The journal, the tree and the counts of a script, run by its own schedule. `ErrorKind::BadText` tells the line of what is no
+/// script.
+///
+/// ```
+/// let ran = atomfs::run("atomfs 1\nschedule\nfinish\n")?;
+/// assert!(ran.ends_with("begun 0 committed 0 returned 0\n"));
+/// # Ok::<(), atomfs::Error>(())
+/// ```
+pub fn run(script: impl AsRef<[u8]>) -> Result<String, Error> {
+    of_text(ffi::atomfs_run, script.as_ref())
+}
+
+/// What each event of a script's run did, in words; with `every` idle turns and repeated waits have a line, too.
+///
+/// ```
+/// use atomfs::Schedule;
+/// let told = atomfs::trace("atomfs 1\nthread t\nmkdir /a\nschedule\nfinish\n", Schedule::Given, false)?;
+/// assert!(told.starts_with("atomfs-trace 1\nthread t\n"));
+/// # Ok::<(), atomfs::Error>(())
+/// ```
+pub fn trace(script: impl AsRef<[u8]>, by: Schedule, every: bool) -> Result<String, Error> {
+    let (script, (schedule, seed)) = (script.as_ref(), by.numbers());
+    let told = told(|out, room, count| unsafe {
+        let every = u8::from(every);
+        ffi::atomfs_trace(
+            script.as_ptr(),
+            script.len(),
+            schedule,
+            seed,
+            every,
+            out,
+            room,
+            count,
+        )
+    })?;
+    Ok(ascii(&told))
+}
+
+/// A picture of a script's run, or of a journal, whatever the schedule, as an SVG file: of all calls, or of the one of a number and
+/// those that overlap it. `ErrorKind::NoCall`, where there is no such call.
+///
+/// ```
+/// let mut tree = atomfs::Tree::new()?;
+/// tree.mkdir("/a")?;
+/// let picture = atomfs::draw(tree.journal()?, atomfs::Schedule::Given, None)?;
+/// assert!(picture.starts_with("<svg "));
+/// # Ok::<(), atomfs::Error>(())
+/// ```
+pub fn draw(text: impl AsRef<[u8]>, by: Schedule, around: Option<u64>) -> Result<String, Error> {
+    let (text, (schedule, seed)) = (text.as_ref(), by.numbers());
+    let told = told(|out, room, count| unsafe {
+        let around = around.unwrap_or(ffi::WHOLE);
+        ffi::atomfs_draw(
+            text.as_ptr(),
+            text.len(),
+            schedule,
+            seed,
+            around,
+            out,
+            room,
+            count,
+        )
+    })?;
+    Ok(ascii(&told))
+}
+
+/// A script with the events of its run as its schedule, in bytes, since its comments stay as they are. `run` of it is that run.
+/// `ErrorKind::BadText` with the line 0, where a script has no room for the events.
+pub fn schedule(script: impl AsRef<[u8]>, by: Schedule) -> Result<Vec<u8>, Error> {
+    let (script, (schedule, seed)) = (script.as_ref(), by.numbers());
+    told(|out, room, count| unsafe {
+        let length = script.len();
+        ffi::atomfs_schedule(script.as_ptr(), length, schedule, seed, out, room, count)
+    })
+}
+
+/// The verdicts on so many runs of a script, each behind its seed: the first is drawn from `seed`, each other from the next number.
+/// `ErrorKind::BadChoice`, where there are not 1 to 10,000 runs, or `seed` is 2^63 or more.
+pub fn seeds(script: impl AsRef<[u8]>, seed: u64, runs: u64) -> Result<Vec<(u64, String)>, Error> {
+    let script = script.as_ref();
+    let told = told(|out, room, count| unsafe {
+        ffi::atomfs_seeds(script.as_ptr(), script.len(), seed, runs, out, room, count)
+    })?;
+    let of_line = |line: &str| {
+        let mut words = line.splitn(3, ' ').skip(1);
+        let number = words.next().and_then(|word| word.parse().ok());
+        (
+            number.unwrap_or_default(),
+            words.next().unwrap_or_default().to_owned(),
+        )
+    };
+    Ok(ascii(&told).lines().map(of_line).collect())
+}
+
+/// What the word of a fault means, as `BadHex` or `WrongReply`, and what to write instead. `ErrorKind::BadChoice`, where it is none.
+///
+/// ```
+/// assert!(atomfs::explain("BadHex")?.starts_with("BadHex: "));
+/// # Ok::<(), atomfs::Error>(())
+/// ```
+pub fn explain(word: impl AsRef<[u8]>) -> Result<String, Error> {
+    of_text(ffi::atomfs_explain, word.as_ref())
+}
+
+type OfText = unsafe extern "C" fn(*const u8, usize, *mut u8, usize, *mut usize) -> u8;
+
+fn of_text(function: OfText, given: &[u8]) -> Result<String, Error> {
+    let told = told(|out, room, count| unsafe {
+        function(given.as_ptr(), given.len(), out, room, count)
+    })?;
+    Ok(ascii(&told))
+}
+
+/// The bytes that a function tells, with as much room as they need.
+fn told(mut ask: impl FnMut(*mut u8, usize, *mut usize) -> u8) -> Result<Vec<u8>, Error> {
+    let mut out = vec![0; ROOM];
+    loop {
+        let mut count = 0;
+        match ask(out.as_mut_ptr(), out.len(), &mut count) {
+            OK => {
+                out.truncate(count);
+                return Ok(out);
+            }
+            TOO_SMALL => out.resize(count, 0),
+            status => return Err(Error::of_text(status, count)),
+        }
+    }
+}
