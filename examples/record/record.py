@@ -1,0 +1,128 @@
+#!/usr/bin/env python3
+"""Records the calls of threads on a tree in memory, of PyFilesystem2 or of this package, and has an order of them found.
+
+Install the package, or build the library by `embed/build` and say where it is:
+
+    export PYTHONPATH=bindings/python/src ATOMFS_LIBRARY=dist/lib/libatomfs.so ATOMFS_PROGRAM=dist/bin/atomfs
+
+    python3 examples/record/record.py Tree
+    python3 examples/record/record.py MemoryFS > none.history
+
+MemoryFS comes with Debian's python3-fs. One of its threads removes a directory, and what another one made in it meanwhile is lost.
+
+One thread records first: what nothing explains there is another kind of tree, and no race. Then three threads make four drawn calls each,
+round after round. The first history that no order explains goes to standard output.
+
+Exit status: 0 all histories are lawful; 1 one of threads is not; 2 one of one thread is not, or usage error.
+"""
+import argparse
+import concurrent.futures
+import inspect
+import random
+import re
+import sys
+import threading
+import time
+
+import atomfs
+
+ALONE, THREADS, CALLS = 20, 3, 4
+NAMES = *3 * ["mkdir", "rmdir"], "mknod", "unlink", "stat", "readdir"
+PATHS = "/a", "/b", "/a/a", "/a/b"
+
+
+def on_memory_fs(files, name, path, answer):
+    """Makes a call on a tree of PyFilesystem2."""
+    if name == "mkdir":
+        files.makedir(path)
+    elif name == "mknod":
+        files.openbin(path, "x").close()
+    elif name == "unlink":
+        files.remove(path)
+    elif name == "rmdir":
+        files.removedir(path)
+    elif name == "readdir":
+        answer.names(files.listdir(path))
+    else:
+        info = files.getinfo(path, ["details"])
+        answer.stat(info.is_dir, info.size)
+
+
+def on_tree(tree, name, path, answer):
+    """Makes a call on a tree of this package, whose `stat` knows how many entries a directory has."""
+    reply = getattr(tree, name)(path)
+    if name == "readdir":
+        answer.names(reply)
+    elif name == "stat":
+        answer.stat(reply.is_dir, reply.size, entries=reply.size)
+
+
+def record(tree, make, lists):
+    """The history of lists of calls, each on a thread of its own."""
+    # Where a path leads through a file, MemoryFS says that an assertion failed, and changes nothing.
+    history, together = atomfs.History(errors={AssertionError: None}), threading.Barrier(len(lists))
+
+    def work(calls):
+        together.wait()
+        for name, path in calls:
+            with history.call(name, path) as answer:
+                make(tree, name, path, answer)
+
+    with concurrent.futures.ThreadPoolExecutor(len(lists)) as pool:
+        # What a thread raised, since it is no reply, is raised here.
+        list(pool.map(work, lists))
+    return history
+
+
+def drawn(draw, threads, calls):
+    return [[(draw.choice(NAMES), draw.choice(PATHS)) for _ in range(calls)] for _ in range(threads)]
+
+
+def pauses(draw, kind):
+    """Stops threads for a moment at drawn lines of the module that has a class, so that others go on: Python itself seldom does."""
+    file = inspect.getfile(kind)
+
+    def at_line(frame, event, argument):
+        if draw.random() < 0.2:
+            time.sleep(1e-5)
+        return at_line
+
+    return lambda frame, event, argument: at_line if frame.f_code.co_filename == file else None
+
+
+def judge(history, what, status):
+    """Ends with this status where no order explains a history."""
+    found, text = history.linearize(), history.text()
+    if isinstance(found, atomfs.Lawful):
+        return
+    print(f"{what}: {found.verdict}", file=sys.stderr)
+    if isinstance(found, atomfs.NoOrder):
+        begun, returned = (re.search(rf"^{word} {found.call} (.*)$", text, re.M)[1] for word in ("begin", "return"))
+        print(f"no order explains that `{begun.split(' ', 1)[1]}` returned `{returned}`", file=sys.stderr)
+    print(text, end="")
+    sys.exit(status)
+
+
+def main():
+    words = argparse.ArgumentParser(description=__doc__, formatter_class=argparse.RawDescriptionHelpFormatter)
+    words.add_argument("tree", choices=("MemoryFS", "Tree"))
+    words.add_argument("--rounds", type=int, default=2_000)
+    words.add_argument("--seed", type=int, default=0, help="draws the calls, and where threads stop")
+    given = words.parse_args()
+    if given.tree == "MemoryFS":
+        from fs.memoryfs import MemoryFS as new
+
+        make = on_memory_fs
+    else:
+        new, make = atomfs.Tree, on_tree
+    draw = random.Random(given.seed)
+    for _ in range(ALONE):
+        judge(record(new(), make, drawn(draw, 1, THREADS * CALLS)), "one thread, so this is another kind of tree", 2)
+    threading.settrace(pauses(draw, new))
+    for at in range(given.rounds):
+        judge(record(new(), make, drawn(draw, THREADS, CALLS)), f"round {at}", 1)
+    print(f"all are lawful: {ALONE} histories of one thread, {given.rounds} of {THREADS} threads")
+
+
+if __name__ == "__main__":
+    main()
