@@ -1,7 +1,8 @@
 /* Calls a second through the library for C, as lines and typed: embed_c CALLS, or embed_c --long CALLS. Of the names a
  * directory is made, looked at, renamed and removed, over and over; a write and a read have 4,000 bytes, and an eighth as many
- * of them are made. --long makes all of these, typed, on a tree that forgets behind each 10,000, and on one with checkpoints
- * there, and tells the most memory that the process had. */
+ * of them are made. --long makes all of these, typed, on a tree that forgets behind each 10,000, on one with checkpoints there,
+ * and, up to a million of them, on one that keeps all. It tells the processor's time for a call, and the most memory that the
+ * process had, after the first 100,000 and in all. */
 #include "atomfs.h"
 #include <stdio.h>
 #include <stdlib.h>
@@ -9,7 +10,8 @@
 #include <sys/resource.h>
 #include <time.h>
 
-enum { PIECE = 4000, EVERY = 10000 };
+enum { PIECE = 4000, EVERY = 10000, EARLY = 100000, MOST_KEPT = 1000000 };
+enum journal { FORGOTTEN, HANDED_OUT, KEPT };
 
 static atomfs fs = ATOMFS_INIT;
 static uint64_t seat, number, wrote;
@@ -93,10 +95,17 @@ static void measure(const char *name, uint8_t (*call)(long), long calls) {
     printf("C       %-13s %9.0f calls/s\n", name, best);
 }
 
-static long peak(void) {
+static struct rusage used(void) {
     struct rusage usage;
     getrusage(RUSAGE_SELF, &usage);
-    return usage.ru_maxrss;
+    return usage;
+}
+
+static long peak(void) { return used().ru_maxrss; }
+
+static double processor_seconds(void) {
+    struct rusage usage = used();
+    return (double)(usage.ru_utime.tv_sec + usage.ru_stime.tv_sec) + (double)(usage.ru_utime.tv_usec + usage.ru_stime.tv_usec) * 1e-6;
 }
 
 static void checkpoint(void) {
@@ -111,20 +120,22 @@ static void checkpoint(void) {
     if (status) exit(1);
 }
 
-/* Behind so many calls the tree has forgotten them by itself, or a checkpoint hands them out. */
-static void run_long(long calls, int forgets) {
+/* The calls, of which the tree forgets all but the last by itself, or which checkpoints hand out, or which are kept. */
+static void run_long(long calls, enum journal journal) {
+    static const char *words[] = { "forgotten behind each 10000", "a checkpoint behind each 10000", "all kept" };
     long early = 0;
     open_tree();
-    if (forgets && atomfs_keep(&fs, EVERY)) exit(1);
+    if (journal == FORGOTTEN && atomfs_keep(&fs, EVERY)) exit(1);
+    double from = processor_seconds();
     for (long i = 0; i < calls; i++) {
         /* One call in ten is a write, and one a read. */
         long ten = i / 10, k = i % 10;
         if (k == 8 ? write_typed(ten) : k == 9 ? read_typed(ten) : names_typed(ten * 8 + k)) exit(1);
-        if (!forgets && (i + 1) % EVERY == 0) checkpoint();
-        if (i + 1 == calls / 10) early = peak();
+        if (journal == HANDED_OUT && (i + 1) % EVERY == 0) checkpoint();
+        if (i + 1 == EARLY) early = peak();
     }
-    printf("C       %ld calls, %s every %d: at most %ld KiB, %ld KiB after a tenth of them\n", calls,
-           forgets ? "forgotten" : "a checkpoint", EVERY, peak(), early);
+    printf("C       %ld calls, %s: %.0f ns a call; %ld KiB after 100000, at most %ld KiB\n", calls, words[journal],
+           (processor_seconds() - from) * 1e9 / (double)calls, early, peak());
     if (atomfs_close(&fs)) exit(1);
 }
 
@@ -133,8 +144,9 @@ int main(int argc, char **argv) {
     long calls = argc > 1 + is_long ? atol(argv[1 + is_long]) : 60000;
     for (int k = 0; k < PIECE; k++) piece[k] = (char)(k * 7);
     if (is_long) {
-        run_long(calls, 1);
-        run_long(calls, 0);
+        run_long(calls, FORGOTTEN);
+        run_long(calls, HANDED_OUT);
+        run_long(calls < MOST_KEPT ? calls : MOST_KEPT, KEPT);
         return 0;
     }
     measure("names, lines", names_by_lines, calls);

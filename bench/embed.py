@@ -20,7 +20,7 @@ sys.path.insert(0, str(ROOT / "bindings" / "python" / "src"))
 os.environ["ATOMFS_LIBRARY"] = sys.argv[1]
 import atomfs
 
-PIECE, EVERY = bytes(k * 7 % 256 for k in range(4000)), 10_000
+PIECE, EVERY, EARLY, MOST_KEPT = bytes(k * 7 % 256 for k in range(4000)), 10_000, 100_000, 1_000_000
 
 
 def lines():
@@ -228,11 +228,15 @@ def peak():
     return resource.getrusage(resource.RUSAGE_SELF).ru_maxrss
 
 
-def run_long(calls, forgets):
-    """Behind so many calls the tree has forgotten them by itself, or a checkpoint hands them out."""
+FORGOTTEN, HANDED_OUT, KEPT = f"forgotten behind each {EVERY}", f"a checkpoint behind each {EVERY}", "all kept"
+
+
+def run_long(calls, journal):
+    """The calls, of which the tree forgets all but the last by itself, or which checkpoints hand out, or which are kept."""
     with typed_tree() as (tree,):
-        if forgets:
+        if journal == FORGOTTEN:
             tree.keep(atomfs.LAST(EVERY))
+        early, began = 0, time.process_time()
         for i in range(calls):
             if i % 10 < 8:
                 names_typed(tree, i // 10 * 8 + i % 10)
@@ -240,17 +244,18 @@ def run_long(calls, forgets):
                 write_typed(tree, i // 10)
             else:
                 read_typed(tree, i // 10)
-            if not forgets and (i + 1) % EVERY == 0:
+            if journal == HANDED_OUT and (i + 1) % EVERY == 0:
                 tree.checkpoint()
-            if i + 1 == calls // 10:
+            if i + 1 == EARLY:
                 early = peak()
-    what = "forgotten" if forgets else "a checkpoint"
-    print(f"Python  {calls} calls, {what} every {EVERY}: at most {peak()} KiB, {early} KiB after a tenth of them")
+        spent = time.process_time() - began
+    print(f"Python  {calls} calls, {journal}: {spent * 1e9 / calls:.0f} ns a call; {early} KiB after {EARLY}, at most {peak()} KiB")
 
 
 if sys.argv[2] == "--long":
-    for forgets in (True, False):
-        run_long(int(sys.argv[3]), forgets)
+    given = int(sys.argv[3])
+    for journal, calls in ((FORGOTTEN, given), (HANDED_OUT, given), (KEPT, min(given, MOST_KEPT))):
+        run_long(calls, journal)
 else:
     measure_all(int(sys.argv[2]))
     measure_others(int(sys.argv[2]))

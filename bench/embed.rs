@@ -4,6 +4,7 @@ use std::time::Instant;
 
 const PIECE: usize = 4000;
 const EVERY: usize = 10_000;
+const EARLY: usize = 100_000;
 
 fn piece() -> Vec<u8> {
     (0..PIECE).map(|k| (k * 7) as u8).collect()
@@ -81,12 +82,12 @@ fn run_long(calls: usize, forgets: bool) {
         if !forgets && (i + 1) % EVERY == 0 {
             tree.checkpoint().unwrap();
         }
-        if i + 1 == calls / 10 {
+        if i + 1 == EARLY {
             early = peak();
         }
     }
     let what = if forgets { "forgotten" } else { "a checkpoint" };
-    println!("Rust    {calls} calls, {what} every {EVERY}: at most {} KiB, {early} KiB after a tenth of them", peak());
+    println!("Rust    {calls} calls, {what} behind each {EVERY}: {early} KiB after {EARLY}, at most {} KiB", peak());
 }
 
 fn main() {

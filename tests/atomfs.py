@@ -45,10 +45,14 @@ class Status(enum.IntEnum):
     PATH_TOO_MANY_NAMES = 31
     PATH_DOT = 32
     PATH_TRAILING_SLASH = 33
+    NO_CALL = 34
+    BAD_CHOICE = 35
 
 
 # From this status on a call failed, and the rest is the number of its error.
 FAILED = 128
+# By this number a whole text is drawn.
+WHOLE = 2**64 - 1
 # No tree has a seat of this number.
 NO_SEAT = 2**64 - 1
 
@@ -64,6 +68,14 @@ class Did(enum.IntEnum):
     COMMIT = 5
     CARRY_OUT = 6
     RETURN = 7
+
+
+class Schedule(enum.IntEnum):
+    """By which schedule a script runs."""
+
+    GIVEN = 0
+    ROUND_ROBIN = 1
+    SEEDED = 2
 
 
 class Error(Exception):
@@ -121,6 +133,11 @@ class Library:
             "reply_names": [handle, number, *text, *told],
             "run": [*text, *told],
             "check": [*text, *told],
+            "trace": [*text, ctypes.c_uint8, number, ctypes.c_uint8, *told],
+            "draw": [*text, ctypes.c_uint8, number, number, *told],
+            "schedule": [*text, ctypes.c_uint8, number, *told],
+            "seeds": [*text, number, number, *told],
+            "explain": [*text, *told],
             "check_path": [*text, ctypes.c_uint8],
         }.items():
             function = getattr(self.lib, "atomfs_" + name)
@@ -145,6 +162,26 @@ class Library:
     def check(self, journal):
         """The line of the verdict on a journal."""
         return self.text(lambda *told: self.atomfs_check(journal, len(journal), *told))
+
+    def trace(self, script, schedule=Schedule.GIVEN, seed=0, every=0):
+        """The trace of a script's run by a schedule."""
+        return self.text(lambda *told: self.atomfs_trace(script, len(script), schedule, seed, every, *told))
+
+    def draw(self, text, schedule=Schedule.GIVEN, seed=0, around=WHOLE):
+        """The picture of a script's run by a schedule, or of a journal."""
+        return self.text(lambda *told: self.atomfs_draw(text, len(text), schedule, seed, around, *told))
+
+    def schedule(self, script, schedule=Schedule.ROUND_ROBIN, seed=0):
+        """A script with the events of its run by a schedule as its words."""
+        return self.text(lambda *told: self.atomfs_schedule(script, len(script), schedule, seed, *told))
+
+    def seeds(self, script, seed=0, runs=1):
+        """The lines of so many drawn runs of a script."""
+        return self.text(lambda *told: self.atomfs_seeds(script, len(script), seed, runs, *told))
+
+    def explain(self, word):
+        """What the word of a fault means."""
+        return self.text(lambda *told: self.atomfs_explain(word, len(word), *told))
 
     def check_path(self, path, version=1):
         """Whether bytes are a path by the limits of a version, or why they are none."""

@@ -21,8 +21,8 @@ from harness import DATA, ROOT, Case, Outcome, run
 from promised import promises
 
 README, EXAMPLES, DOCS = ROOT / "README.md", ROOT / "examples" / "README.md", ROOT / "docs"
-FORMATS, SPECIFICATION, BELIEVE, CHANGING, CHOOSING, EMBEDDING, SPEED, THREADS = (
-    DOCS / f"{name}.md" for name in ("FORMATS", "SPECIFICATION", "BELIEVE", "CHANGING", "CHOOSING", "EMBEDDING", "SPEED", "THREADS")
+FORMATS, SPECIFICATION, BELIEVE, CHANGING, CHOOSING, EMBEDDING, LINEARIZE, SPEED, THREADS = (
+    DOCS / f"{name}.md" for name in ("FORMATS", "SPECIFICATION", "BELIEVE", "CHANGING", "CHOOSING", "EMBEDDING", "LINEARIZE", "SPEED", "THREADS")
 )
 CRATES = ROOT / "crates"
 OF_CRATES = sorted(CRATES.glob("*/README.md"))
@@ -438,6 +438,8 @@ class Explained(Page):
     def test_meanings(self):
         means = {spans(fault)[0].split(" ")[-1]: meaning for fault, meaning, _ in table(FORMATS, "Fault", "Means", "Line")}
         means |= {spans(kind)[0]: wrong for _, kind, wrong in table(SPECIFICATION, "Number", "Kind", "What is wrong")}
+        found = {spans(line)[0]: meaning for line, _, meaning in table(LINEARIZE, "It writes", "Status", "Proved (`linearize` `answer`, `fault`)") if spans(line)}
+        means |= {"none": found["none PLACE CALL"], "unknown": found["unknown PLACE"], "ReturnUnbegun": means["CommitUnbegun"]}
         shown = {word: text.decode().splitlines()[0] for word, text in explanations().items()}
         self.agrees("what the words mean", {word: f"{word}: {meaning}" for word, meaning in means.items()}, shown)
 
@@ -599,7 +601,7 @@ class EachCommand(Page):
     """Each command of a page can be typed: it is run here or by another test, or it is named below as one that wants what the tests have not."""
 
     # The first words of commands, in backquotes or at the start of a line of a block without a language, or of one of a shell.
-    BEGINS = r"(?:ROW=.* )?(?:atomfs|examples/run|tests/\w+|bench/\w+|embed/\w+|\.ci/run|python3|rt|cc|pip|tar|cargo|cmake|cd|git)"
+    BEGINS = r"(?:ROW=.* )?(?:atomfs|examples/run|examples/many/\w+|tests/\w+|bench/\w+|embed/\w+|\.ci/run|python3|rt|cc|pip|tar|cargo|cmake|cd|git)"
     COMMAND = re.compile(BEGINS + r"(?: [^|].*)?")
     # What is named and no command.
     NO_COMMAND = re.compile(r"atomfs [123]|atomfs = .*|tests/(data|model|worked)|(bench|tests)/\w+\.\w+")
@@ -608,13 +610,13 @@ class EachCommand(Page):
         r"rt|cc|python3|pip|cmake|cargo|rt (check|ci|run|plant|tidy|fmt|verdict|must-fail|doc|version).*|cc -I dist/include .*|cc main\.c \$\(.*|pip install --no-index .*|tar xf atomfs-.*|git show .*|cd \S+"
     )
     # The words that stand for others.
-    PUT = {"CRATE": "fs_graph", "NAME": "fs_graph", "COMMAND": "run", "CALL": "1", **dict.fromkeys(("SCRIPT", "A", "B", "C"), "examples/one_name.script")}
+    PUT = {"CRATE": "fs_graph", "NAME": "fs_graph", "COMMAND": "run", "CALL": "1", "TREE": str(DATA / "starts" / "moved.tree"), **dict.fromkeys(("SCRIPT", "A", "B", "C"), "examples/one_name.script")}
     # What stands for an input.
     INPUTS = None, "FILE", "SCRIPT", "INPUT", "A", "kept.script"
     # What the program says of the first words of a command.
     IN_PART = re.compile(rb"error: (the following required arguments were not provided:|a value is required for .* but none was supplied)\n")
-    # What takes longer than a test may, or is the gate: that it is there and can be run is looked at.
-    LONG = re.compile(r"(\.ci/run|tests/run|bench/\w+|embed/\w+)(?: .*)?")
+    # What takes longer than a test may, or is the gate, or run by tests/many.py: that it is there and can be run is looked at.
+    LONG = re.compile(r"(\.ci/run|tests/run|bench/\w+|embed/\w+|examples/many/\w+)(?: .*)?")
 
     @classmethod
     def shown(cls, page):
@@ -1073,7 +1075,7 @@ class Numbers(Sentences):
         self.agrees("embed/atomfs.h", number(re.search("#define ATOMFS_NODE_LIMIT (.*)", header)[1]), limits["NODE_LIMIT"])
 
     def test_limits_of_texts(self):
-        texts, scripts = constants("fs_words/src/limits.rt"), constants("fs_script/src/limits.rt")
+        texts, scripts, names = constants("fs_words/src/limits.rt"), constants("fs_script/src/limits.rt"), constants("fs_names/src/limits.rt")
         draws, seeds = constants("fs_sched/src/schedule.rt"), constants("fs_sched/src/seeding.rt")
         events = scripts["EVENT_LIMIT"]
         sentences = (
@@ -1081,7 +1083,7 @@ class Numbers(Sentences):
             f"The {scripts['THREAD_LIMIT'] + 1:,}th thread, the {scripts['CALL_LIMIT'] + 1:,}th call and the {events + 1:,}st given event",
             f"`THREAD*NUMBER` (1 to {events:,} events)",
             f"with a number outside 1 to {events:,}",
-            f"a limit is exceeded: {texts['TEXT_LIMIT']:,} bytes of a text, {scripts['THREAD_LIMIT']} threads, {scripts['CALL_LIMIT']:,} calls or {events:,} given",
+            f"a limit is exceeded: {texts['TEXT_LIMIT']:,} bytes of a text, {scripts['THREAD_LIMIT']} threads, {scripts['CALL_LIMIT']:,} calls, {events:,} given events or {names['NODE_LIMIT']:,} nodes",
             f"then at most {scripts['THREAD_NAME_LIMIT'] - 1} of `a` to `z`",
             f"or {draws['DRAW_LIMIT']:,} are drawn",
             f"N from 0 to {seeds['SEED_LIMIT']:,}, K from 1 to {seeds['RUN_LIMIT']:,}",

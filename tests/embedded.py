@@ -1,5 +1,5 @@
 """The library for C as it is built: its typed calls, and calls that break its rules as far as it answers them (typed.c), a tree that threads share
-(shared.c), that some call always goes on, why bytes are no path, its header, what it exports and what is packed; the programs of examples/embed in C, Rust and Python, and the examples of
+(shared.c), that some call always goes on, why bytes are no path, its tools over texts, its header, what it exports and what is packed; the programs of examples/embed in C, Rust and Python, and the examples of
 docs/EMBEDDING.md and of the packages' pages.
 
 With LIBATOMFS the programs of this folder take another library: its shared object, beside which the archive stands.
@@ -209,6 +209,51 @@ class Paths(harness.Case):
         self.library, self.came = harness.library(), set()
         self.each(((f"path_{number}", number) for number in range(PATHS)), self.look)
         self.same("the statuses that came", sorted(self.came), [status for status in atomfs.Status if status == atomfs.Status.OK or status.name.startswith("PATH_")])
+
+
+class Tools(harness.Case):
+    """What a tool of the library tells is what the command of its name prints, byte for byte, or the status and the line of what that says of its input."""
+
+    SCRIPTS = "helped_rename", "errors_of_each_call", "comments", "bytes_of_files"
+    BY = (
+        ((), (atomfs.Schedule.GIVEN, 0)),
+        (("--robin",), (atomfs.Schedule.ROUND_ROBIN, 0)),
+        (("--seed", "7"), (atomfs.Schedule.SEEDED, 7)),
+        (("--seed", str(2**64 - 1)), (atomfs.Schedule.SEEDED, 2**64 - 1)),
+    )
+    WORDS = "BadHeader", "BadPath", "TrailingSlash", "OutOfMemory", "BadStart", "BeginTwice", "WrongReply"
+
+    def look(self, words, given, ask):
+        came = harness.run(given, *words)
+        self.same(words, harness.told(lambda text: ask(), given), came.output if came.status in (0, 1) and came.output else self.refused(came))
+
+    def refused(self, came):
+        """The status and the line of what the program says of its input."""
+        line, kind = re.fullmatch(rb"atomfs: line (\d+): (\w+).*\n", came.message).groups()
+        return KINDS[kind.decode()], int(line)
+
+    def rows(self):
+        library = harness.library()
+        runs = harness.DATA / "worked" / "runs"
+        texts = {name: (runs / f"{name}.script").read_bytes() for name in self.SCRIPTS}
+        texts |= {"left": b"atomfs 1\nthread t\nmkdir /a\nmkdir /b\nschedule\nt*3\n", "no script": b"atomfs 1\nthread t\nmkdr /a\nschedule\n"}
+        for name, text in texts.items():
+            for words, by in self.BY:
+                yield f"trace {name} {words}", ("trace", *words), text, lambda text=text, by=by: library.trace(text, *by)
+                yield f"every {name} {words}", ("trace", "--every", *words), text, lambda text=text, by=by: library.trace(text, *by, every=1)
+                yield f"draw {name} {words}", ("draw", *words), text, lambda text=text, by=by: library.draw(text, *by)
+                if words:
+                    yield f"schedule {name} {words}", ("schedule", *words), text, lambda text=text, by=by: library.schedule(text, *by)
+            yield f"around {name}", ("draw", "--around", "1"), text, lambda text=text: library.draw(text, around=1)
+            yield f"seeds {name}", ("seeds", "--seed", "9", "--runs", "3"), text, lambda text=text: library.seeds(text, 9, 3)
+        journal = (runs / "helped_rename.text").read_bytes().partition(b"tree\n")[0]
+        for name, text in {"journal": journal, "unlawful": journal.replace(b" ok\n", b" wrote 1\n", 1), "no journal": journal + b"commit 1 2\n"}.items():
+            yield f"draw {name}", ("draw",), text, lambda text=text: library.draw(text)
+        for word in self.WORDS:
+            yield f"explain {word}", ("explain", word), b"", lambda word=word: library.explain(word.encode())
+
+    def test_as_the_program(self):
+        self.each(self.rows(), self.look)
 
 
 class Built(harness.Case):

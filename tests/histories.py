@@ -7,6 +7,7 @@ which there is no order, while there is one up to the entry before it. Journals 
 import copy
 import random
 import re
+import resource
 import unittest
 
 import drawn
@@ -119,6 +120,12 @@ def refused(text, line, status=1, message=b""):
     return text_of(text), Outcome(status, line, message)
 
 
+def unexplained(text, place, line, call):
+    """No order explains the return in a line, of which the call is told."""
+    number = text[line - 1].split(" ")[1]
+    return refused(text, f"none {place} {number}\n".encode(), 1, f"atomfs: line {line}: {text[line - 1]}; call {number} is {call}\n".encode())
+
+
 HEADER = "atomfs-journal 1"
 BEGUN = HEADER, "begin 1 0 mkdir /a", "begin 2 1 stat /a"
 ROWS = {
@@ -139,12 +146,14 @@ ROWS = {
         (*BEGUN, "return 1 ok", "return 2 failed ?"),
         text_of((*BEGUN, "commit 2", "commit 1", "return 1 ok", "return 2 failed ENOENT")), 0,
     ),
-    "a reply that nothing explains": refused((*BEGUN, "return 2 stat dir 1", "return 1 ok"), b"none 3 2\n"),
-    "a later reply is held to": refused((*BEGUN, "return 1 failed EEXIST", "return 2 stat dir 0"), b"none 3 1\n"),
-    "a number twice": refused((*BEGUN, "begin 1 2 stat /"), b"fault 3 BeginTwice\n"),
-    "a busy seat": refused((*BEGUN, "begin 3 1 stat /"), b"fault 3 SeatBusy\n"),
-    "a return without a begin": refused((HEADER, "return 7 ok"), b"fault 1 ReturnUnbegun\n"),
-    "a return twice": refused((*BEGUN, "return 2 failed ?", "return 2 failed ?"), b"fault 4 ReturnTwice\n"),
+    "a reply that nothing explains": unexplained((*BEGUN, "return 2 stat dir 1", "return 1 ok"), 3, 4, "stat /a on seat 1"),
+    "a later reply is held to": unexplained((*BEGUN, "return 1 failed EEXIST", "return 2 stat dir 0"), 3, 4, "mkdir /a on seat 0"),
+    "an open reply that nothing explains": unexplained((HEADER, "begin 7 0 rmdir /", "", "# none", "return 7 failed ?", "begin 8 0 stat /", "return 8 failed ?"), 4, 7, "stat / on seat 0"),
+    "a call that is cut": refused((HEADER, f"begin 1 0 write /a 0 {'00' * 200}", f"return 1 names {'x' * 30} {'y' * 30}"), b"none 2 1\n", 1, f"atomfs: line 3: return 1 names {'x' * 30} {'y' * 30}; call 1 is write /a 0 {'0' * 229}.. on seat 0\n".encode()),
+    "a number twice": refused((*BEGUN, "begin 1 2 stat /"), b"fault 3 BeginTwice\n", 1, b"atomfs: line 4: begin 1 2 stat /; call 1 is mkdir /a on seat 0\n"),
+    "a busy seat": refused((*BEGUN, "begin 3 1 stat /"), b"fault 3 SeatBusy\n", 1, b"atomfs: line 4: begin 3 1 stat /; call 3 is stat / on seat 1\n"),
+    "a return without a begin": refused((HEADER, "return 7 ok"), b"fault 1 ReturnUnbegun\n", 1, b"atomfs: line 2: return 7 ok; no call 7 has begun\n"),
+    "a return twice": refused((*BEGUN, "return 2 failed ?", "return 2 failed ?"), b"fault 4 ReturnTwice\n", 1, b"atomfs: line 5: return 2 failed ?; call 2 is stat /a on seat 1\n"),
     "a commit": refused((*BEGUN, "commit 1", "return 1 ok"), b"", 3, b"atomfs: line 4: BadLine\n"),
     "a size of a file that is left open": refused((*BEGUN, "return 2 stat file ?"), b"", 3, b"atomfs: line 4: BadNumber\n"),
     "up to the tree": refused((*BEGUN, "return 2 failed ENOENT", "tree", "return 2 failed ?"), text_of((*BEGUN, "commit 2", "return 2 failed ENOENT")), 0),
@@ -157,6 +166,50 @@ class Histories(harness.Case):
 
     def test_rows(self):
         self.each(((name, *row) for name, row in ROWS.items()), self.answered)
+
+    def fronts(self, given, wanted, last):
+        """The front of a history, whose last entry is the first that `check` refuses."""
+        self.same(given, run(given, "linearize", "--front")[:2], (1, wanted))
+        place = sum(line.split(b" ")[0] in (b"begin", b"commit", b"return") for line in wanted.splitlines())
+        self.same(wanted, run(wanted, "check"), Outcome(1, f"fault {place} ReturnUncommitted\n".encode(), last))
+
+    def test_front(self):
+        """With `none` the journal up to that return; what is lawful or a fault is written as ever."""
+        self.each((
+            ("an exact reply", text_of((*BEGUN, "return 2 stat dir 1", "return 1 ok")), text_of((*BEGUN, "return 2 stat dir 1")), b"atomfs: line 4: return 2 stat dir 1; call 2 is stat /a on seat 1; it has not committed\n"),
+            ("an error that is left open", text_of((HEADER, "begin 1 0 stat /", "return 1 failed ?")), text_of((HEADER, "begin 1 0 stat /", "return 1 failed ENOENT")), b"atomfs: line 3: return 1 failed ENOENT; call 1 is stat / on seat 0; it has not committed\n"),
+            ("a size that is left open", text_of((*BEGUN, "return 1 stat dir ?")), text_of((*BEGUN, "return 1 stat dir 0")), b"atomfs: line 4: return 1 stat dir 0; call 1 is mkdir /a on seat 0; it has not committed\n"),
+            (
+                "behind others, from a start tree",
+                text_of(("atomfs-journal 2", "start", "dir /", "dir /b", "entries", "begin 1 0 rmdir /b", "begin 2 1 mkdir /b", "return 2 ok", "begin 3 1 stat /b", "return 3 stat file 0", "return 1 ok")),
+                text_of(("atomfs-journal 2", "start", "dir /", "dir /b", "entries", "begin 1 0 rmdir /b", "begin 2 1 mkdir /b", "commit 1", "commit 2", "return 2 ok", "begin 3 1 stat /b", "return 3 stat file 0")),
+                b"atomfs: line 12: return 3 stat file 0; call 3 is stat /b on seat 1; it has not committed\n",
+            ),
+        ), self.fronts)
+        for name in ("a stat behind it", "a number twice", "a commit"):
+            given, wanted = ROWS[name]
+            self.same(given, run(given, "linearize", "--front"), wanted)
+
+    def many(self, histories, wanted, words=()):
+        """Histories one after the other, of which each begins with its header line."""
+        given = b"".join(histories)
+        self.same(given, run(given, "linearize", "--many", *words), wanted)
+
+    def test_many(self):
+        lawful, none, fault = (ROWS[name][0] for name in ("a size that is left open", "a reply that nothing explains", "a busy seat"))
+        started = text_of(("atomfs-journal 3", "start", "dir /", "entries", "begin 1 0 stat /", "return 1 stat dir 0", "tree", "no line of a journal"))
+        self.each((
+            ("none", (), Outcome(0, b"lawful 0 none 0 fault 0 unknown 0\n")),
+            ("one", (lawful,), Outcome(0, b"lawful 2\nlawful 1 none 0 fault 0 unknown 0\n")),
+            ("lawful ones", (started, lawful, started), Outcome(0, b"lawful 1\nlawful 2\nlawful 1\nlawful 3 none 0 fault 0 unknown 0\n")),
+            ("one that nothing explains", (lawful, none, started), Outcome(1, b"lawful 2\nnone 3 2\nlawful 1\nlawful 2 none 1 fault 0 unknown 0\n")),
+            ("one with a fault", (lawful, b"# one more\n", fault), Outcome(1, b"lawful 2\nfault 3 SeatBusy\nlawful 1 none 0 fault 1 unknown 0\n")),
+            ("one that is not known", (started, none), Outcome(4, b"lawful 1\nunknown 3\nlawful 1 none 0 fault 0 unknown 1\n"), ("--limit", "3")),
+            ("one that is not known, and a fault", (none, fault), Outcome(1, b"unknown 3\nfault 3 SeatBusy\nlawful 0 none 0 fault 1 unknown 1\n"), ("--limit", "2")),
+            ("a fault of the text", (lawful, lawful, text_of((*BEGUN, "commit 1"))), Outcome(3, b"", b"atomfs: line 14: BadLine\n")),
+            ("what comes before a header", (b"# histories\n", lawful), Outcome(3, b"", b"atomfs: line 1: BadHeader\n")),
+            ("no version", (lawful, b"atomfs-journal 4\n"), Outcome(3, b"", b"atomfs: line 6: BadLine\n")),
+        ), self.many)
 
     def test_limit(self):
         """At one configuration nothing is known."""
@@ -182,7 +235,7 @@ class Histories(harness.Case):
             self.explained(given, came)
             return
         first = next(place for place in range(1, len(entries) + 1) if not has_order(start, entries[:place], entries))
-        self.same(given, came, Outcome(1, f"none {first} {entries[first - 1][1]}\n".encode()))
+        self.same(given, (came.status, came.output), (1, f"none {first} {entries[first - 1][1]}\n".encode()))
 
     def test_every_order(self):
         harness.asks_of_answers()
@@ -206,6 +259,25 @@ class Histories(harness.Case):
         (shown,) = re.findall(r"^printf '(.*)' \| atomfs linearize$", (harness.ROOT / "docs" / "LINEARIZE.md").read_text(), re.M)
         given = shown.replace("\\n", "\n").encode()
         self.explained(given, run(given, "linearize"))
+
+
+class Long(harness.Case):
+    """The time of a process: it grows as a text does."""
+
+    def setUp(self):
+        harness.takes_a_process()
+
+    def seconds(self, replies):
+        """The processor time that a text of so many open replies takes, of which the first is refused."""
+        given = text_of((HEADER, *(f"return {number} failed ?" for number in range(replies, 0, -1))))
+        before = resource.getrusage(resource.RUSAGE_CHILDREN)
+        self.same(f"{replies} open replies", run(given, "linearize"), Outcome(1, b"fault 1 ReturnUnbegun\n", f"atomfs: line 2: return {replies} failed ?; no call {replies} has begun\n".encode()))
+        after = resource.getrusage(resource.RUSAGE_CHILDREN)
+        return after.ru_utime + after.ru_stime - before.ru_utime - before.ru_stime
+
+    def test_open_replies(self):
+        few = max(self.seconds(20_000) for _ in range(3))
+        self.assertLess(self.seconds(100_000), 10 * few + 0.1)
 
 
 if __name__ == "__main__":

@@ -24,7 +24,10 @@ HEADER = (EMBED / "atomfs.h").read_text()
 VERSION = re.search(r'^#define ATOMFS_VERSION "(.*)"$', HEADER, re.M)[1]
 MOST_SECONDS = 5 * harness.MOST_SECONDS
 # How what the tests use comes in Debian.
-COMMANDS = {"cmake": "cmake", "pkg-config": "pkgconf", "make": "make", "cc": "gcc", "cargo": "cargo"}
+COMMANDS = {
+    **{"cmake": "cmake", "pkg-config": "pkgconf", "make": "make", "cc": "gcc", "cargo": "cargo", "cargo-clippy": "rust-clippy", "mypy": "mypy"},
+    **{"parallel": "parallel", "rsync": "rsync", "ssh": "openssh-client", "sshd": "openssh-server", "strace": "strace"},
+}
 MODULES = {
     **{"fs": "python3-fs", "fsspec": "python3-fsspec", "pytest": "python3-pytest"},
     **{"pip": "python3-pip", "setuptools": "python3-setuptools", "wheel": "python3-wheel"},
@@ -43,7 +46,7 @@ def done(words, folder, **more):
 def wanted(*commands):
     """Leaves a test out for want of a command."""
     for command in commands:
-        if not shutil.which(command):
+        if not shutil.which(command) and not shutil.which(command, path="/usr/sbin"):
             raise unittest.SkipTest(f"{command} is not on the path: apt-get install {COMMANDS[command]}")
 
 
@@ -237,6 +240,13 @@ class ForPython(Installed):
         self.ends([installed, "-c", "import atomfs\nwith atomfs.Tree() as tree: tree.mkdir('/a'); assert tree.check() == 'lawful'"])
         self.ends([installed, "-c", "import atomfs, importlib.resources as r; assert (r.files(atomfs) / 'py.typed').is_file()"])
 
+    def test_types(self):
+        """The types of the package are right for the least Python that it is for."""
+        wanted("mypy")
+        least = re.search(r'^requires-python = ">=(.*)"$', (BINDINGS / "python" / "pyproject.toml").read_text(), re.M)[1]
+        words = "mypy", "--strict", "--python-version", least, "--cache-dir", self.folder / "types", BINDINGS / "python" / "src" / "atomfs"
+        self.ends(words, pattern="^Success: ")
+
     def test_no_library(self):
         """Without the shared object the build says what is missing."""
         status, told = done([python(), "setup.py", "bdist_wheel"], self.copied(BINDINGS / "python", "alone"))
@@ -265,6 +275,12 @@ class ForRust(Installed):
         told = self.ends(["cargo", "test", "--offline", "--quiet"], crate, CARGO_TARGET_DIR=str(self.folder / "target"))
         passed = [int(count) for count in re.findall(r"^test result: ok\. (\d+) passed; 0 failed; 0 ignored", told, re.M)]
         self.assertTrue(len(passed) >= 4 and sum(count > 0 for count in passed) >= 3, told)
+
+    def test_clippy(self):
+        """Rust's own linter has nothing to say of the crate, its tests and its examples."""
+        wanted("cargo", "cargo-clippy")
+        crate = self.prefix / "share" / "atomfs" / "rust"
+        self.ends(["cargo", "clippy", "--offline", "--all-targets", "--", "-D", "warnings"], crate, CARGO_TARGET_DIR=str(self.folder / "clippy"))
 
     def test_no_library(self):
         """Without the library the build says what is missing."""
@@ -301,7 +317,7 @@ class Numbers(Case):
         header = {name: int(value) for name, value in re.findall(r"^    ATOMFS_(\w+) = (\d+)", HEADER, re.M)}
         library, ffi = self.source("python", "src", "atomfs", "_library.py"), self.source("rust", "src", "ffi.rs")
         of_python = {"FAILED": int(re.search(r"^FAILED = (\d+)", library, re.M)[1])}
-        for enum, prefix in (("Limits", ""), ("Status", ""), ("Did", "DID_"), ("Fault", "FAULT_"), ("Call", "CALL_")):
+        for enum, prefix in (("Limits", ""), ("Status", ""), ("Did", "DID_"), ("Fault", "FAULT_"), ("Call", "CALL_"), ("By", "")):
             body = re.search(rf"class {enum}\(enum.\w+\):(.*?)\n\n\n", library, re.S)[1]
             of_python |= {prefix + name: int(value) for name, value in re.findall(r"^    (\w+) = (\d+)", body, re.M)}
         self.same("_library.py", of_python, header)

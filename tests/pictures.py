@@ -201,6 +201,29 @@ class Asked(Case):
             self.same("wrong_reply.journal", re.findall(r", due (\w+)", came), ["ok"])
 
 
+class SeatNames(Case):
+    """A comment of a journal names a seat's lane, where the name is one that a thread may have; of two comments the last counts."""
+
+    def look(self, comments, names):
+        given = "\n".join(["atomfs-journal 1", *comments, "begin 1 0 stat /", "begin 2 12 stat /", "commit 1", "return 1 stat dir 0", ""])
+        came = run(given.encode(), "draw")
+        self.same("status", came.status, 0)
+        if harness.compares:
+            root = ElementTree.fromstring(came.output)
+            self.same("lanes", [text.text for text in root.iter(SVG + "text") if text.get("class") == "t"][-2:], names)
+            self.same("first lines of lanes in tips", [title.text.split("\n")[1].split(",")[0] for title in root.iter(SVG + "title") if title.text.startswith("#")], names)
+
+    def test_comments(self):
+        rows = [
+            ("none", [], ["seat 0", "seat 12"]),
+            ("one of two", ["# seat 12 writer"], ["seat 0", "writer"]),
+            ("both, one twice", ["# seat 0 a", "# seat 12 writer_2", "# seat 0 b"], ["b", "writer_2"]),
+            ("no names", ["# seat 0 A", "# seat 0 <b>", "# seat 0 abcdefghijklmnopq", "# seat 00 a", "# seat 12 a b", "#seat 12 a"], ["seat 0", "seat 12"]),
+            ("another seat", ["# seat 3 a"], ["seat 0", "seat 12"]),
+        ]
+        self.each(rows, self.look)
+
+
 class Faults(Case):
     """The call at the first fault of a journal is marked: by the kind, or by the reply that was due. A call that does not begin as its entry says, or not
     before it, is drawn at that entry; and `--around` takes it."""

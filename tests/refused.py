@@ -1,6 +1,6 @@
 """Growths of memory and threads that are refused, each in turn: that is told and changes nothing, and what is asked again comes out the same.
 
-The program and the checks `refused` run with refuse.c loaded before the C library, on scripts of tests/data/worked/runs. The library for C is linked
+The program and the checks `refused` run with refuse.c loaded before the C library, on scripts of tests/data/worked/runs and tests/data/starts. The library for C is linked
 with heap.c in the place of its heap, and plays the calls below; tests/model.py says what comes of them.
 
 CHECKS names another program than crates/checks/out/checks, ARCHIVE another archive than crates/atomfs_c/out/libatomfs_c.a.
@@ -22,6 +22,7 @@ from atomfs import Did, Status
 from harness import Case, Outcome
 
 RUNS = harness.DATA / "worked" / "runs"
+STARTS = harness.DATA / "starts"
 STDOUT = harness.ROOT / "crates" / "checks" / "stdout"
 
 NO_MEMORY = Outcome(4, b"", b"atomfs: out of memory\n")
@@ -85,6 +86,8 @@ class Program(Preloaded):
             ("errors", "run", "errors_of_each_call.script", stored("errors_of_each_call.text")),
             ("robin", "run --robin", "lowest_first.script", stored("lowest_first.robin.text")),
             ("bytes", "run", "bytes_of_files.script", stored("bytes_of_files.text")),
+            ("from", f"run --from {STARTS}/moved.tree", "../../starts/moved.script", stored("../../starts/moved.text")),
+            ("from a journal", f"run --from {STARTS}/moved.text", "../../starts/moved.script", stored("../../starts/moved.text")),
             ("seeds", "seeds --seed 7 --runs 3", "helped_rename.script", b"seed 7 lawful\nseed 8 lawful\nseed 9 lawful\n"),
             ("check", "check", "errors_of_each_call.text", b"lawful\n"),
             ("threads", "threads", "errors_of_each_call.script", b"lawful calls 57\n"),
@@ -240,6 +243,9 @@ def on_seat(seat, text):
 
 # Calls one after the other, with their seats.
 LISTS = {"one seat": on_seat(0, ONE_SEAT), "two seats": on_seat(0, FIRST_SEAT) + on_seat(1, SECOND_SEAT)}
+
+# The calls of which tools tell.
+FEW = on_seat(0, "mkdir /a\nmknod /a/f\nwrite /a/f 0 ff\nread /a/f 0 9") + on_seat(1, "rename /a /b\nreaddir /\nstat /none")
 
 
 def seats_of(calls):
@@ -733,6 +739,16 @@ class Library(Case):
         journals = {name: (Wanted(calls).journal(), (Status.OK, b"lawful\n")) for name, calls in LISTS.items()}
         journals["no path"] = b"atomfs-journal 1\nbegin 1 0 mkdir /a\nbegin 2 1 mkdir /a/./b\n", (Status.BAD_PATH, 3)
         self.texts(self.library.check, journals, {("check", "NO_MEMORY"), ("check", "OK"), ("check", "BAD_PATH")})
+
+    def test_tools(self):
+        """Traces, pictures, schedules and drawn runs of a script, a picture of a journal; and what a word means, for which no memory is asked."""
+        script, journal = script_of(FEW), Wanted(FEW).journal()
+        for ask, given in ((self.library.trace, script), (self.library.draw, script), (self.library.draw, journal), (self.library.schedule, script), (self.library.seeds, script)):
+            whole = status_of(ask, given)
+            self.same(ask.__name__, whole[0], Status.OK)
+            self.texts(ask, {ask.__name__: (given, whole)}, {(ask.__name__, "NO_MEMORY"), (ask.__name__, "OK")})
+        whole, growths = self.growths_of(self.library.explain, b"Nul")
+        self.same("what Nul means, and the growths that it asks for", (whole[:5], len(growths)), (b"Nul: ", 0))
 
     def test_check_path(self):
         """Paths. One that is none, and has no more names than are read on the stack, asks for no memory; nor does the root."""

@@ -1,7 +1,7 @@
 """The command line of the program, the statuses that it ends with and what it tells: each word, range and status of docs/FORMATS.md.
 
-tests/data/help has the help of the program and of its commands. A device that fails, status 5, is looked at in tests/devices.py; `atomfs: full` is
-never told, since no script can have nodes enough.
+tests/data/help has the help of the program and of its commands. A device that fails, status 5, is looked at in tests/devices.py; `atomfs: full`, which
+only a run from a tree can tell, in tests/starts.py.
 """
 import re
 import resource
@@ -12,6 +12,7 @@ from harness import DATA, ROOT, Case, Outcome, run, spawned, takes_a_process
 
 HELP = DATA / "help"
 MEBIBYTE = 2**20
+MOVED = DATA / "starts" / "moved"
 HELPED, ONE_CALL, CUT = (DATA / "worked" / "runs" / name for name in ("helped_mkdir", "first_mkdir", "first_mkdir_cut"))
 # What the program says to try first, as it can be pasted into a shell.
 ONE_CALL_PASTED = r"printf 'atomfs 1\nthread t\nmkdir /a\nschedule\nfinish\n' | atomfs run"
@@ -86,6 +87,7 @@ class Words(Case):
             ("run --seed 7", of(HELPED), well(HELPED, "drawn.text")),
             ("run --seed=7", of(HELPED), well(HELPED, "drawn.text")),
             ("run --seed 0", of(ONE_CALL), well(ONE_CALL)),
+            (f"run --from {MOVED}.tree", of(MOVED), well(MOVED)),
             ("run --seed 18446744073709551615", of(ONE_CALL), well(ONE_CALL)),
             ("seeds --seed 7 --runs 3", of(HELPED), lawful(7, 3)),
             ("seeds --seed=7 --runs=3", of(HELPED), lawful(7, 3)),
@@ -162,6 +164,9 @@ class Words(Case):
             ("run --seed x", unread("x", "--seed <N>", "invalid digit found in string")),
             ("run --seed=-1", unread("-1", "--seed <N>", "invalid digit found in string")),
             ("run --seed 18446744073709551616", unread(2**64, "--seed <N>", "number too large to fit in target type")),
+            ("run --from", misused("a value is required for '--from <TREE>' but none was supplied")),
+            ("run --from a --from b", misused("the argument '--from <TREE>' cannot be used multiple times", of_run)),
+            ("seeds --from a --seed 1 --runs 1", misused("unexpected argument '--from' found", of_seeds)),
             ("seeds", misused(f"{missing}\n  --seed <N>\n  --runs <K>", of_seeds)),
             ("seeds --runs 1", misused(f"{missing}\n  --seed <N>", of_seeds)),
             ("seeds --seed 1", misused(f"{missing}\n  --runs <K>", of_seeds)),
@@ -170,6 +175,9 @@ class Words(Case):
             ("seeds --seed 7 --runs 10001", unread(10_001, "--runs <K>", "10001 is not in 1..=10000")),
             ("threads --seed 1", misused("unexpected argument '--seed' found", "threads < FILE")),
             ("check now", misused("unexpected argument 'now' found", "check < FILE")),
+            ("linearize --front --many", misused("the argument '--front' cannot be used with '--many'", "linearize [OPTIONS] < FILE")),
+            ("linearize --many --many", misused("the argument '--many' cannot be used multiple times", "linearize [OPTIONS] < FILE")),
+            ("linearize --limit 0", unread(0, "--limit <N>", "0 is not in 1..=1000000000")),
             ("trace --all", misused("unexpected argument '--all' found", "trace [OPTIONS] < FILE")),
             ("trace --robin --seed 1", misused("the argument '--robin' cannot be used with '--seed <N>'", "trace [OPTIONS] < FILE")),
             ("draw --around -1", misused("unexpected argument '-1' found", "draw [OPTIONS] < FILE > PICTURE")),
@@ -253,6 +261,8 @@ class Process(Case):
             ("not UTF-8", (b"\xff",), b"", 2),
             ("a script with a fault", ("run",), SLASH, 3),
             ("a script as a journal", ("check",), of(HELPED), 3),
+            ("a script as a tree", ("run", "--from", f"{MOVED}.script"), of(MOVED), 3),
+            ("no file", ("run", "--from", f"{MOVED}.missing"), of(MOVED), 5),
             ("a run", ("run",), of(ONE_CALL), 5),
             ("a run with calls left", ("run",), of(CUT), 5),
             ("a journal that is not lawful", ("check",), WRONG, 5),

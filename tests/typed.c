@@ -450,6 +450,62 @@ static void texts(void) {
     SAYS(out, (size_t)17, "atomfs-journal 2\n");
 }
 
+/* Tools over texts: what they refuse, and that they tell a text as the others do. tests/embedded.py has what they tell. */
+static void tools(void) {
+    static const char script[] = "atomfs 1\nthread t\nmkdir /a\nschedule\nt*9\n";
+    static const char fault[] = "atomfs 1\nthread t\nmkdr /a\nschedule\n";
+    static const char early[] = "atomfs 1\nthread t\nmkdir /a\nschedule\nt*2 !checkpoint\n";
+    static const char journal[] = "atomfs-journal 1\nbegin 1 0 mkdir\n";
+    static const char traced[] = "atomfs-trace 1\nthread t\n";
+    static const uint8_t none = ATOMFS_SEEDED + 1;
+    IS(atomfs_trace(PATH(script), ATOMFS_GIVEN, 0, 0, out, sizeof out, &count), ATOMFS_OK);
+    SAYS(out, sizeof traced - 1, "atomfs-trace 1\nthread t\n");
+    size_t length = count;
+    memset(out, '#', sizeof out);
+    IS(atomfs_trace(PATH(script), ATOMFS_GIVEN, 0, 0, out, length - 1, &count), ATOMFS_TOO_SMALL);
+    IS(count, length);
+    IS(out[0], '#');
+    IS(atomfs_trace(PATH(script), ATOMFS_GIVEN, 0, 255, out, sizeof out, &count), ATOMFS_OK);
+    IS(count > length, 1);
+    IS(atomfs_trace(PATH(script), none, 0, 0, out, sizeof out, &count), ATOMFS_BAD_CHOICE);
+    IS(atomfs_trace(PATH(fault), ATOMFS_ROUND_ROBIN, 0, 0, out, sizeof out, &count), ATOMFS_BAD_LINE);
+    IS(count, 3);
+    IS(atomfs_trace(PATH(early), ATOMFS_GIVEN, 0, 0, out, sizeof out, &count), ATOMFS_UNDER_WAY);
+    IS(count, 1);
+    IS(atomfs_draw(PATH(script), ATOMFS_SEEDED, 7, ATOMFS_WHOLE, out, sizeof out, &count), ATOMFS_OK);
+    SAYS(out, (size_t)5, "<svg ");
+    IS(atomfs_draw(PATH(script), ATOMFS_GIVEN, 0, ATOMFS_WHOLE, NULL, 0, &count), ATOMFS_TOO_SMALL);
+    IS(atomfs_draw(PATH(script), ATOMFS_GIVEN, 0, 1, out, sizeof out, &count), ATOMFS_OK);
+    IS(atomfs_draw(PATH(script), ATOMFS_GIVEN, 0, 0, out, sizeof out, &count), ATOMFS_NO_CALL);
+    IS(atomfs_draw(PATH(script), ATOMFS_GIVEN, 0, 2, out, sizeof out, &count), ATOMFS_NO_CALL);
+    IS(atomfs_draw(PATH(script), none, 0, 2, out, sizeof out, &count), ATOMFS_BAD_CHOICE);
+    IS(atomfs_draw(PATH(journal), ATOMFS_GIVEN, 0, ATOMFS_WHOLE, out, sizeof out, &count), ATOMFS_BAD_LINE);
+    IS(count, 2);
+    IS(atomfs_draw(PATH(early), ATOMFS_GIVEN, 0, ATOMFS_WHOLE, out, sizeof out, &count), ATOMFS_UNDER_WAY);
+    IS(count, 1);
+    IS(atomfs_schedule(PATH(script), ATOMFS_ROUND_ROBIN, 0, out, sizeof out, &count), ATOMFS_OK);
+    SAYS(out, count, "atomfs 1\nthread t\nmkdir /a\nschedule\nt*5\n");
+    IS(atomfs_schedule(PATH(script), ATOMFS_GIVEN, 0, out, count - 1, &count), ATOMFS_TOO_SMALL);
+    IS(atomfs_schedule(PATH(script), none, 0, out, sizeof out, &count), ATOMFS_BAD_CHOICE);
+    IS(atomfs_schedule(PATH(fault), ATOMFS_SEEDED, 1, out, sizeof out, &count), ATOMFS_BAD_LINE);
+    IS(count, 3);
+    IS(atomfs_seeds(PATH(script), INT64_MAX, 2, out, sizeof out, &count), ATOMFS_OK);
+    SAYS(out, count, "seed 9223372036854775807 lawful\nseed 9223372036854775808 lawful\n");
+    IS(atomfs_seeds(PATH(script), 0, 1, NULL, 0, &count), ATOMFS_TOO_SMALL);
+    IS(count, 14);
+    IS(atomfs_seeds(PATH(script), (uint64_t)INT64_MAX + 1, 1, out, sizeof out, &count), ATOMFS_BAD_CHOICE);
+    IS(atomfs_seeds(PATH(script), 0, 0, out, sizeof out, &count), ATOMFS_BAD_CHOICE);
+    IS(atomfs_seeds(PATH(script), 0, 10001, out, sizeof out, &count), ATOMFS_BAD_CHOICE);
+    IS(atomfs_seeds(PATH(fault), 0, 1, out, sizeof out, &count), ATOMFS_BAD_LINE);
+    IS(count, 3);
+    IS(atomfs_explain(PATH("Nul"), out, sizeof out, &count), ATOMFS_OK);
+    SAYS(out, (size_t)28, "Nul: a path has a byte zero\n");
+    IS(atomfs_explain(PATH("Nul"), out, 5, &count), ATOMFS_TOO_SMALL);
+    IS(atomfs_explain(PATH("Null"), out, sizeof out, &count), ATOMFS_BAD_CHOICE);
+    IS(atomfs_explain(PATH("\xff"), out, sizeof out, &count), ATOMFS_BAD_CHOICE);
+    IS(atomfs_explain(NULL, 0, NULL, 0, &count), ATOMFS_BAD_CHOICE);
+}
+
 /* Nulls and lengths that are none: a status, and nothing happens. */
 static void nulls(void) {
     atomfs_request request = { ATOMFS_CALL_MKDIR, NULL, 2, NULL, 0, 0, 0, NULL, 0 };
@@ -529,6 +585,18 @@ static void nulls(void) {
     IS(atomfs_run(NULL, 0, NULL, 0, &count), ATOMFS_BAD_HEADER);
     IS(atomfs_check(NULL, 1, out, sizeof out, &count), ATOMFS_NULL);
     IS(atomfs_check(NULL, 0, NULL, 0, &count), ATOMFS_BAD_HEADER);
+    IS(atomfs_trace(NULL, 1, ATOMFS_GIVEN, 0, 0, out, sizeof out, &count), ATOMFS_NULL);
+    IS(atomfs_trace("", 0, ATOMFS_GIVEN, 0, 0, NULL, 1, &count), ATOMFS_NULL);
+    IS(atomfs_trace("", 0, ATOMFS_GIVEN, 0, 0, out, sizeof out, NULL), ATOMFS_NULL);
+    IS(atomfs_trace(NULL, 0, ATOMFS_GIVEN, 0, 0, NULL, 0, &count), ATOMFS_BAD_HEADER);
+    IS(atomfs_draw(NULL, 1, ATOMFS_GIVEN, 0, ATOMFS_WHOLE, out, sizeof out, &count), ATOMFS_NULL);
+    IS(atomfs_draw("", 0, ATOMFS_GIVEN, 0, ATOMFS_WHOLE, out, sizeof out, NULL), ATOMFS_NULL);
+    IS(atomfs_schedule(NULL, 1, ATOMFS_GIVEN, 0, out, sizeof out, &count), ATOMFS_NULL);
+    IS(atomfs_schedule("", 0, ATOMFS_GIVEN, 0, out, sizeof out, NULL), ATOMFS_NULL);
+    IS(atomfs_seeds(NULL, 1, 0, 1, out, sizeof out, &count), ATOMFS_NULL);
+    IS(atomfs_seeds("", 0, 0, 1, out, sizeof out, NULL), ATOMFS_NULL);
+    IS(atomfs_explain(NULL, 1, out, sizeof out, &count), ATOMFS_NULL);
+    IS(atomfs_explain("", 0, out, sizeof out, NULL), ATOMFS_NULL);
     IS(atomfs_check_path(NULL, 1, ATOMFS_V1), ATOMFS_NULL);
     size_t bad = SIZE_MAX / 2 + 1;
     IS(atomfs_mkdir(&fs, seat, "/a", bad, &number), ATOMFS_BAD_LENGTH);
@@ -541,6 +609,8 @@ static void nulls(void) {
     IS(atomfs_mkdirs(&fs, seat, "/a", bad), ATOMFS_BAD_LENGTH);
     IS(atomfs_journal(&fs, 0, out, bad, &count, &entries), ATOMFS_BAD_LENGTH);
     IS(atomfs_check("", bad, out, sizeof out, &count), ATOMFS_BAD_LENGTH);
+    IS(atomfs_trace("", bad, ATOMFS_GIVEN, 0, 0, out, sizeof out, &count), ATOMFS_BAD_LENGTH);
+    IS(atomfs_draw("", 0, ATOMFS_GIVEN, 0, ATOMFS_WHOLE, out, bad, &count), ATOMFS_BAD_LENGTH);
     IS(atomfs_check_path("/", bad, ATOMFS_V1), ATOMFS_BAD_LENGTH);
     IS(atomfs_journal(&fs, 0, NULL, 0, &count, &entries), ATOMFS_OK);
     IS(entries, 0);
@@ -875,6 +945,7 @@ int main(void) {
     forgets();
     keeps();
     texts();
+    tools();
     nulls();
     no_numbers();
     whole_files();

@@ -79,8 +79,6 @@ pub fn keep(rt: &HostRuntime) -> Option<()> {
 }
 """
 ANSWERING = r"""
-use std::fs::File;
-
 /// The text up to the next line feed, which is taken off with it.
 fn next_line<'a>(rest: &mut &'a [u8]) -> Option<&'a str> {
     let end = rest.iter().position(|byte| *byte == b'\n')?;
@@ -89,7 +87,7 @@ fn next_line<'a>(rest: &mut &'a [u8]) -> Option<&'a str> {
     Some(line)
 }
 
-fn answer_each<T: Threads + Wait + Clock + Sync>(rt: &HostRuntime, threads: &T) -> Option<()> {
+fn answer_each<T: Threads + Wait + Clock + Files + Sync>(rt: &HostRuntime, threads: &T) -> Option<()> {
     let alloc = rt.alloc();
     let mut given = Vec::new(alloc);
     rt.stdin().read_to_end(&mut given).ok()?;

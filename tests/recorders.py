@@ -1,0 +1,299 @@
+"""The recorders of examples/record: what they make of traces, of a directory of this machine, and of trees in memory.
+
+What is recorded goes to the program; what a recorder says where the program finds no order comes from a stand-in for it.
+"""
+import functools
+import importlib.machinery
+import importlib.util
+import os
+import pathlib
+import re
+import shutil
+import subprocess
+import sys
+import tempfile
+import unittest
+
+import harness
+import packages
+from harness import ROOT, Case, run
+
+RECORD, STORED = ROOT / "examples" / "record", harness.DATA / "recorders"
+DIRECTORY = "/tmp/tree"
+OPENING = "atomfs-journal 3\nstart\ndir /\nentries\n"
+# How many histories of one thread record.c makes.
+ALONE = 20
+
+
+def ended(words, given=b"", **variables):
+    """What a command ends with, writes and tells."""
+    done = subprocess.run(list(map(str, words)), input=given, capture_output=True, env=os.environ | variables, timeout=packages.MOST_SECONDS)
+    return done.returncode, done.stdout.decode(), done.stderr.decode()
+
+
+def of_strace(given, directory=DIRECTORY):
+    return ended((sys.executable, RECORD / "strace2history", directory), given)
+
+
+@functools.cache
+def strace2history():
+    """The recorder as a module, so that it is started once for all rows."""
+    loader = importlib.machinery.SourceFileLoader("strace2history", str(RECORD / "strace2history"))
+    module = importlib.util.module_from_spec(importlib.util.spec_from_loader("strace2history", loader))
+    loader.exec_module(module)
+    return module
+
+
+def entries_of(*lines):
+    """The entries that come of lines of strace, or why they are refused."""
+    module = strace2history()
+    try:
+        return "".join(f"{line}\n" for line in module.history(lines, module.Directory(DIRECTORY)))
+    except module.Refused as error:
+        return str(error)
+
+
+HEAD = '7  mkdir("/tmp/tree/a", 0777) = 0'
+MADE = "begin 1 0 mkdir /a\nreturn 1 ok\n"
+MADE_OF = {
+    "nothing": ((), ""),
+    "what is elsewhere": (('7  mkdir("/tmp/treetop", 0777) = 0', '7  unlink("/etc/none") = -1 ENOENT (No such file or directory)'), ""),
+    "doubled slashes": (('7  mkdir("//tmp/./tree//a", 0777) = 0',), MADE),
+    "an unfinished line": (
+        ('7  mkdir("/tmp/tree/a", 0777 <unfinished ...>', '8  rmdir("/tmp/tree/a") = -1 ENOENT (No such file or directory)', "7  <... mkdir resumed>) = 0"),
+        "begin 1 0 mkdir /a\nbegin 2 1 rmdir /a\nreturn 2 failed ENOENT\nreturn 1 ok\n",
+    ),
+    "one that is never resumed": (
+        ('7  mkdir("/tmp/tree/a", 0777 <unfinished ...>', '8  rmdir("/tmp/tree/a") = 0', "7  +++ killed by SIGKILL +++"),
+        "begin 1 0 mkdir /a\nbegin 2 1 rmdir /a\nreturn 2 ok\n",
+    ),
+    "one behind which its process goes on": (
+        ('7  mkdir("/tmp/tree/a", 0777 <unfinished ...>', '7  rmdir("/tmp/tree/a") = 0'), "begin 1 0 mkdir /a\nbegin 2 1 rmdir /a\nreturn 2 ok\n",
+    ),
+    "one without a result": (
+        ('7  mkdir("/tmp/tree/a", 0777) = ? ERESTARTSYS (To be restarted)', '7  mkdir("/tmp/tree/a", 0777) = 0'),
+        "begin 1 0 mkdir /a\nbegin 2 1 mkdir /a\nreturn 2 ok\n",
+    ),
+    "one of which nothing is known": (('7  mkdir("/tmp/tree/a", 0777) = -1 EIO (Input/output error)',), "begin 1 0 mkdir /a\n"),
+    "one that ends as its process does": (
+        ('7  mkdir("/tmp/tree/a", 0777 <unfinished ...>', "7  <... mkdir resumed> <unfinished ...>) = ?"), "begin 1 0 mkdir /a\n",
+    ),
+    "an error that no tree has": (('7  mkdir("/tmp/tree/a", 0777) = -1 EACCES (Permission denied)',), "begin 1 0 mkdir /a\nreturn 1 failed ?\n"),
+    "a directory that is unlinked": (('7  unlink("/tmp/tree/a") = -1 EISDIR (Is a directory)',), "begin 1 0 unlink /a\nreturn 1 failed EPERM\n"),
+    "a file that is opened anew": (
+        ('7  openat(AT_FDCWD</>, "/tmp/tree/a", O_WRONLY|O_CREAT|O_EXCL|O_CLOEXEC, 0666) = 3</tmp/tree/a>', "7  close(3</tmp/tree/a>) = 0"),
+        "begin 1 0 mknod /a\nreturn 1 ok\n",
+    ),
+    "a file that is opened": (('7  open("/tmp/tree/a", O_RDWR) = 3</tmp/tree/a>', '7  fstat(3</tmp/tree/a>, {st_mode=S_IFREG|0644, ...}) = 0'), ""),
+    "a relative path where nothing is changed": (('7  stat("a", 0x7ffd) = -1 ENOENT (No such file or directory)',), ""),
+    "a path from the working directory": (('7  mkdirat(AT_FDCWD</tmp>, "tree/a", 0777) = 0',), MADE),
+    "a name with every kind of escape": (
+        (r'7  mkdir("/tmp/tree/\"\\\n\t\1\x07\3037%?", 0777) = 0',), 'begin 1 0 mkdir /"\\%0A%09%01%07%C37%25?\nreturn 1 ok\n',
+    ),
+    "a word that a path only has in it": (('7  write(1</dev/pts/0>, "/tmp/tree/a\\n", 12) = 12', '7  execve("/tmp/tree/a", ["/tmp/tree/a"], 0x7ffd) = 0'), ""),
+    "the directory, which is there": (('7  mkdir("/tmp/tree", 0777) = -1 EEXIST (File exists)',), "begin 1 0 mkdir /\nreturn 1 failed EEXIST\n"),
+    "moves": (
+        ('7  rename("/tmp/tree/a", "/tmp/tree/b") = 0', '7  renameat(AT_FDCWD</>, "/tmp/tree/b", AT_FDCWD</>, "/tmp/tree/a") = 0'),
+        "begin 1 0 rename /a /b\nreturn 1 ok\nbegin 2 0 rename /b /a\nreturn 2 ok\n",
+    ),
+    "a move of two": (
+        ('7  renameat2(AT_FDCWD</>, "/tmp/tree/a", AT_FDCWD</>, "/tmp/tree/b", RENAME_EXCHANGE) = 0',), "begin 1 0 exchange /a /b\nreturn 1 ok\n",
+    ),
+}
+REFUSED = {
+    "no line of strace": ("mkdir(\"/tmp/tree/a\", 0777) = 0", "this is no line of `strace -f -y -o`"),
+    "a line that is resumed and was not begun": ("7  <... mkdir resumed>) = 0", "mkdir is resumed, and nothing was begun"),
+    "a read": ('7  read(3</tmp/tree/a>, "x", 1) = 1', "read is a call on a descriptor"),
+    "a write": ('7  write(3</tmp/tree/a>, "x", 1 <unfinished ...>', "write is a call on a descriptor"),
+    "a directory that is read": ("7  getdents64(3</tmp/tree>, 0x5581 /* 2 entries */, 32768) = 48", "getdents64 is a call on a descriptor"),
+    "memory of a file": ("7  mmap(NULL, 5, PROT_WRITE, MAP_SHARED, 3</tmp/tree/a>, 0) = 0x7f", "mmap is a call on a descriptor"),
+    "an open that may make a file": ('7  open("/tmp/tree/a", O_WRONLY|O_CREAT|O_TRUNC, 0666) = 3', "open makes or empties a file that may be there: "),
+    "creat": ('7  creat("/tmp/tree/a", 0666) = 3', "creat makes or empties a file that may be there: "),
+    "a pipe": ('7  mknod("/tmp/tree/a", S_IFIFO|0666) = 0', "mknod makes something else than a file"),
+    "a link": ('7  symlink("b", "/tmp/tree/a") = 0', "symlink is no call of a tree"),
+    "a socket": ('7  bind(3<UNIX:[1]>, {sa_family=AF_UNIX, sun_path="/tmp/tree/a"}, 110) = 0', "bind is no call of a tree"),
+    "io_uring": ("7  io_uring_enter(3, 1, 0, 0, NULL, 8) = 1", "strace does not tell which calls are made by io_uring"),
+    "a relative path": ('7  mkdir("a", 0777) = 0', "a is a relative path: the program has to name what is below the directory by absolute ones"),
+    "no -y": ('7  mkdirat(AT_FDCWD, "a", 0777) = 0', "a is a relative path: "),
+    "a path from a descriptor": ('7  unlinkat(4</tmp/tree>, "a", 0) = 0', "a is a path from a directory that may move"),
+    "a path from a working directory below": ('7  unlinkat(AT_FDCWD</tmp/tree/b>, "a", 0) = 0', "a is a path from a directory that may move"),
+    "a path through two dots": ('7  mkdir("/tmp/tree/a/../b", 0777) = 0', "/tmp/tree/a/../b has a name `..`, or ends with a slash"),
+    "a slash at the end": ('7  mkdir("/tmp/tree/a/", 0777) = 0', "/tmp/tree/a/ has a name `..`, or ends with a slash"),
+    "a path that is cut": ('7  mkdir("/tmp/tree/a"..., 0777) = 0', '"/tmp/tree/a"... is no whole path'),
+    "no path": ("7  mkdir( <unfinished ...>", " is no whole path"),
+    "a move into the directory": ('7  rename("/tmp/a", "/tmp/tree/a") = 0', "rename moves something into the directory, or out of it"),
+    "another move": ('7  renameat2(AT_FDCWD</>, "/tmp/tree/a", AT_FDCWD</>, "/tmp/tree/b", RENAME_NOREPLACE) = 0', "rename with RENAME_NOREPLACE is no call of a tree"),
+    "the directory itself": ('7  rmdir("/tmp/tree") = 0', "rmdir changes the directory itself"),
+    "a directory that was not there": ('7  mkdir("/tmp/tree", 0777) = 0', "the directory was not there before"),
+    "no result": ('7  mkdir("/tmp/tree/a", 0777) is done', "is done is no result"),
+    "another kind of node": ('7  stat("/tmp/tree/a", {st_mode=S_IFSOCK|0755, st_size=0, ...}) = 0', "stat tells neither a directory nor a file with its size"),
+}
+
+
+class Traces(Case):
+    def test_stored(self):
+        """A trace of strace 6.1, of two threads and a further process, and the history that it is."""
+        given, wanted = (STORED / f"calls.{kind}" for kind in ("strace", "history"))
+        self.same(given, of_strace(given.read_bytes()), (0, wanted.read_text(), ""))
+        came = run(wanted.read_bytes(), "linearize")
+        self.same(wanted, (came.status, came.message), (0, b""))
+
+    def look(self, lines, wanted):
+        self.same("\n".join(lines), entries_of(*lines), wanted)
+
+    def test_made(self):
+        self.each(((name, *row) for name, row in MADE_OF.items()), self.look)
+
+    def refused(self, line, words):
+        wanted = f"line 2: {words}"
+        self.same(line, entries_of(HEAD, line)[: len(wanted)], wanted)
+
+    def test_refused(self):
+        self.each(((name, *row) for name, row in REFUSED.items()), self.refused)
+
+    def test_ends(self):
+        """What is refused is told with its line, and nothing is written; DIR is looked at first."""
+        told = "strace2history: line 2: read is a call on a descriptor\n"
+        self.same("a read", of_strace(f"{HEAD}\n{REFUSED['a read'][0]}\n".encode()), (3, "", told))
+        for directory in ("tree", "/", "/tmp/../tree"):
+            status, written, told = of_strace(b"", directory)
+            self.same(directory, (status, written, told.splitlines()[-1].partition("error: ")[2]), (2, "", "DIR is an absolute path without `..`, and not the root"))
+
+
+
+class Recorder(Case):
+    """A test in a folder of its own, with stand-ins for the program."""
+
+    def setUp(self):
+        harness.takes_a_process()
+        self.folder = pathlib.Path(tempfile.mkdtemp(prefix="atomfs-recorders-"))
+        self.addCleanup(shutil.rmtree, self.folder)
+
+    def standing_in(self, lawful, verdict, status):
+        """A program that finds so many histories lawful, and then says this."""
+        path, count = self.folder / "program", self.folder / "count"
+        count.write_text("0")
+        path.write_text(
+            f"#!/bin/sh\ncount=$(($(cat {count}) + 1))\necho $count > {count}\n[ $count -gt {lawful} ] || {{ echo atomfs-journal 1; exit 0; }}\n"
+            f"echo {verdict}\nexit {status}\n"
+        )
+        path.chmod(0o755)
+        return path
+
+
+# A program of two threads, which make and remove what the other one does.
+PROGRAM = """
+import os, sys, threading
+def made(call, *words):
+    try:
+        call(*words)
+    except OSError:
+        pass
+def work():
+    for _ in range(5):
+        made(os.mkdir, sys.argv[1] + "/a")
+        made(os.stat, sys.argv[1] + "/a")
+        made(os.rmdir, sys.argv[1] + "/a")
+threads = [threading.Thread(target=work) for _ in "12"]
+[thread.start() for thread in threads], [thread.join() for thread in threads]
+"""
+
+
+class Traced(Recorder):
+    def test_traced(self):
+        """A program that strace follows here is lawful, with all its calls."""
+        packages.wanted("strace")
+        if ended(("strace", "-o", "/dev/null", "true"))[0]:
+            self.skipTest("strace may follow no program here")
+        tree, trace = self.folder / "tree", self.folder / "trace"
+        tree.mkdir()
+        self.same("the program", ended(("strace", "-f", "-y", "-o", trace, sys.executable, "-I", "-S", "-c", PROGRAM, tree))[0], 0)
+        status, history, told = of_strace(trace.read_bytes(), tree)
+        self.same(trace.read_text(), (status, told, len(re.findall("^begin .* (?:mkdir|stat|rmdir) /a$", history, re.M))), (0, "", 30))
+        self.same(history, run(history.encode(), "linearize").status, 0)
+
+
+class Kernel(Recorder):
+    """record.c, on a directory of this machine."""
+
+    def setUp(self):
+        super().setUp()
+        packages.wanted("cc")
+        self.recorder = self.folder / "record"
+        words = "-std=c11", "-O2", "-Wall", "-Wextra", "-Wpedantic", "-Werror", "-pthread"
+        subprocess.run(("cc", *words, RECORD / "record.c", "-o", self.recorder), check=True)
+        self.tree = self.folder / "tree"
+        self.tree.mkdir()
+
+    def recorded(self, *words, program=None):
+        """What it ends with, writes and tells; it leaves nothing behind."""
+        came = ended((self.recorder, *words), ATOMFS=str(program or harness.program()))
+        self.same("what is left", list(self.tree.iterdir()), [])
+        return came
+
+    def test_lawful(self):
+        """Without moves nothing was seen that no order explains; with them on one thread nothing either."""
+        wanted = f"all are lawful: {ALONE} histories of one thread, 20 of 3 threads\n"
+        self.same("20 rounds", self.recorded(self.tree, 20, 7), (0, wanted, ""))
+        status, _, told = self.recorded(self.tree, 1, 7, "moves")
+        self.same("one thread with moves", (status == 2, told.startswith("one thread")), (False, False))
+
+    def look(self, lawful, verdict, status, wanted, words):
+        came, history, told = self.recorded(self.tree, 20, 7, program=self.standing_in(lawful, verdict, status))
+        self.same((lawful, verdict), (came, told), (wanted, words))
+        self.same("the history", run(history.encode(), "linearize").status if history else None, 0 if wanted < 3 else None)
+
+    def test_ends(self):
+        """What it says where the program finds no order: of one thread that is another kind of tree. It stops there."""
+        rows = (
+            ("one thread", 7, "none 3 2", 1, 2, "one thread, so this is another kind of tree: none 3 2\n"),
+            ("threads", ALONE + 3, "none 3 2", 1, 1, "threads: none 3 2\n"),
+            ("the limit", ALONE + 3, "unknown 3", 4, 3, "atomfs linearize ended with status 4\n"),
+        )
+        self.each(rows, self.look)
+
+    def test_refused(self):
+        usage = f"usage: {self.recorder} DIR [ROUNDS [SEED [moves]]]\n"
+        for words in ((), (self.tree, 0), (self.tree, 1, 1, "move"), (self.tree, 1, 1, "moves", 1)):
+            self.same(words, self.recorded(*words), (3, "", usage))
+        none = self.folder / "none"
+        self.same("no directory", self.recorded(none), (3, "", f"{none}: No such file or directory\n"))
+        status, _, told = self.recorded(self.tree, program=none)
+        self.same("no program", (status, told.splitlines()[-1]), (3, "atomfs linearize ended with status 127"))
+
+
+class InMemory(Recorder):
+    """record.py, on trees of libraries."""
+
+    def recorded(self, *words, program=None):
+        library = harness.library_at()
+        variables = {"ATOMFS_LIBRARY": library, "ATOMFS_PROGRAM": str(program or harness.program()), "PYTHONDONTWRITEBYTECODE": "1"}
+        words = packages.python(), "-W", "ignore", RECORD / "record.py", *words
+        return ended(words, PYTHONPATH=str(packages.BINDINGS / "python" / "src"), **variables)
+
+    def test_tree(self):
+        """Our own tree is lawful."""
+        wanted = "all are lawful: 20 histories of one thread, 20 of 3 threads\n"
+        self.same("Tree", self.recorded("Tree", "--rounds", "20"), (0, wanted, ""))
+
+    def test_memory_fs(self):
+        """What is lost in PyFilesystem2's tree is found: a directory is removed, in which another thread has made something meanwhile."""
+        status, history, told = self.recorded("MemoryFS")
+        place, call, words = re.fullmatch(r"round \d+: none (\d+) (\d+)\nno order explains that `(.*)` returned `.*`\n", told).groups()
+        self.same(told, (status, f"begin {call} {words}" in re.sub(r"(begin \d+) \d+", r"\1", history)), (1, True))
+        came = run(history.encode(), "linearize")
+        self.same(history, (came.status, came.output), (1, f"none {place} {call}\n".encode()))
+
+    def test_one_thread(self):
+        """What is not lawful of one thread is another kind of tree, and it stops there."""
+        status, history, told = self.recorded("Tree", program=self.standing_in(7, "none 2 1", 1))
+        self.same("one thread", (status, told.splitlines()[0]), (2, "one thread, so this is another kind of tree: none 2 1"))
+        self.same(history, run(history.encode(), "linearize").status, 0)
+
+    def test_refused(self):
+        status, _, told = self.recorded("Forest")
+        self.same("no tree", (status, told.splitlines()[-1].partition("invalid choice: ")[2]), (2, "'Forest' (choose from 'MemoryFS', 'Tree')"))
+
+
+if __name__ == "__main__":
+    unittest.main()

@@ -1,0 +1,164 @@
+"""Runs from a tree in a file: `atomfs run --from`, each schedule of it, and files that have none.
+
+What a run from a tree writes is what a run writes that comes to the tree by calls and begins again there: tests/model.py says what that is.
+"""
+import shlex
+import tempfile
+import unittest
+
+import checkpoints
+import harness
+import model
+from harness import DATA, Outcome, run, takes_a_process
+
+SCRIPTS = 100
+MOVED = DATA / "starts" / "moved"
+NODE_LIMIT = 1_048_576
+TEXT_LIMIT = 16_777_216
+ONE_CALL = b"atomfs 1\nthread t\nmkdir /b\nschedule\nfinish\n"
+# The files that have trees. They stand as long as the program answers.
+FOLDER = tempfile.TemporaryDirectory()
+
+
+def of(ending):
+    return MOVED.with_suffix(f".{ending}").read_bytes()
+
+
+def in_file(name, text):
+    """The path of a file with this text."""
+    path = f"{FOLDER.name}/{name}"
+    with open(path, "wb") as file:
+        file.write(text)
+    return path
+
+
+def tree_of(*nodes):
+    return checkpoints.text_of("tree", "dir /", *nodes)
+
+
+def journal_of(version, *nodes):
+    return checkpoints.text_of(f"atomfs-journal {version}", "start", "dir /", *nodes, "entries")
+
+
+def played(pieces):
+    """The text of the tree that the calls of some pieces make."""
+    tree = model.Tree()
+    for calls in pieces:
+        for call in calls:
+            tree.apply(call.split(" "))
+    return checkpoints.text_of(*tree.text())
+
+
+def many(nodes):
+    """The text of a tree of so many nodes: no directory has more than 256 entries."""
+    names = [f"{number:02x}" for number in range(256)]
+    left, lines = nodes - 1, []
+    for first in names:
+        lines.append(f"dir /{first}")
+        for second in names:
+            if left <= len(lines):
+                return tree_of(*lines[:left])
+            lines.append(f"dir /{first}/{second}")
+            lines += (f"dir /{first}/{second}/{third}" for third in names)
+    return tree_of(*lines[:left])
+
+
+class Starts(harness.Case):
+    def ends(self, words, given, wanted):
+        self.same(f"atomfs {shlex.join(words)}\n{given.decode()}", run(given, *words), wanted)
+
+    def test_schedules(self):
+        """From the tree alone, and from a journal that starts at it; the journal that is written starts there too."""
+        tree, text, again = f"{MOVED}.tree", of("text"), f"{MOVED}.text"
+        self.each((
+            ("given", ("run", "--from", tree), of("script"), Outcome(0, text)),
+            ("given, behind an equals sign", ("run", f"--from={tree}"), of("script"), Outcome(0, text)),
+            ("from a journal", ("run", "--from", again), of("script"), Outcome(0, text)),
+            ("robin", ("run", "--robin", "--from", tree), of("script"), Outcome(0, of("robin.text"))),
+            ("seed", ("run", "--from", tree, "--seed", "7"), of("script"), Outcome(0, of("drawn.text"))),
+            ("lawful", ("check",), text, Outcome(0, b"lawful\n")),
+            ("lawful by round robin", ("check",), of("robin.text"), Outcome(0, b"lawful\n")),
+            ("lawful as it is drawn", ("check",), of("drawn.text"), Outcome(0, b"lawful\n")),
+            ("by the second version", ("run", "--from", tree), of("script").replace(b"atomfs 1", b"atomfs 2"), Outcome(0, text.replace(b"journal 2", b"journal 3"))),
+            ("calls are left", ("run", "--from", tree), b"atomfs 1\nthread t\nmkdir /b\nschedule\n", Outcome(1, journal_of(2, *map(bytes.decode, of("tree").splitlines()[2:])) + of("tree") + b"begun 0 committed 0 returned 0\n")),
+            ("the root alone", ("run", "--from", in_file("root", b"tree\ndir /")), ONE_CALL, run_of_one("atomfs-journal 1")),
+            ("a journal from the root", ("run", "--from", in_file("rooted", b"atomfs-journal 1\nbegin 1 0 mkdir /c\n")), ONE_CALL, run_of_one("atomfs-journal 1")),
+            ("comments and empty lines", ("run", "--from", in_file("told", b"tree\n# the root\n\ndir /\n\n# and\ndir /a\n")), ONE_CALL, run_of_one("atomfs-journal 2", "start", "dir /", "dir /a", "entries", nodes=("dir /a",))),
+            ("a call is under way", ("run", "--from", tree), b"atomfs 1\nthread t\nmkdir /b\nschedule\nt !checkpoint\n", Outcome(1, b"", b"atomfs: call 1 under way\n")),
+        ), self.ends)
+
+    def test_behind_one_another(self):
+        """A run from the tree that calls made is the run that makes these calls, and begins again behind them."""
+
+        def look(number):
+            pieces = checkpoints.drawn_pieces(number)
+            wanted = Outcome(0, checkpoints.piece_text(pieces))
+            tree = in_file(f"tree_{number}", played(pieces[:-1]))
+            calls = [[], *([] for piece in pieces[1:-1]), pieces[-1]]
+            given = checkpoints.in_pieces(calls, "finish").replace(b" !checkpoint", b"")
+            self.ends(("run",), checkpoints.in_pieces(pieces), wanted)
+            self.ends(("run", "--from", tree), given, wanted)
+            self.ends(("run", "--from", in_file(f"journal_{number}", wanted.output)), given, wanted)
+
+        self.each(((f"pieces_{number}", number) for number in range(SCRIPTS)), look)
+
+    def refused(self, words, text, given, told):
+        path = in_file("-".join(self.row.split()), text)
+        self.ends((*words, "--from", path), given, Outcome(3, b"", f"atomfs: {path}: {told}\n".encode()))
+
+    def test_files_without_a_tree(self):
+        long, short = "dir /" + "n" * 33, "dir /" + "n" * 32
+        large = "file /f " + "61" * 65_537
+        second = ONE_CALL.replace(b"atomfs 1", b"atomfs 2")
+        rows = (
+            ("another text", b"hello\n", ONE_CALL, "line 1: BadHeader"),
+            ("nothing", b"", ONE_CALL, "line 1: BadHeader"),
+            ("a script", ONE_CALL, ONE_CALL, "line 1: BadHeader"),
+            ("no root", b"tree\ndir /a\n", ONE_CALL, "line 2: BadStart"),
+            ("out of order", tree_of("dir /b", "dir /a"), ONE_CALL, "line 4: BadStart"),
+            ("twice", tree_of("dir /b", "dir /b"), ONE_CALL, "line 4: BadStart"),
+            ("in no directory", tree_of("dir /b/a"), ONE_CALL, "line 3: BadStart"),
+            ("with the counts of a run", tree_of("dir /a") + b"begun 0 committed 0 returned 0\n", ONE_CALL, "line 4: BadStart"),
+            ("a name of 33 bytes", tree_of(short, long), ONE_CALL, "line 4: BadStart"),
+            ("a name of 65 bytes", tree_of("dir /" + "n" * 65), second, "line 3: BadStart"),
+            ("a file of 65,537 bytes", tree_of(large), ONE_CALL, "line 3: BadStart"),
+            ("a journal of the other version", journal_of(3, "dir /a"), ONE_CALL, "line 1: BadHeader"),
+            ("a journal of the first version", journal_of(2, "dir /a"), second, "line 1: BadHeader"),
+            ("a journal without entries", b"atomfs-journal 2\nstart\ndir /\n", ONE_CALL, "line 4: BadStart"),
+            ("a journal with a fault", journal_of(2, "dir /a") + b"begin 1 0 mkdir /c/\n", ONE_CALL, "line 6: BadPath TrailingSlash"),
+        )
+        self.each(((name, ("run",), *rest) for name, *rest in rows), self.refused)
+        self.each(((f"{name}, by round robin", ("run", "--robin"), *rest) for name, *rest in rows[:5]), self.refused)
+
+    def test_fault_of_the_script_first(self):
+        path = in_file("no tree", b"hello\n")
+        self.ends(("run", "--from", path), b"atomfs 1\nthread t\nmkdir /a/\nschedule\n", Outcome(3, b"", b"atomfs: line 3: BadPath TrailingSlash\n"))
+
+    def test_files_that_cannot_be_read(self):
+        for path in f"{FOLDER.name}/missing", FOLDER.name, "":
+            self.ends(("run", "--from", path), ONE_CALL, Outcome(5, b"", f"atomfs: {path}: read failed\n".encode()))
+
+    def test_limits(self):
+        """As many nodes as there are numbers, one more, and texts that are too long."""
+        takes_a_process()
+        full = in_file("full", many(NODE_LIMIT))
+        self.ends(("run", "--from", full), ONE_CALL, Outcome(4, b"", b"atomfs: full\n"))
+        self.same("stat /", run(ONE_CALL.replace(b"mkdir /b", b"stat /"), "run", "--from", full).status, 0)
+        self.row = "a node too many"
+        self.refused(("run",), many(NODE_LIMIT + 1), ONE_CALL, f"line {NODE_LIMIT + 2}: TooLarge")
+        journal = many(NODE_LIMIT + 1).replace(b"tree\n", b"atomfs-journal 2\n# behind its version\nstart\n") + b"entries\n"
+        self.row = "a node too many in a journal"
+        self.refused(("run",), journal, ONE_CALL, f"line {NODE_LIMIT + 4}: TooLarge")
+        self.row = "a byte too many"
+        self.refused(("run",), b"tree\n".ljust(TEXT_LIMIT + 1, b"#"), ONE_CALL, "line 1: TooLarge")
+        self.row = "a byte too many in a journal"
+        self.refused(("run",), b"atomfs-journal 2\n".ljust(TEXT_LIMIT + 1, b"#"), ONE_CALL, "line 1: TooLarge")
+
+
+def run_of_one(*head, nodes=()):
+    """The outcome of the script of one call."""
+    return Outcome(0, checkpoints.text_of(*head, "begin 1 0 mkdir /b", "commit 1", "return 1 ok", "tree", "dir /", *nodes, "dir /b", "begun 1 committed 1 returned 1"))
+
+
+if __name__ == "__main__":
+    unittest.main()
