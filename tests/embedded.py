@@ -61,15 +61,16 @@ def built():
     return pathlib.Path(harness.found("LIBATOMFS", "dist/lib/libatomfs.so", "embed/build builds it"))
 
 
-def said(*words):
+def said(*words, seconds=harness.MOST_SECONDS):
     """What a program says, and its status."""
-    done = subprocess.run(words, capture_output=True, text=True, timeout=harness.MOST_SECONDS)
+    done = subprocess.run(words, capture_output=True, text=True, timeout=seconds)
     return f"{done.stdout}{done.stderr}status {done.returncode}"
 
 
 class Programs(harness.Case):
     """A program of this folder in C over the library, which says one line where all is as it is to be."""
 
+    SECONDS = harness.MOST_SECONDS
     SANITIZED = "-g", "-fno-sanitize-recover=all"
     # No error, and no block that is lost or still in use.
     MEMCHECK = "valgrind", "-q", "--leak-check=full", "--show-leak-kinds=all", "--errors-for-leak-kinds=all", "--error-exitcode=9"
@@ -89,7 +90,7 @@ class Programs(harness.Case):
         return program
 
     def well(self, name, *words):
-        self.same(name, said(*words), f"{self.WELL}\nstatus 0")
+        self.same(name, said(*words, seconds=self.SECONDS), f"{self.WELL}\nstatus 0")
 
     def language(self, name, compiler):
         self.well(name, self.made(name, compiler))
@@ -114,7 +115,9 @@ class Typed(Programs):
 class Shared(Programs):
     """tests/shared.c: a tree that 8 threads share, in which each makes 1,000 drawn calls that overlap and help; and its journal is lawful."""
 
-    SOURCE, WELL = "shared.c", "a shared tree: as it is to be"
+    SOURCE, WELL, SECONDS = "shared.c", "a shared tree: as it is to be", 600
+    # valgrind runs one thread at a time: a thread that never sleeps would keep the others from their turn for minutes.
+    IN_TURN = "--fair-sched=yes"
 
     def test_languages(self):
         self.each(((f"{compiler} {standard}", f"{compiler}_{standard}", (compiler, f"-std={standard}")) for compiler, standard in COMPILERS), self.language)
@@ -137,7 +140,7 @@ class Shared(Programs):
         program = self.counted("checked", "-g")
         for name, words, calls in (("memcheck", self.MEMCHECK, "50"), ("helgrind", ("valgrind", "-q", "--tool=helgrind", "--error-exitcode=9"), "20")):
             with self.subTest(name):
-                self.well(f"shared.c under {name}", *words, program, calls)
+                self.well(f"shared.c under {name}", *words, self.IN_TURN, program, calls)
 
 
 class Progress(harness.Case):

@@ -9,6 +9,7 @@
 #include <pthread.h>
 #include <sched.h>
 #include <semaphore.h>
+#include <time.h>
 
 enum { THREADS = 8 };
 
@@ -328,6 +329,7 @@ static void drawn_calls(int calls) {
 static void checkpoints(int calls) {
     static const char opens[] = "atomfs-journal 3\nstart\n";
     thread threads[THREADS];
+    static const struct timespec pause = { .tv_nsec = 100000 };
     uint64_t all = 0;
     atomfs *fs;
     char *last = NULL;
@@ -352,6 +354,8 @@ static void checkpoints(int calls) {
         IS(atomfs_tree(fs, last, count, &count), ATOMFS_OK);
         last[count] = '\0';
         IS(atomfs_shared_unlock(shared), ATOMFS_OK);
+        /* Else this thread alone might run. */
+        if (number == 0) nanosleep(&pause, NULL);
     }
     free(last);
     join(threads);

@@ -8,7 +8,7 @@
 //! its change, by the rows of `fs_calls` read at the nodes that it holds), `Leaving` (letting go, and the end), `States`
 //! (states of all calls, what a begin and a step may do to them, runs), `Headline` (what the linearization theorem says
 //! of a state). `OpValues` is the part of a record that the code of one call keeps. `Laws`, with the module `laws`, is what
-//! holds of each step in every state; must-fail edits turn `States`, and these laws refuse them.
+//! holds of each step in every state.
 #![tactic(auto)]
 
 pub mod answers;
