@@ -1,0 +1,6 @@
+pub mod KeyLemmas
+pub mod SearchLemmas
+pub mod SeenLemmas
+pub mod FaultLemmas
+pub mod ChangeLemmas
+mod RowLemmas

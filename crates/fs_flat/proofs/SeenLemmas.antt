@@ -1,0 +1,238 @@
+-- What is seen at a key, by the entry that was found there.
+use Rattle.std.proofs.Common.{◌≡◌, ℕ, zero, suc, ◌+◌, ◌<◌, ◌≤◌, Bool, true, false, cond, List, [], ◌∷◌, ◌++◌, length, take, drop, get_or, Some, None, Option, is_some, refl, sym, ap, ◌∙◌, arith, append_assoc, append-nil, length-append}
+use Rattle.std.specs.Prelude.{nat_le}
+use Rattle.std.specs.FinMap.{find}
+use Rattle.fs_names.specs.Names.{Name}
+use Rattle.fs_names.specs.Shapes as shapes
+use Rattle.fs_names.specs.Keys.{Key, key_cmp}
+use Rattle.fs_names.specs.Failures.{or_else}
+use Rattle.fs_names.specs.declared.kind.Kind.{Kind}
+use Rattle.fs_names.specs.declared.kind.Kind.TheVariants as kinds
+use Rattle.fs_calls.specs.Tree.{Tree, Node, Dir, File, names_in, name_in, with_name}
+use Rattle.fs_calls.specs.Sights.{tree_shapes, shape_of, has_any, bytes_of, is_full, resolve, resolve_next, resolve_dir}
+use Rattle.fs_calls.specs.Rows.{as_dir, status, node_reply}
+use Rattle.fs_calls.specs.Forms as forms
+use Rattle.fs_calls.specs.code.Seen.{sight}
+use Rattle.fs_calls.specs.declared.rows.Sight.TheVariants as seen
+use Rattle.fs_calls.specs.declared.errno.Errno.{Errno}
+use Rattle.fs_calls.specs.declared.errno.Errno.TheVariants.{Enoent, Enotdir}
+use Rattle.fs_calls.specs.declared.reply.Reply.TheVariants as answer
+use Rattle.fs_calls.proofs.LookLemmas.{look-find}
+use Rattle.fs_flat.proofs.KeyLemmas.{drop_next}
+use Rattle.fs_flat.specs.code.Cells.{kind_of, bytes_at, node_in, IsAt, BelongsAt, GoesOn, IsReached, ReachesOn}
+
+-- what is seen at a key is the shape of what is found there
+seen_by : (t : Tree) (k : Key) (o : Option Node) → find key_cmp k t ≡ o → tree_shapes t k ≡ shape_of t k o
+seen_by t k o e = ap (shape_of t k) (look-find t k ∙ e)
+
+pub seen_at : (t : Tree) (k : Key) (i : ℕ) (cell : Key × Node) → IsAt t k i → cell ≡ get_or t i cell → tree_shapes t k ≡ shape_of t k (Some cell.1)
+seen_at t k i cell at e = seen_by t k (Some cell.1) (at.found cell ∙ ap (λ z. Some z.1) (sym e))
+
+pub seen_nowhere : (t : Tree) (k : Key) (i : ℕ) → BelongsAt t k i → tree_shapes t k ≡ shape_of t k None
+seen_nowhere t k i at = seen_by t k None at.absent
+
+-- a node of the kind of directories is one
+dir_node : (n : Node) → kinds.Dir ≡ kind_of n → n ≡ Dir
+dir_node Dir e = refl
+dir_node (File bytes) e = absurd (cc)
+
+-- a node of the kind of files is one
+file_node : (n : Node) → kinds.File ≡ kind_of n → n ≡ File (bytes_at n)
+file_node Dir e = absurd (cc)
+file_node (File bytes) e = refl
+
+module _ (t : Tree) (k : Key) where
+  -- a directory that is found is seen with its names
+  dir_seen : (n : Node) → tree_shapes t k ≡ shape_of t k (Some n) → kinds.Dir ≡ kind_of n → tree_shapes t k ≡ shape_of t k (Some Dir)
+  dir_seen n is dir = is ∙ ap (λ m. shape_of t k (Some m)) (dir_node n dir)
+
+  -- a file with its bytes
+  file_seen : (n : Node) → tree_shapes t k ≡ shape_of t k (Some n) → kinds.File ≡ kind_of n → tree_shapes t k ≡ shape_of t k (Some (File (bytes_at n)))
+  file_seen n is file = is ∙ ap (λ m. shape_of t k (Some m)) (file_node n file)
+
+  pub sight_nothing : tree_shapes t k ≡ shape_of t k None → sight (tree_shapes t k) ≡ seen.Nothing
+  sight_nothing is = ap sight is
+
+  pub sight_file : (n : Node) → tree_shapes t k ≡ shape_of t k (Some n) → kinds.File ≡ kind_of n → sight (tree_shapes t k) ≡ seen.File
+  sight_file n is file = ap sight (file_seen n is file)
+
+  pub sight_dir : (n : Node) → tree_shapes t k ≡ shape_of t k (Some n) → kinds.Dir ≡ kind_of n → true ≡ has_any (names_in t k) → sight (tree_shapes t k) ≡ seen.Dir
+  sight_dir n is dir some = ap sight (dir_seen n is dir) ∙ with_names (names_in t k) some
+    where
+      with_names : (names : List Name) → true ≡ has_any names → sight (Some (shapes.Dir names)) ≡ seen.Dir
+      with_names [] h = absurd (cc)
+      with_names (x ∷ names) h = refl
+
+  pub sight_empty : (n : Node) → tree_shapes t k ≡ shape_of t k (Some n) → kinds.Dir ≡ kind_of n → false ≡ has_any (names_in t k) → sight (tree_shapes t k) ≡ seen.EmptyDir
+  sight_empty n is dir none = ap sight (dir_seen n is dir) ∙ without_names (names_in t k) none
+    where
+      without_names : (names : List Name) → false ≡ has_any names → sight (Some (shapes.Dir names)) ≡ seen.EmptyDir
+      without_names [] h = refl
+      without_names (x ∷ names) h = absurd (cc)
+
+  pub nothing_full : tree_shapes t k ≡ shape_of t k None → false ≡ is_full (tree_shapes t k)
+  nothing_full is = sym (ap is_full is)
+
+  pub file_full : (n : Node) → tree_shapes t k ≡ shape_of t k (Some n) → kinds.File ≡ kind_of n → false ≡ is_full (tree_shapes t k)
+  file_full n is file = sym (ap is_full (file_seen n is file))
+
+  pub dir_full : (n : Node) (count : ℕ) (r : Bool) → tree_shapes t k ≡ shape_of t k (Some n) → kinds.Dir ≡ kind_of n → count ≡ length (names_in t k) → r ≡ nat_le 256 count → r ≡ is_full (tree_shapes t k)
+  dir_full n count r is dir counted e = e ∙ ap (nat_le 256) counted ∙ sym (ap is_full (dir_seen n is dir))
+
+  pub bytes_there : (n : Node) (bytes : List ℕ) → tree_shapes t k ≡ shape_of t k (Some n) → bytes ≡ bytes_at n → bytes ≡ bytes_of (tree_shapes t k)
+  bytes_there n bytes is e = e ∙ by_node n ∙ sym (ap bytes_of is)
+    where
+      by_node : (n : Node) → bytes_at n ≡ bytes_of (shape_of t k (Some n))
+      by_node Dir = refl
+      by_node (File bytes) = refl
+
+  pub bytes_nowhere : tree_shapes t k ≡ shape_of t k None → ◌≡◌ {A = List ℕ} [] (bytes_of (tree_shapes t k))
+  bytes_nowhere is = sym (ap bytes_of is)
+
+  -- ---- the resolution of a key that should be a directory
+
+  pub lost_dir : (e : Errno) → Some e ≡ resolve (tree_shapes t) k → Some e ≡ resolve_dir (tree_shapes t) k
+  lost_dir e h = ap (λ o. as_dir o (tree_shapes t k)) h
+
+  by_both : (found : Option Errno) (o : Option Node) → found ≡ resolve (tree_shapes t) k → tree_shapes t k ≡ shape_of t k o → as_dir found (shape_of t k o) ≡ resolve_dir (tree_shapes t) k
+  by_both found o h is = λ i. as_dir (h i) (sym is i)
+
+  pub missing_dir : None ≡ resolve (tree_shapes t) k → tree_shapes t k ≡ shape_of t k None → Some Enoent ≡ resolve_dir (tree_shapes t) k
+  missing_dir h is = by_both None None h is
+
+  pub file_dir : (n : Node) → None ≡ resolve (tree_shapes t) k → tree_shapes t k ≡ shape_of t k (Some n) → kinds.File ≡ kind_of n → Some Enotdir ≡ resolve_dir (tree_shapes t) k
+  file_dir n h is file = by_both None (Some (File (bytes_at n))) h (file_seen n is file)
+
+  pub dir_dir : (n : Node) → None ≡ resolve (tree_shapes t) k → tree_shapes t k ≡ shape_of t k (Some n) → kinds.Dir ≡ kind_of n → None ≡ resolve_dir (tree_shapes t) k
+  dir_dir n h is dir = by_both None (Some Dir) h (dir_seen n is dir)
+
+  -- ---- replies
+
+  pub status_nothing : tree_shapes t k ≡ shape_of t k None → answer.Failed Enoent ≡ status (tree_shapes t k)
+  status_nothing is = sym (ap status is)
+
+  pub status_file : (n : Node) (bytes : List ℕ) → tree_shapes t k ≡ shape_of t k (Some n) → kinds.File ≡ kind_of n → bytes ≡ bytes_at n → answer.Stat kinds.File (length bytes) ≡ status (tree_shapes t k)
+  status_file n bytes is file e = ap (λ bs. answer.Stat kinds.File (length bs)) e ∙ sym (ap status (file_seen n is file))
+
+  pub status_dir : (n : Node) (count : ℕ) → tree_shapes t k ≡ shape_of t k (Some n) → kinds.Dir ≡ kind_of n → count ≡ length (names_in t k) → answer.Stat kinds.Dir count ≡ status (tree_shapes t k)
+  status_dir n count is dir e = ap (answer.Stat kinds.Dir) e ∙ sym (ap status (dir_seen n is dir))
+
+  pub names_nowhere : (p : Key) (names : List Name) → k ≡ p → names ≡ [] → tree_shapes t k ≡ shape_of t k None → answer.Names names ≡ node_reply forms.Readdir (tree_shapes t p)
+  names_nowhere p names same e is = ap answer.Names e ∙ sym (ap (node_reply forms.Readdir) is) ∙ ap (λ q. node_reply forms.Readdir (tree_shapes t q)) same
+
+  pub names_file : (p : Key) (n : Node) (names : List Name) → k ≡ p → names ≡ [] → tree_shapes t k ≡ shape_of t k (Some n) → kinds.File ≡ kind_of n → answer.Names names ≡ node_reply forms.Readdir (tree_shapes t p)
+  names_file p n names same e is file = ap answer.Names e ∙ sym (ap (node_reply forms.Readdir) (file_seen n is file)) ∙ ap (λ q. node_reply forms.Readdir (tree_shapes t q)) same
+
+  pub names_dir : (p : Key) (n : Node) (names : List Name) → k ≡ p → names ≡ names_in t k → tree_shapes t k ≡ shape_of t k (Some n) → kinds.Dir ≡ kind_of n → answer.Names names ≡ node_reply forms.Readdir (tree_shapes t p)
+  names_dir p n names same e is dir = ap answer.Names e ∙ sym (ap (node_reply forms.Readdir) (dir_seen n is dir)) ∙ ap (λ q. node_reply forms.Readdir (tree_shapes t q)) same
+
+  pub read_is : (p : Key) (off count : ℕ) (bytes found : List ℕ) → k ≡ p → bytes ≡ bytes_of (tree_shapes t k) → found ≡ take count (drop off bytes) → answer.Bytes found ≡ node_reply (forms.Read 0 off count) (tree_shapes t p)
+  read_is p off count bytes found same e f =
+      ap answer.Bytes (f ∙ ap (λ bs. take count (drop off bs)) (e ∙ ap (λ q. bytes_of (tree_shapes t q)) same))
+
+-- names of entries, one by one
+pub names_next : (cell : Key × Node) (t : Tree) (d : Key) → names_in (cell ∷ t) d ≡ names_in (cell ∷ []) d ++ names_in t d
+names_next cell t d = by_name (name_in d cell.0)
+  where
+    by_name : (o : Option Name) → with_name o (names_in t d) ≡ with_name o [] ++ names_in t d
+    by_name None = refl
+    by_name (Some x) = refl
+
+-- ---- the entries of a directory, one by one
+
+module _ (d : Key) (cell : Key × Node) where
+  pub entry_true : (x : Name) → Some x ≡ name_in d cell.0 → true ≡ has_any (names_in (cell ∷ []) d)
+  entry_true x h = ap (λ o. has_any (with_name o [])) h
+
+  pub entry_false : None ≡ name_in d cell.0 → false ≡ has_any (names_in (cell ∷ []) d)
+  entry_false h = ap (λ o. has_any (with_name o [])) h
+
+  pub entry_one : (x : Name) → Some x ≡ name_in d cell.0 → 1 ≡ length (names_in (cell ∷ []) d)
+  entry_one x h = ap (λ o. length (with_name o [])) h
+
+  pub entry_none : None ≡ name_in d cell.0 → 0 ≡ length (names_in (cell ∷ []) d)
+  entry_none h = ap (λ o. length (with_name o [])) h
+
+-- either of two lists has something
+any_first : (xs ys : List Name) → has_any xs ≡ true → has_any (xs ++ ys) ≡ true
+any_first [] ys h = absurd (cc)
+any_first (x ∷ xs) ys h = refl
+
+any_later : (xs ys : List Name) → has_any xs ≡ false → has_any (xs ++ ys) ≡ has_any ys
+any_later [] ys h = refl
+any_later (x ∷ xs) ys h = absurd (cc)
+
+-- nothing is left
+none_left : (t : Tree) (i : ℕ) → length t ≤ i → drop i t ≡ []
+none_left [] zero h = refl
+none_left [] (suc i) h = refl
+none_left (x ∷ t) zero h = absurd (omega arith)
+none_left (x ∷ t) (suc i) h = none_left t i (omega arith)
+
+module _ (t : Tree) (d : Key) (i : ℕ) where
+  -- the names from a place on
+  names_from : (cell : Key × Node) → i < length t → cell ≡ get_or t i cell → names_in (drop i t) d ≡ names_in (cell ∷ []) d ++ names_in (drop (i + 1) t) d
+  names_from cell h here =
+      ap (λ z. names_in z d) (drop_next t i cell h ∙ ap (λ c. c ∷ drop (i + 1) t) (sym here)) ∙ names_next cell (drop (i + 1) t) d
+
+  pub has_here : (cell : Key × Node) → i < length t → cell ≡ get_or t i cell → has_any (names_in (cell ∷ []) d) ≡ true → has_any (names_in (drop i t) d) ≡ has_any (names_in t d) → true ≡ has_any (names_in t d)
+  has_here cell h here some so_far = sym (sym so_far ∙ ap has_any (names_from cell h here) ∙ any_first (names_in (cell ∷ []) d) (names_in (drop (i + 1) t) d) some)
+
+  pub has_later : (cell : Key × Node) → i < length t → cell ≡ get_or t i cell → has_any (names_in (cell ∷ []) d) ≡ false → has_any (names_in (drop i t) d) ≡ has_any (names_in t d) → has_any (names_in (drop (i + 1) t) d) ≡ has_any (names_in t d)
+  has_later cell h here none so_far = sym (any_later (names_in (cell ∷ []) d) (names_in (drop (i + 1) t) d) none) ∙ sym (ap has_any (names_from cell h here)) ∙ so_far
+
+  pub has_none : length t ≤ i → has_any (names_in (drop i t) d) ≡ has_any (names_in t d) → false ≡ has_any (names_in t d)
+  has_none past so_far = ap (λ z. has_any (names_in z d)) (sym (none_left t i past)) ∙ so_far
+
+  pub count_more : (cell : Key × Node) (k n total : ℕ) → i < length t → cell ≡ get_or t i cell → n ≡ length (names_in (cell ∷ []) d) → k + length (names_in (drop i t) d) ≡ total → k + n + length (names_in (drop (i + 1) t) d) ≡ total
+  count_more cell k n total h here one so_far =
+      let both : length (names_in (drop i t) d) ≡ length (names_in (cell ∷ []) d) + length (names_in (drop (i + 1) t) d) = ap length (names_from cell h here) ∙ length-append (names_in (cell ∷ []) d) (names_in (drop (i + 1) t) d) in
+      omega (arith, both, one, so_far)
+
+  pub count_end : (k : ℕ) → length t ≤ i → k + length (names_in (drop i t) d) ≡ length (names_in t d) → k ≡ length (names_in t d)
+  count_end k past so_far =
+      let none : length (names_in (drop i t) d) ≡ 0 = ap (λ z. length (names_in z d)) (none_left t i past) in
+      omega (arith, none, so_far)
+
+-- ---- the resolution of a key, name by name
+
+pub reach_start : (t : Tree) (k : Key) → IsReached t k 0
+reach_start t k = refl
+
+-- a list from a place on
+one_there : (k : Key) (i : ℕ) → i < length k → (x : Name) × (drop i k ≡ x ∷ drop (i + 1) k) × (take (i + 1) k ≡ take i k ++ x ∷ [])
+one_there [] i h = absurd (omega arith)
+one_there (y ∷ k) zero h = (y, refl, refl)
+one_there (y ∷ k) (suc i) h =
+    let s : suc (i + 1) ≡ suc i + 1 = omega arith in
+    let rest = one_there k i (omega arith) in
+    (rest.0, rest.1 ∙ ap (λ m. rest.0 ∷ drop m (y ∷ k)) s, ap (λ m. take m (y ∷ k)) (sym s) ∙ ap (λ z. y ∷ z) rest.2)
+
+-- the resolution of what is left, by one name
+by_one : (t : Tree) (d : Key) (x : Name) (later : Key) → resolve (λ z. tree_shapes t (d ++ z)) (x ∷ later) ≡ resolve_next (tree_shapes t d) (tree_shapes t (d ++ x ∷ [])) (resolve (λ z. tree_shapes t ((d ++ x ∷ []) ++ z)) later)
+by_one t d x later = λ i. resolve_next (tree_shapes t (append-nil d i)) (tree_shapes t (d ++ x ∷ [])) (resolve (λ z. tree_shapes t (sym (append_assoc d (x ∷ []) z) i)) later)
+
+-- what comes of it
+by_step : (t : Tree) (k : Key) (i : ℕ) (a b : Option (Key × Node)) (e : Option Errno) → i < length k → tree_shapes t (take i k) ≡ shape_of t (take i k) (node_in a) → tree_shapes t (take (i + 1) k) ≡ shape_of t (take (i + 1) k) (node_in b) → GoesOn a b e
+    → resolve (λ z. tree_shapes t (take i k ++ z)) (drop i k) ≡ or_else e (resolve (λ z. tree_shapes t (take (i + 1) k ++ z)) (drop (i + 1) k))
+by_step t k i a b e h here below goes =
+    let one = one_there k i h in
+    let rest : Option Errno = resolve (λ z. tree_shapes t (take (i + 1) k ++ z)) (drop (i + 1) k) in
+    ap (resolve (λ z. tree_shapes t (take i k ++ z))) one.1
+    ∙ by_one t (take i k) one.0 (drop (i + 1) k)
+    ∙ ap (λ d. resolve_next (tree_shapes t (take i k)) (tree_shapes t d) (resolve (λ z. tree_shapes t (d ++ z)) (drop (i + 1) k))) (sym one.2)
+    ∙ (λ j. resolve_next (here j) (below j) rest)
+    ∙ goes t (take i k) (take (i + 1) k) rest
+
+pub reaches_on : (t : Tree) (k : Key) (i : ℕ) (a b : Option (Key × Node)) (e : Option Errno) → i < length k → tree_shapes t (take i k) ≡ shape_of t (take i k) (node_in a) → tree_shapes t (take (i + 1) k) ≡ shape_of t (take (i + 1) k) (node_in b) → GoesOn a b e → ReachesOn t k i e
+reaches_on t k i a b None h here below goes = λ so_far. so_far ∙ by_step t k i a b None h here below goes
+reaches_on t k i a b (Some e) h here below goes = λ so_far. sym (so_far ∙ by_step t k i a b (Some e) h here below goes)
+
+pub reach_end : (t : Tree) (k : Key) (i : ℕ) → length k ≤ i → IsReached t k i → None ≡ resolve (tree_shapes t) k
+reach_end t k i past so_far = sym (so_far ∙ ap (resolve (λ z. tree_shapes t (take i k ++ z))) (nothing_left k i past))
+  where
+    nothing_left : (k : Key) (i : ℕ) → length k ≤ i → drop i k ≡ []
+    nothing_left [] zero h = refl
+    nothing_left [] (suc i) h = refl
+    nothing_left (x ∷ k) zero h = absurd (omega arith)
+    nothing_left (x ∷ k) (suc i) h = nothing_left k i (omega arith)

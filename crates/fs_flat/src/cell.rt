@@ -1,0 +1,112 @@
+//! Entries of a tree, which copies share.
+
+ghost use Rattle.std.specs.Prelude.{◌≡◌, true, IfOk};
+ghost use Rattle.fs_calls.specs.Replies.{same_kind, same_names};
+ghost use Rattle.fs_names.specs.Names.{same_bytes};
+ghost use Rattle.fs_seq.specs.Rows.{row_of};
+ghost use Rattle.fs_flat.specs.code.Cells.{kind_of, bytes_at};
+
+use fs_names::{Kind, Name};
+use fs_seq::Row;
+use std::alloc::{AllocError, Global};
+use std::marker::Model;
+use std::rc::Rc;
+
+/// An entry of a tree: what stands at a key.
+#[derive(Drop)]
+pub(crate) struct Cell {
+    row: Rc<Row>,
+}
+
+impl Model for Cell {
+    ghost use Rattle.std.specs.Rc.{rc_value};
+    ghost use Rattle.fs_names.specs.Keys.{Key};
+    ghost use Rattle.fs_calls.specs.Tree.{Node};
+    ghost use Rattle.fs_seq.specs.Rows.{row_of};
+
+    ghost Value = { Key × Node };
+
+    ghost view = { λ c. row_of (rc_value c.row) };
+}
+
+fn same_kinds(kind: Kind, other: Kind) -> bool
+    ensures { result ≡ same_kind kind other }
+{
+    kind == other
+}
+
+fn same_keys(key: &[Name], other: &[Name]) -> bool
+    ensures { result ≡ same_names key.now other.now }
+{
+    key == other
+}
+
+fn same_contents(bytes: &[u8], others: &[u8]) -> bool
+    ensures { result ≡ same_bytes bytes.now others.now }
+{
+    bytes == others
+}
+
+/// Whether both are one entry.
+fn same_row(row: &Row, other: &Row) -> bool
+    ensures { result ≡ true → row_of row.now ≡ row_of other.now }
+{
+    if !same_keys(&row.key, &other.key) {
+        return false;
+    }
+    if !same_kinds(row.kind, other.kind) {
+        return false;
+    }
+    same_contents(&row.bytes, &other.bytes)
+}
+
+impl Cell {
+    /// The entry of a row.
+    pub fn new(alloc: Global, row: Row) -> Result<Cell, AllocError>
+        ensures { IfOk result (λ cell. cell ≡ row_of row) }
+    {
+        match Rc::new(alloc, row) {
+            Ok(row) => Ok(Cell { row }),
+            Err(_) => Err(AllocError),
+        }
+    }
+
+    /// The same entry again, which shares its memory.
+    pub fn copy(&self) -> Result<Cell, AllocError>
+        ensures { IfOk result (λ cell. cell ≡ self.now) }
+    {
+        let row = self.row.clone()?;
+        Ok(Cell { row })
+    }
+
+    /// The names from the root down.
+    pub fn key(&self) -> &[Name]
+        ensures { result.now ≡ self.now.0 }
+    {
+        self.row.key.as_slice()
+    }
+
+    /// Whether a directory or a file stands there.
+    pub fn kind(&self) -> Kind
+        ensures { result ≡ kind_of self.now.1 }
+    {
+        self.row.kind
+    }
+
+    /// The bytes of a file; a directory has none.
+    pub fn bytes(&self) -> &[u8]
+        ensures { result.now ≡ bytes_at self.now.1 }
+    {
+        match self.row.kind {
+            Kind::Dir => &[],
+            Kind::File => self.row.bytes.as_slice(),
+        }
+    }
+
+    /// Whether both were found to be one entry.
+    pub fn same(&self, other: &Cell) -> bool
+        ensures { result ≡ true → self.now ≡ other.now }
+    {
+        same_row(&self.row, &other.row)
+    }
+}

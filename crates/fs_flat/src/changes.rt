@@ -1,0 +1,307 @@
+//! The entries after a call without an error.
+
+ghost use Rattle.std.specs.Prelude.{◌≡◌, ◌++◌, ◌∷◌, [], IsTrue, IfOk, OnOk, map, if◌then◌else◌};
+ghost use Rattle.std.specs.FinMap.{is_sorted, put};
+ghost use Rattle.fs_names.specs.Keys.{key_cmp};
+ghost use Rattle.fs_calls.specs.Tree.{File, from_list, inserted, removed, renamed, exchanged};
+ghost use Rattle.fs_calls.specs.Forms as forms;
+ghost use Rattle.fs_calls.specs.Rows.{written, resized, new_bytes};
+ghost use Rattle.fs_calls.specs.Sights.{tree_shapes, bytes_of, is_same};
+ghost use Rattle.fs_calls.specs.Outcomes.{change, filled};
+ghost use Rattle.fs_seq.specs.Rows.{node_of_kind};
+ghost use Rattle.fs_flat.specs.code.Cells.{without_key, moved_cell, swapped_cell};
+
+use crate::cell::Cell;
+use crate::keys::{behind, joined, names_of, same_key};
+use crate::searching::search;
+use crate::seeing::bytes_of;
+use fs_calls::Call;
+use fs_names::{Kind, Name, Path};
+use fs_seq::Row;
+use std::alloc::{AllocError, Global};
+
+/// The same entries again.
+pub(crate) fn copied(alloc: Global, cells: &[Cell]) -> Result<Vec<Cell>, AllocError>
+    ensures { IfOk result (λ copy. copy.items ≡ cells.now) }
+{
+    let mut copy = Vec::with_capacity(alloc, cells.len() + 1)?;
+    for cell in cells {
+        copy.push(cell.copy()?)?;
+    }
+    Ok(copy)
+}
+
+/// Puts an entry among others, whatever stood at its key.
+fn put(cells: &mut Vec<Cell>, cell: Cell) -> Result<(), AllocError>
+    requires { IsTrue (is_sorted key_cmp cells.old.items) }
+    ensures { OnOk result (cells.new.items ≡ put key_cmp cell.0 cell.1 cells.old.items) }
+{
+    match search(cells, cell.key()) {
+        Ok(place) => {
+            cells[place] = cell;
+            Ok(())
+        }
+        Err(place) => {
+            cells.insert(place, cell)?;
+            Ok(())
+        }
+    }
+}
+
+/// The entries with a node at a key, whatever stood there.
+#[tactic(auto, using(crate::proofs::ChangeLemmas::inserted_is))]
+fn with_node(
+    alloc: Global,
+    cells: &[Cell],
+    path: &Path,
+    kind: Kind,
+    bytes: Vec<u8>,
+) -> Result<Vec<Cell>, AllocError>
+    requires { IsTrue (is_sorted key_cmp cells.now) }
+    ensures { IfOk result (λ new. new.items ≡ inserted cells.now path.now (node_of_kind kind bytes.items)) }
+{
+    let key = names_of(alloc, path)?;
+    let mut new = copied(alloc, cells)?;
+    put(&mut new, Cell::new(alloc, Row { key, kind, bytes })?)?;
+    Ok(new)
+}
+
+/// Adds an entry, unless it has a key.
+fn push_other(new: &mut Vec<Cell>, cell: &Cell, key: &[Name]) -> Result<(), AllocError>
+    ensures { OnOk result (new.new.items ≡ new.old.items ++ without_key key.now (cell.now ∷ [])) }
+{
+    if !same_key(key, cell.key()) {
+        new.push(cell.copy()?)?;
+    }
+    Ok(())
+}
+
+/// The entries without that of a key.
+#[tactic(auto, using(crate::proofs::ChangeLemmas::without_next))]
+fn without(alloc: Global, cells: &[Cell], key: &[Name]) -> Result<Vec<Cell>, AllocError>
+    ensures { IfOk result (λ new. new.items ≡ without_key key.now cells.now) }
+{
+    let mut new = Vec::with_capacity(alloc, cells.len())?;
+    for cell in cells {
+        push_other(&mut new, cell, key)?;
+    }
+    Ok(new)
+}
+
+/// The entry at another key.
+fn moved_to(alloc: Global, cell: &Cell, key: Vec<Name>) -> Result<Cell, AllocError>
+    ensures { IfOk result (λ new. new ≡ (key.items, cell.now.1)) }
+{
+    let bytes = Vec::from_slice(alloc, cell.bytes())?;
+    let kind = cell.kind();
+    Ok(Cell::new(alloc, Row { key, kind, bytes })?)
+}
+
+/// The entry, where a key that begins with the one gets the other in its place.
+fn moved(alloc: Global, cell: &Cell, from: &[Name], to: &[Name]) -> Result<Cell, AllocError>
+    ensures { IfOk result (λ new. new ≡ moved_cell from.now to.now cell.now) }
+{
+    match behind(from, cell.key()) {
+        Some(rest) => Ok(moved_to(alloc, cell, joined(alloc, to, rest)?)?),
+        None => Ok(cell.copy()?),
+    }
+}
+
+/// The entry, where a key that begins with either gets the other in its place.
+fn swapped(alloc: Global, cell: &Cell, one: &[Name], other: &[Name]) -> Result<Cell, AllocError>
+    ensures { IfOk result (λ new. new ≡ swapped_cell one.now other.now cell.now) }
+{
+    match behind(one, cell.key()) {
+        Some(rest) => Ok(moved_to(alloc, cell, joined(alloc, other, rest)?)?),
+        None => Ok(moved(alloc, cell, other, one)?),
+    }
+}
+
+/// Entries put in order, one by one: of a key that stands twice the first one counts.
+#[tactic(auto, using(crate::proofs::ChangeLemmas::ordered_rise))]
+fn ordered(alloc: Global, cells: Vec<Cell>) -> Result<Vec<Cell>, AllocError>
+    ensures { IfOk result (λ new. new.items ≡ from_list cells.items) }
+{
+    let mut new = Vec::with_capacity(alloc, cells.len())?;
+    let mut left = cells;
+    while let Some(cell) = left.pop() {
+        put(&mut new, cell)?;
+    }
+    Ok(new)
+}
+
+/// Each of the entries moved.
+fn all_moved(
+    alloc: Global,
+    cells: &[Cell],
+    from: &[Name],
+    to: &[Name],
+) -> Result<Vec<Cell>, AllocError>
+    ensures { IfOk result (λ new. new.items ≡ map (moved_cell from.now to.now) cells.now) }
+{
+    let mut new = Vec::with_capacity(alloc, cells.len())?;
+    for cell in cells {
+        new.push(moved(alloc, cell, from, to)?)?;
+    }
+    Ok(new)
+}
+
+/// Each of the entries swapped.
+fn all_swapped(
+    alloc: Global,
+    cells: &[Cell],
+    one: &[Name],
+    other: &[Name],
+) -> Result<Vec<Cell>, AllocError>
+    ensures { IfOk result (λ new. new.items ≡ map (swapped_cell one.now other.now) cells.now) }
+{
+    let mut new = Vec::with_capacity(alloc, cells.len())?;
+    for cell in cells {
+        new.push(swapped(alloc, cell, one, other)?)?;
+    }
+    Ok(new)
+}
+
+/// The entries after a rename of one path to another.
+#[tactic(auto, using(crate::proofs::ChangeLemmas::renamed_is))]
+fn renamed(alloc: Global, cells: &[Cell], from: &Path, to: &Path) -> Result<Vec<Cell>, AllocError>
+    ensures { IfOk result (λ new. new.items ≡ renamed cells.now from.now to.now) }
+{
+    let one = names_of(alloc, from)?;
+    let other = names_of(alloc, to)?;
+    let left = without(alloc, cells, &other)?;
+    Ok(ordered(alloc, all_moved(alloc, &left, &one, &other)?)?)
+}
+
+/// The entries after a rename without an error.
+fn after_rename(
+    alloc: Global,
+    cells: &[Cell],
+    from: &Path,
+    to: &Path,
+) -> Result<Vec<Cell>, AllocError>
+    ensures { IfOk result (λ new. new.items ≡ (if is_same from.now to.now then cells.now else renamed cells.now from.now to.now)) }
+{
+    if from.same(to) {
+        return Ok(copied(alloc, cells)?);
+    }
+    Ok(renamed(alloc, cells, from, to)?)
+}
+
+/// The entries after an exchange of two paths.
+#[tactic(auto, using(crate::proofs::ChangeLemmas::exchanged_is))]
+fn exchanged(
+    alloc: Global,
+    cells: &[Cell],
+    path: &Path,
+    with: &Path,
+) -> Result<Vec<Cell>, AllocError>
+    ensures { IfOk result (λ new. new.items ≡ exchanged cells.now path.now with.now) }
+{
+    let one = names_of(alloc, path)?;
+    let other = names_of(alloc, with)?;
+    Ok(ordered(alloc, all_swapped(alloc, cells, &one, &other)?)?)
+}
+
+/// The entries after an exchange without an error.
+fn after_exchange(
+    alloc: Global,
+    cells: &[Cell],
+    path: &Path,
+    with: &Path,
+) -> Result<Vec<Cell>, AllocError>
+    ensures { IfOk result (λ new. new.items ≡ (if is_same path.now with.now then cells.now else exchanged cells.now path.now with.now)) }
+{
+    if path.same(with) {
+        return Ok(copied(alloc, cells)?);
+    }
+    Ok(exchanged(alloc, cells, path, with)?)
+}
+
+/// Bytes after a write: a gap reads as zeros.
+fn written(alloc: Global, old: &[u8], off: usize, bytes: &[u8]) -> Result<Vec<u8>, AllocError>
+    ensures { IfOk result (λ new. new.items ≡ written old.now off bytes.now) }
+{
+    let mut new = resized(alloc, old, off)?;
+    new.extend_from_slice(bytes)?;
+    if new.len() < old.len() {
+        new.extend_from_slice(&old[new.len()..])?;
+    }
+    Ok(new)
+}
+
+/// Bytes cut to a size, or with zeros up to it.
+fn resized(alloc: Global, old: &[u8], size: usize) -> Result<Vec<u8>, AllocError>
+    ensures { IfOk result (λ new. new.items ≡ resized old.now size) }
+{
+    if size <= old.len() {
+        return Vec::from_slice(alloc, &old[..size]);
+    }
+    let mut new = Vec::from_slice(alloc, old)?;
+    new.resize(size, 0)?;
+    Ok(new)
+}
+
+/// The entries after a write without an error.
+#[tactic(auto, using(crate::proofs::ChangeLemmas::written_nothing, crate::proofs::ChangeLemmas::written_some))]
+fn after_write(
+    alloc: Global,
+    cells: &[Cell],
+    path: &Path,
+    off: u64,
+    bytes: &[u8],
+) -> Result<Vec<Cell>, AllocError>
+    requires { IsTrue (is_sorted key_cmp cells.now) }
+    ensures { IfOk result (λ new. new.items ≡ filled cells.now path.now (new_bytes (forms.Write 0 off bytes.now) (tree_shapes cells.now path.now))) }
+{
+    if bytes.is_empty() {
+        return Ok(copied(alloc, cells)?);
+    }
+    let key = names_of(alloc, path)?;
+    let new = written(alloc, bytes_of(cells, &key), off as usize, bytes)?;
+    Ok(with_node(alloc, cells, path, Kind::File, new)?)
+}
+
+/// The entries after a truncate without an error.
+#[tactic(auto, using(crate::proofs::ChangeLemmas::cut_to))]
+fn after_truncate(
+    alloc: Global,
+    cells: &[Cell],
+    path: &Path,
+    size: u64,
+) -> Result<Vec<Cell>, AllocError>
+    requires { IsTrue (is_sorted key_cmp cells.now) }
+    ensures { IfOk result (λ new. new.items ≡ inserted cells.now path.now (File (resized (bytes_of (tree_shapes cells.now path.now)) size))) }
+{
+    let key = names_of(alloc, path)?;
+    let new = resized(alloc, bytes_of(cells, &key), size as usize)?;
+    Ok(with_node(alloc, cells, path, Kind::File, new)?)
+}
+
+/// The entries after the removal of an entry.
+#[tactic(auto, using(crate::proofs::ChangeLemmas::removed_is))]
+fn after_removal(alloc: Global, cells: &[Cell], path: &Path) -> Result<Vec<Cell>, AllocError>
+    ensures { IfOk result (λ new. new.items ≡ removed cells.now path.now) }
+{
+    let key = names_of(alloc, path)?;
+    Ok(without(alloc, cells, &key)?)
+}
+
+/// The entries after a call without an error, which no limit of files changes.
+pub(crate) fn change(alloc: Global, cells: &[Cell], call: &Call) -> Result<Vec<Cell>, AllocError>
+    requires { IsTrue (is_sorted key_cmp cells.now) }
+    ensures { IfOk result (λ new. new.items ≡ change 0 cells.now call.now) }
+{
+    match call {
+        Call::Mkdir(path) => Ok(with_node(alloc, cells, path, Kind::Dir, Vec::new(alloc))?),
+        Call::Mknod(path) => Ok(with_node(alloc, cells, path, Kind::File, Vec::new(alloc))?),
+        Call::Unlink(path) | Call::Rmdir(path) => Ok(after_removal(alloc, cells, path)?),
+        Call::Rename(from, to) => Ok(after_rename(alloc, cells, from, to)?),
+        Call::Exchange(path, with) => Ok(after_exchange(alloc, cells, path, with)?),
+        Call::Stat(_) | Call::Readdir(_) | Call::Read(_, _, _) => Ok(copied(alloc, cells)?),
+        Call::Write(path, off, bytes) => {
+            Ok(after_write(alloc, cells, path, *off, bytes.as_slice())?)
+        }
+        Call::Truncate(path, size) => Ok(after_truncate(alloc, cells, path, *size)?),
+    }
+}

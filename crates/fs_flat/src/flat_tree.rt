@@ -1,0 +1,144 @@
+//! The tree.
+
+ghost use Rattle.std.specs.Prelude.{◌≡◌, true, IfOk, IsTrue};
+ghost use Rattle.std.specs.FinMap.{is_sorted};
+ghost use Rattle.fs_names.specs.Keys.{key_cmp};
+ghost use Rattle.fs_calls.specs.Outcomes.{after, called, reply, reply_at};
+
+use crate::cell::Cell;
+use crate::changes::{change, copied};
+use crate::faults::error;
+use crate::replies::success;
+use crate::searching::rises;
+use fs_calls::{Call, Reply};
+use fs_names::Limits;
+use fs_seq::SeqTree;
+use std::alloc::{AllocError, Global};
+use std::marker::Model;
+
+/// A tree of directories and files as a list of its entries, seen as the tree that its calls made and the limits that it keeps.
+#[derive(Drop)]
+pub struct FlatTree {
+    cells: Vec<Cell>,
+    limits: Limits,
+}
+
+impl Model for FlatTree {
+    ghost use Rattle.std.specs.Prelude.{IsTrue};
+    ghost use Rattle.std.specs.FinMap.{is_sorted};
+    ghost use Rattle.fs_names.specs.Keys.{key_cmp};
+    ghost use Rattle.fs_calls.specs.Starts.{Start};
+
+    ghost Value = { Start };
+
+    ghost view = { λ t. record { limits = t.limits; tree = t.cells.items } };
+
+    ghost invariant = { λ t. IsTrue (is_sorted key_cmp t.cells.items) };
+}
+
+/// The reply of a call, where a file has at most so many bytes.
+#[tactic(auto, using(crate::proofs::FaultLemmas::fails, crate::proofs::FaultLemmas::works))]
+fn reply_on(alloc: Global, cells: &[Cell], most: usize, call: &Call) -> Result<Reply, AllocError>
+    requires { IsTrue (is_sorted key_cmp cells.now) }
+    ensures { IfOk result (λ r. r ≡ reply most cells.now call.now) }
+{
+    match error(alloc, cells, most, call)? {
+        Some(errno) => Ok(Reply::Failed(errno)),
+        None => Ok(success(alloc, cells, call)?),
+    }
+}
+
+/// The entries after a call, where a file has at most so many bytes.
+#[tactic(auto, using(crate::proofs::ChangeLemmas::stays, crate::proofs::ChangeLemmas::changes))]
+fn cells_after(
+    alloc: Global,
+    cells: &[Cell],
+    most: usize,
+    call: &Call,
+) -> Result<Vec<Cell>, AllocError>
+    requires { IsTrue (is_sorted key_cmp cells.now) }
+    ensures { IfOk result (λ new. new.items ≡ after most cells.now call.now) }
+{
+    match error(alloc, cells, most, call)? {
+        Some(_) => Ok(copied(alloc, cells)?),
+        None => Ok(change(alloc, cells, call)?),
+    }
+}
+
+/// The entries of a tree.
+fn cells_of(alloc: Global, tree: &SeqTree) -> Result<Vec<Cell>, AllocError>
+    ensures { IfOk result (λ cells. cells.items ≡ tree.now.tree) }
+{
+    let mut cells = Vec::new(alloc);
+    for row in tree.rows(alloc)? {
+        cells.push(Cell::new(alloc, row)?)?;
+    }
+    Ok(cells)
+}
+
+/// Whether the entries were found to be the same.
+#[tactic(auto, using(crate::proofs::KeyLemmas::same_next, crate::proofs::KeyLemmas::same_all))]
+fn are_same(cells: &[Cell], others: &[Cell]) -> bool
+    ensures { result ≡ true → cells.now ≡ others.now }
+{
+    if cells.len() != others.len() {
+        return false;
+    }
+    for (place, cell) in cells.iter().enumerate() {
+        if !cell.same(&others[place]) {
+            return false;
+        }
+    }
+    true
+}
+
+impl FlatTree {
+    /// The same tree as a sequential one. Its entries are told in order, so that no error comes but for want of memory.
+    pub fn of(alloc: Global, tree: &SeqTree) -> Result<FlatTree, AllocError>
+        ensures { IfOk result (λ flat. flat ≡ tree.now) }
+    {
+        let cells = cells_of(alloc, tree)?;
+        if !rises(&cells) {
+            return Err(AllocError);
+        }
+        Ok(FlatTree {
+            cells,
+            limits: tree.limits(),
+        })
+    }
+
+    /// The same tree again, which shares the entries of this one.
+    pub fn copy(&self, alloc: Global) -> Result<FlatTree, AllocError>
+        ensures { IfOk result (λ tree. tree ≡ self.now) }
+    {
+        Ok(FlatTree {
+            cells: copied(alloc, &self.cells)?,
+            limits: self.limits,
+        })
+    }
+
+    /// Whether both were found to be one tree.
+    pub fn same(&self, other: &FlatTree) -> bool
+        ensures { result ≡ true → self.now ≡ other.now }
+    {
+        self.limits == other.limits && are_same(&self.cells, &other.cells)
+    }
+
+    /// The reply of a call on the tree, which stays as it is.
+    pub fn reply(&self, alloc: Global, call: &Call) -> Result<Reply, AllocError>
+        ensures { IfOk result (λ reply. reply ≡ reply_at self.now call.now) }
+    {
+        Ok(reply_on(alloc, &self.cells, self.limits.file(), call)?)
+    }
+
+    /// The tree that a call leaves. This one stays as it is.
+    #[tactic(auto, using(crate::proofs::ChangeLemmas::after_sorted))]
+    pub fn after(&self, alloc: Global, call: &Call) -> Result<FlatTree, AllocError>
+        ensures { IfOk result (λ tree. tree ≡ called self.now call.now) }
+    {
+        Ok(FlatTree {
+            cells: cells_after(alloc, &self.cells, self.limits.file(), call)?,
+            limits: self.limits,
+        })
+    }
+}

@@ -1,0 +1,198 @@
+//! What stands at keys.
+
+ghost use Rattle.std.specs.Prelude.{◌≡◌, ◌<◌, ◌≤◌, ◌++◌, ◌∷◌, [], length, IsTrue, option_copied, IfOk, OnOk};
+ghost use Rattle.std.specs.FinMap.{is_sorted};
+ghost use Rattle.fs_names.specs.Keys.{key_cmp};
+ghost use Rattle.fs_calls.specs.Tree.{names_in};
+ghost use Rattle.fs_calls.specs.Sights.{tree_shapes, has_any, bytes_of, is_full, resolve, resolve_dir};
+ghost use Rattle.fs_calls.specs.code.Seen.{sight};
+ghost use Rattle.fs_flat.specs.code.Cells.{GoesOn, ReachesOn};
+
+use crate::cell::Cell;
+use crate::keys::name_in;
+use crate::searching::find;
+use fs_calls::rows::step_error;
+use fs_calls::{Errno, Sight, ranges};
+use fs_names::{Kind, Name};
+use std::alloc::{AllocError, Global};
+
+/// Whether an entry is one of a directory.
+#[tactic(auto, using(crate::proofs::SeenLemmas::entry_true, crate::proofs::SeenLemmas::entry_false))]
+fn is_entry(dir: &[Name], cell: &Cell) -> bool
+    ensures { result ≡ has_any (names_in (cell.now ∷ []) dir.now) }
+{
+    match name_in(dir, cell.key()) {
+        Some(_) => true,
+        None => false,
+    }
+}
+
+/// Whether a directory has an entry.
+#[tactic(auto, using(crate::proofs::SeenLemmas::has_here, crate::proofs::SeenLemmas::has_later, crate::proofs::SeenLemmas::has_none))]
+fn has_entries(cells: &[Cell], dir: &[Name]) -> bool
+    ensures { result ≡ has_any (names_in cells.now dir.now) }
+{
+    for cell in cells {
+        if is_entry(dir, cell) {
+            return true;
+        }
+    }
+    false
+}
+
+/// One for an entry of a directory, and for any other none.
+#[tactic(auto, using(crate::proofs::SeenLemmas::entry_one, crate::proofs::SeenLemmas::entry_none))]
+fn tally(dir: &[Name], cell: &Cell) -> usize
+    ensures count { result ≡ length (names_in (cell.now ∷ []) dir.now) }
+    ensures most { result ≤ 1 }
+{
+    match name_in(dir, cell.key()) {
+        Some(_) => 1,
+        None => 0,
+    }
+}
+
+/// How many entries a directory has.
+#[tactic(auto, using(crate::proofs::SeenLemmas::count_more, crate::proofs::SeenLemmas::count_end))]
+pub(crate) fn count(cells: &[Cell], dir: &[Name]) -> usize
+    ensures { result ≡ length (names_in cells.now dir.now) }
+{
+    let mut count = 0;
+    for cell in cells {
+        count += tally(dir, cell);
+    }
+    count
+}
+
+/// Adds the name of an entry, if it is one of a directory.
+fn push_name(names: &mut Vec<Name>, dir: &[Name], cell: &Cell) -> Result<(), AllocError>
+    ensures { OnOk result (names.new.items ≡ names.old.items ++ names_in (cell.now ∷ []) dir.now) }
+{
+    if let Some(name) = name_in(dir, cell.key()) {
+        names.push(name.copy())?;
+    }
+    Ok(())
+}
+
+/// Their names, in order.
+#[tactic(auto, using(crate::proofs::SeenLemmas::names_next))]
+pub(crate) fn names(alloc: Global, cells: &[Cell], dir: &[Name]) -> Result<Vec<Name>, AllocError>
+    ensures { IfOk result (λ names. names.items ≡ names_in cells.now dir.now) }
+{
+    let mut names = Vec::new(alloc);
+    for cell in cells {
+        push_name(&mut names, dir, cell)?;
+    }
+    Ok(names)
+}
+
+/// What the rows of errors see at a key.
+#[tactic(auto, using(crate::proofs::SeenLemmas::sight_nothing, crate::proofs::SeenLemmas::sight_file, crate::proofs::SeenLemmas::sight_dir, crate::proofs::SeenLemmas::sight_empty))]
+pub(crate) fn sight(cells: &[Cell], key: &[Name]) -> Sight
+    requires { IsTrue (is_sorted key_cmp cells.now) }
+    ensures { sight (tree_shapes cells.now key.now) ≡ result }
+{
+    let Some(cell) = find(cells, key) else {
+        return Sight::Nothing;
+    };
+    match cell.kind() {
+        Kind::File => Sight::File,
+        Kind::Dir => {
+            if has_entries(cells, key) {
+                Sight::Dir
+            } else {
+                Sight::EmptyDir
+            }
+        }
+    }
+}
+
+/// Whether a directory has as many entries as it can have.
+#[tactic(auto, using(crate::proofs::SeenLemmas::nothing_full, crate::proofs::SeenLemmas::file_full, crate::proofs::SeenLemmas::dir_full))]
+pub(crate) fn is_full(cells: &[Cell], key: &[Name]) -> bool
+    requires { IsTrue (is_sorted key_cmp cells.now) }
+    ensures { result ≡ is_full (tree_shapes cells.now key.now) }
+{
+    let Some(cell) = find(cells, key) else {
+        return false;
+    };
+    match cell.kind() {
+        Kind::File => false,
+        Kind::Dir => ranges::is_full(count(cells, key)),
+    }
+}
+
+/// The bytes of the file at a key; of all else none.
+#[tactic(auto, using(crate::proofs::SeenLemmas::bytes_there, crate::proofs::SeenLemmas::bytes_nowhere))]
+pub(crate) fn bytes_of<'a>(cells: &'a [Cell], key: &[Name]) -> &'a [u8]
+    requires { IsTrue (is_sorted key_cmp cells.now) }
+    ensures { result.now ≡ bytes_of (tree_shapes cells.now key.now) }
+{
+    match find(cells, key) {
+        Some(cell) => cell.bytes(),
+        None => &[],
+    }
+}
+
+/// Why a path does not go on from what stands at a key to what stands below it.
+fn step(here: Option<&Cell>, below: Option<&Cell>) -> Option<Errno>
+    ensures { GoesOn (option_copied here.entry) (option_copied below.entry) result }
+{
+    let Some(cell) = here else {
+        return Some(Errno::Enoent);
+    };
+    match cell.kind() {
+        Kind::File => Some(step_error(true)),
+        Kind::Dir => {
+            if below.is_some() {
+                None
+            } else {
+                Some(step_error(false))
+            }
+        }
+    }
+}
+
+/// Why the first so many names of a key do not go on by one more.
+#[tactic(auto, using(crate::proofs::SeenLemmas::reaches_on))]
+fn step_at(cells: &[Cell], key: &[Name], count: usize) -> Option<Errno>
+    requires sorted { IsTrue (is_sorted key_cmp cells.now) }
+    requires within { count < length key.now }
+    ensures { ReachesOn cells.now key.now count result }
+{
+    let here = find(cells, &key[..count]);
+    let below = find(cells, &key[..count + 1]);
+    step(here, below)
+}
+
+/// Why a key is not reached from the root, name by name.
+#[tactic(auto, using(crate::proofs::SeenLemmas::reach_start, crate::proofs::SeenLemmas::reach_end))]
+pub(crate) fn resolve(cells: &[Cell], key: &[Name]) -> Option<Errno>
+    requires { IsTrue (is_sorted key_cmp cells.now) }
+    ensures { result ≡ resolve (tree_shapes cells.now) key.now }
+{
+    for count in 0..key.len() {
+        if let Some(errno) = step_at(cells, key, count) {
+            return Some(errno);
+        }
+    }
+    None
+}
+
+/// The same of a key that should be a directory.
+#[tactic(auto, using(crate::proofs::SeenLemmas::lost_dir, crate::proofs::SeenLemmas::missing_dir, crate::proofs::SeenLemmas::file_dir, crate::proofs::SeenLemmas::dir_dir))]
+pub(crate) fn resolve_dir(cells: &[Cell], key: &[Name]) -> Option<Errno>
+    requires { IsTrue (is_sorted key_cmp cells.now) }
+    ensures { result ≡ resolve_dir (tree_shapes cells.now) key.now }
+{
+    if let Some(errno) = resolve(cells, key) {
+        return Some(errno);
+    }
+    match find(cells, key) {
+        None => Some(Errno::Enoent),
+        Some(cell) => match cell.kind() {
+            Kind::File => Some(Errno::Enotdir),
+            Kind::Dir => None,
+        },
+    }
+}
