@@ -1,6 +1,5 @@
 mod NumberLemmas
 mod CodeLemmas
-pub mod RowLemmas
 mod CallLemmas
 mod WayLemmas
 mod SearchLemmas

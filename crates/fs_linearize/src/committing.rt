@@ -36,10 +36,11 @@ pub(crate) fn commit(
     if x.holds(call.number) {
         return Ok(None);
     }
-    let (reply, tree) = x.tree.after(alloc, call.call)?;
+    let reply = x.tree.reply(alloc, call.call)?;
     if !fits(call.known, &reply) {
         return Ok(None);
     }
+    let tree = x.tree.after(alloc, call.call)?;
     let held = numbers::with(alloc, &x.held, call.number)?;
     Ok(Some(Configuration {
         at: x.at,

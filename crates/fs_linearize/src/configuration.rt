@@ -4,7 +4,7 @@ ghost use Rattle.std.specs.Prelude.{◌≡◌, true, IfOk};
 ghost use Rattle.fs_histories.specs.Configurations as specs;
 
 use crate::numbers;
-use crate::snapshot::Snapshot;
+use fs_flat::FlatTree;
 use fs_seq::SeqTree;
 use std::alloc::{AllocError, Global};
 use std::marker::Model;
@@ -13,7 +13,7 @@ use std::marker::Model;
 #[derive(Drop)]
 pub(crate) struct Configuration {
     pub at: usize,
-    pub tree: Snapshot,
+    pub tree: FlatTree,
     pub held: Vec<u64>,
 }
 
@@ -32,7 +32,7 @@ impl Configuration {
     {
         Ok(Configuration {
             at: 0,
-            tree: Snapshot::new(start)?,
+            tree: FlatTree::of(alloc, start)?,
             held: Vec::new(alloc),
         })
     }
@@ -57,19 +57,19 @@ impl Configuration {
     {
         Ok(Configuration {
             at: self.at,
-            tree: self.tree.copy()?,
+            tree: self.tree.copy(alloc)?,
             held: Vec::from_slice(alloc, &self.held)?,
         })
     }
 
     /// Whether both were found to be the same.
-    pub fn same(&self, alloc: Global, other: &Configuration) -> Result<bool, AllocError>
-        ensures { IfOk result (λ same. same ≡ true → self.now ≡ other.now) }
+    pub fn same(&self, other: &Configuration) -> bool
+        ensures { result ≡ true → self.now ≡ other.now }
     {
         if self.at != other.at || self.held != other.held {
-            return Ok(false);
+            return false;
         }
-        self.tree.same(alloc, &other.tree)
+        self.tree.same(&other.tree)
     }
 
     /// A call is committed that leaves the tree as it is.

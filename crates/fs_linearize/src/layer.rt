@@ -17,28 +17,23 @@ use fs_histories::Heard;
 use std::alloc::{AllocError, Global};
 
 /// Whether a configuration was found in a layer.
-fn contains(
-    alloc: Global,
-    layer: &[Reached],
-    places: &Places,
-    x: &Configuration,
-) -> Result<bool, AllocError>
-    ensures { IfOk result (λ found. found ≡ true → Contains (configurations layer.now) x.now) }
+fn contains(layer: &[Reached], places: &Places, x: &Configuration) -> bool
+    ensures { result ≡ true → Contains (configurations layer.now) x.now }
 {
     let mut next = places.first(x);
     for _ in 0..layer.len() {
         let Some(place) = next else {
-            return Ok(false);
+            return false;
         };
         if layer.len() <= place {
-            return Ok(false);
+            return false;
         }
-        if layer[place].configuration.same(alloc, x)? {
-            return Ok(true);
+        if layer[place].configuration.same(x) {
+            return true;
         }
         next = places.next(place);
     }
-    Ok(false)
+    false
 }
 
 /// Adds what a configuration settles to, if it is not there.
@@ -53,7 +48,7 @@ fn add(
     ensures { OnOk result ((h : List Value) → AreEach h reached.configuration.at calls.now → Adds h reached links.old.items links.new.items layer.old.items layer.new.items) }
 {
     let settled = committing::settle(alloc, calls, links, reached)?;
-    if contains(alloc, layer, places, &settled.configuration)? {
+    if contains(layer, places, &settled.configuration) {
         return Ok(());
     }
     places.add(&settled.configuration)?;

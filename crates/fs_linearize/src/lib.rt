@@ -22,7 +22,6 @@ mod passing;
 mod places;
 mod reached;
 mod search;
-mod snapshot;
 mod steps;
 mod telling;
 mod under_way;
