@@ -14,7 +14,8 @@ use Rattle.fs_verdict.specs.Devices.{IsSameText, WritesBeginning}
 use Rattle.fs_recorded.specs.Texts.{history_of}
 use Rattle.fs_recorded.proofs.InputLemmas.{known_by}
 use Rattle.fs_recorded.specs.Answers.{outcome_of}
-use Rattle.fs_recorded.specs.code.Makes.{IsFoundOf, IsMadeOf, IsWrittenOf}
+use Rattle.fs_recorded.specs.Findings.{IsFoundOf}
+use Rattle.fs_recorded.specs.code.Makes.{IsMadeOf, IsWrittenOf}
 use Rattle.fs_recorded.specs.declared.answer.Linearized.{Linearized}
 
 pub no_history : (text : List ℕ) → 16777216 < length text → history_of text ≡ Err (fault_at 1 kind.TooLarge)

@@ -17,8 +17,8 @@ use Rattle.fs_linearize.specs.declared.linearizing.Found.{Found}
 use Rattle.fs_linearize.specs.declared.linearizing.Found.TheVariants as found
 use Rattle.fs_words.specs.declared.fault.ScriptFault.{ScriptFault}
 use Rattle.fs_recorded.specs.Answers.{front_text, outcome_of}
-use Rattle.fs_recorded.specs.code.Fronts.{IsCutAt, IsFrontBehind, IsNoneBehind, IsFrontText, IsFrontLimited, IsFrontOr}
-use Rattle.fs_recorded.specs.code.Makes.{IsFoundOf}
+use Rattle.fs_recorded.specs.Findings.{IsFoundOf, IsFrontText, IsFrontLimited}
+use Rattle.fs_recorded.specs.code.Fronts.{IsCutAt, IsFrontBehind, IsNoneBehind, IsFrontOr}
 use Rattle.fs_recorded.specs.declared.answer.Outcome.TheVariants.{Lawful}
 
 -- ---- a list, cut

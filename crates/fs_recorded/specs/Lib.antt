@@ -1,4 +1,5 @@
 pub mod Texts
 pub mod Answers
+pub mod Findings
 pub mod Many
 pub mod code

@@ -8,7 +8,8 @@ ghost use Rattle.fs_recorded.specs.Texts.{history_by};
 ghost use Rattle.fs_histories.specs.declared.heard.Heard.TheVariants as heard;
 ghost use Rattle.fs_recorded.specs.Answers.{outcome_of, shown};
 ghost use Rattle.fs_recorded.specs.declared.answer.Outcome.TheVariants.{Lawful};
-ghost use Rattle.fs_recorded.specs.code.Fronts.{IsCutAt, IsFrontBehind, IsNoneBehind, IsFrontText, IsFrontLimited};
+ghost use Rattle.fs_recorded.specs.Findings.{IsFrontText, IsFrontLimited};
+ghost use Rattle.fs_recorded.specs.code.Fronts.{IsCutAt, IsFrontBehind, IsNoneBehind};
 
 use crate::answer::journal_text;
 use crate::history::{History, history_by};

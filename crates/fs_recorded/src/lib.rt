@@ -3,10 +3,12 @@
 //! `linearize_history` reads a history to its end and writes what is found of it: the journal that explains it, or one line that
 //! says why there is none, or if that is asked for a journal up to the first return that nothing explains. `linearize_many` reads
 //! histories one after the other, and writes a line for each, and counts. The text is made before its first byte is written, and
-//! `Read` or `Write` is answered only if the reader or the writer failed during this call.
+//! `Read` or `Write` is answered only if the reader or the writer failed during this call. `linearize_bytes` makes in memory what
+//! `linearize_history` writes.
 //!
 //! A history is a journal without commits, in which a reply may be left open: `failed ?`, `stat dir ?`. `specs/Texts.antt` says
-//! what a text tells, `specs/Answers.antt` how an answer is written, `specs/Many.antt` both of many histories.
+//! what a text tells, `specs/Findings.antt` what is found of it, `specs/Answers.antt` how an answer is written, `specs/Many.antt`
+//! both of many histories.
 #![tactic(auto)]
 
 mod answer;
@@ -20,5 +22,5 @@ mod plain;
 mod reason;
 
 pub use answer::{Linearized, Outcome};
-pub use linearizing::linearize_history;
+pub use linearizing::{CONFIGURATION_LIMIT, linearize_bytes, linearize_history};
 pub use many::{Histories, linearize_many};

@@ -10,7 +10,8 @@ ghost use Rattle.fs_recorded.specs.declared.answer.Outcome.TheVariants as outcom
 ghost use Rattle.fs_histories.specs.Histories.{HasNoOrder};
 ghost use Rattle.fs_linearize.specs.Results.{IsReturnAt};
 ghost use Rattle.fs_recorded.specs.code.Fronts.{IsFrontOr};
-ghost use Rattle.fs_recorded.specs.code.Makes.{IsFoundOf, IsWrittenOf, MakesFound};
+ghost use Rattle.fs_recorded.specs.Findings.{IsFoundOf};
+ghost use Rattle.fs_recorded.specs.code.Makes.{IsWrittenOf, MakesFound};
 
 use crate::answer::{Linearized, answer_of, found_text};
 use crate::front::front_in;
@@ -20,6 +21,9 @@ use fs_io::{Made, Sink, Source, transform};
 use fs_linearize::{Found, linearize};
 use fs_verdict::{RunFault, between};
 use std::alloc::Global;
+
+/// The most configurations that anyone asks for.
+pub const CONFIGURATION_LIMIT: u64 = 1_000_000_000;
 
 /// What is found of a history.
 fn find(alloc: Global, history: History, limit: usize) -> Result<(Found, Vec<u8>), RunFault>
@@ -105,6 +109,20 @@ fn linearize_text(
 {
     let lines = lines_in(alloc, text)?;
     linearize_lines(alloc, &lines, limit, front)
+}
+
+/// What is found of a history in memory, as `linearize_history` writes it, and what that answers. The history is read where it stands.
+pub fn linearize_bytes(
+    alloc: Global,
+    history: &[u8],
+    limit: usize,
+    front: bool,
+) -> Result<Made<Linearized>, RunFault>
+    ensures found { IfOk result (λ made. (h : _) × (f : Found) × (history_of history.now ≡ Ok h) × IsFoundOf h limit front f made.text.items × (made.end.outcome ≡ outcome_of f)) }
+    ensures quiet { IfOk result (λ made. made.end.outcome ≡ outcome.Lawful → made.end.reason.items ≡ []) }
+    ensures fault { IfErr result (IsFaultOf (history_of history.now)) }
+{
+    linearize_text(alloc, history, limit, front)
 }
 
 /// Reads a history to its end and writes what is found of it, where no more configurations than the limit, or few more, are

@@ -2,8 +2,6 @@
 use Rattle.std.specs.Prelude.{◌≡◌, ◌⊎◌, ◌<◌, ℕ, Bool, List, [], length, Option, Result, Ok, Err, IfOk, IfErr}
 use Rattle.fs_calls.specs.Starts.{Start}
 use Rattle.fs_histories.specs.declared.heard.Heard.{Heard}
-use Rattle.fs_histories.specs.Faults.{history_fault}
-use Rattle.fs_linearize.specs.Results.{IsAnswerFor, fault_in}
 use Rattle.fs_linearize.specs.declared.linearizing.Found.{Found}
 use Rattle.fs_io.specs.declared.shell.Made.{Made}
 use Rattle.fs_words.specs.declared.fault.ScriptFault.{ScriptFault}
@@ -13,15 +11,9 @@ use Rattle.fs_verdict.specs.declared.fault.RunFault.TheVariants.{Input, OutOfMem
 use Rattle.fs_words.specs.Reading.{fault_at}
 use Rattle.fs_words.specs.declared.fault.FaultKind.TheVariants.{TooLarge}
 use Rattle.fs_recorded.specs.Answers.{outcome_of}
-use Rattle.fs_recorded.specs.code.Fronts.{IsTextOf}
+use Rattle.fs_recorded.specs.Findings.{IsFoundOf}
 use Rattle.fs_recorded.specs.declared.answer.Linearized.{Linearized}
 use Rattle.fs_recorded.specs.declared.answer.Outcome.TheVariants.{Lawful}
-
--- what is found of a history is true of it, its faults come first, and this is its text
-pub record IsFoundOf (h : Start × List Heard) (limit : ℕ) (front : Bool) (f : Found) (text : List ℕ) : Type 0 where
-  pub answer : IsAnswerFor h.0 h.1 limit f
-  pub fault : fault_in f ≡ history_fault h.1
-  pub text_is : IsTextOf h limit front f text
 
 -- the fault of a text that is too long, or out of memory
 abbrev pub IsTooLarge : List ℕ → RunFault → Type 0
