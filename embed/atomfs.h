@@ -151,6 +151,21 @@ enum {
 /* By this number atomfs_draw draws all calls. */
 #define ATOMFS_WHOLE UINT64_MAX
 
+/* What came of a history: *found of atomfs_linearize. */
+enum {
+    ATOMFS_FOUND_LAWFUL = 0,     /* an order of its calls explains it; the text is the journal with its commits */
+    ATOMFS_FOUND_NO_ORDER = 1,   /* none does; `none`, the place of the first return that none explains, and its call */
+    ATOMFS_FOUND_NO_HISTORY = 2, /* an entry cannot come next; `fault`, its place and why */
+    ATOMFS_FOUND_UNKNOWN = 3     /* the limit was reached; `unknown` and the place to which the search had come */
+};
+
+/* What is told of a history that is not lawful. */
+enum {
+    ATOMFS_TELL_LINE = 0,  /* its line */
+    ATOMFS_TELL_FRONT = 1, /* in the place of the line `none` a journal up to that return, as by --front */
+    ATOMFS_TELL_WORDS = 2  /* its line, and behind `none` and `fault` a second one, which says in words what the entry is */
+};
+
 /* What stands at a path: a directory and how many entries it has, or a file and how many bytes. */
 struct atomfs_stat {
     uint8_t is_dir;
@@ -408,6 +423,14 @@ uint8_t atomfs_schedule(const char *script, size_t length, uint8_t schedule, uin
 /* Runs a script by so many schedules, drawn from seed, the next number and so on, and tells a line with the verdict on each.
  * BAD_CHOICE, where there are not 1 to 10,000 runs, or seed is 2^63 or more. */
 uint8_t atomfs_seeds(const char *script, size_t length, uint64_t seed, uint64_t runs, char *out, size_t room, size_t *count);
+
+/* Finds an order in which the calls of a history took effect (docs/LINEARIZE.md), and tells the journal with their commits, or why
+ * there is none: tell is one of ATOMFS_TELL_, and *found, at OK and TOO_SMALL, one of ATOMFS_FOUND_. The search makes at most limit
+ * configurations, or few more, where limit is 1 to 1,000,000,000; the command makes 10,000,000. It may take long, and is made again where
+ * one asks again: so give out twice the length of the history.
+ * OK, TOO_SMALL, NO_MEMORY; BAD_CHOICE, where tell or limit is none; the faults of a journal. */
+uint8_t atomfs_linearize(const char *history, size_t length, uint64_t limit, uint8_t tell, char *out, size_t room,
+                         size_t *count, uint8_t *found);
 
 /* Tells what the word of a fault means, as BadHex or WrongReply, and what to write instead. OK, TOO_SMALL; BAD_CHOICE, where it is
  * none. */

@@ -49,6 +49,7 @@ uint8_t PROVED(trace)(const char *, size_t, uint8_t, uint64_t, uint8_t, char *, 
 uint8_t PROVED(draw)(const char *, size_t, uint8_t, uint64_t, uint64_t, char *, size_t, size_t *);
 uint8_t PROVED(schedule)(const char *, size_t, uint8_t, uint64_t, char *, size_t, size_t *);
 uint8_t PROVED(seeds)(const char *, size_t, uint64_t, uint64_t, char *, size_t, size_t *);
+uint8_t PROVED(linearize)(const char *, size_t, uint64_t, uint8_t, char *, size_t, size_t *, uint8_t *);
 uint8_t PROVED(explain)(const char *, size_t, char *, size_t, size_t *);
 uint8_t PROVED(check_path)(const char *, size_t, uint8_t);
 
@@ -322,6 +323,13 @@ uint8_t atomfs_seeds(const char *script, size_t length, uint64_t seed, uint64_t 
     uint8_t status = may_make(script, length, out, room, count);
     if (refused(status)) return status;
     return PROVED(seeds)(from(script), length, seed, runs, into(out), room, count);
+}
+
+uint8_t atomfs_linearize(const char *history, size_t length, uint64_t limit, uint8_t tell, char *out, size_t room,
+                         size_t *count, uint8_t *found) {
+    uint8_t status;
+    if (refused(status = may_make(history, length, out, room, count)) || refused(status = there(found))) return status;
+    return PROVED(linearize)(from(history), length, limit, tell, into(out), room, count, found);
 }
 
 uint8_t atomfs_check_path(const char *path, size_t length, uint8_t version) {

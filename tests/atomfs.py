@@ -78,6 +78,23 @@ class Schedule(enum.IntEnum):
     SEEDED = 2
 
 
+class Found(enum.IntEnum):
+    """What came of a history."""
+
+    LAWFUL = 0
+    NO_ORDER = 1
+    NO_HISTORY = 2
+    UNKNOWN = 3
+
+
+class Tell(enum.IntEnum):
+    """What is told of a history that is not lawful."""
+
+    LINE = 0
+    FRONT = 1
+    WORDS = 2
+
+
 class Error(Exception):
     """A status that is not OK. `about` is the number of the call that WAITS, or the line of a text's fault, and else 0."""
 
@@ -137,6 +154,7 @@ class Library:
             "draw": [*text, ctypes.c_uint8, number, number, *told],
             "schedule": [*text, ctypes.c_uint8, number, *told],
             "seeds": [*text, number, number, *told],
+            "linearize": [*text, number, ctypes.c_uint8, *told, ctypes.POINTER(ctypes.c_uint8)],
             "explain": [*text, *told],
             "check_path": [*text, ctypes.c_uint8],
         }.items():
@@ -178,6 +196,12 @@ class Library:
     def seeds(self, script, seed=0, runs=1):
         """The lines of so many drawn runs of a script."""
         return self.text(lambda *told: self.atomfs_seeds(script, len(script), seed, runs, *told))
+
+    def linearize(self, history, tell=Tell.LINE, limit=10_000_000):
+        """What came of a history, and the text of it."""
+        found = ctypes.c_uint8()
+        text = self.text(lambda *told: self.atomfs_linearize(history, len(history), limit, tell, *told, found))
+        return Found(found.value), text
 
     def explain(self, word):
         """What the word of a fault means."""

@@ -1,6 +1,6 @@
 """The library for C as it is built: its typed calls, and calls that break its rules as far as it answers them (typed.c), a tree that threads share
-(shared.c), that some call always goes on, why bytes are no path, its tools over texts, its header, what it exports and what is packed; the programs of examples/embed in C, Rust and Python, and the examples of
-docs/EMBEDDING.md and of the packages' pages.
+(shared.c), that some call always goes on, why bytes are no path, its tools over texts, what it finds of histories, its header, what it exports and what is
+packed; the programs of examples/embed in C, Rust and Python, and the examples of docs/EMBEDDING.md and of the packages' pages.
 
 With LIBATOMFS the programs of this folder take another library: its shared object, beside which the archive stands.
 """
@@ -20,6 +20,7 @@ import drawn
 import events
 import grammar
 import harness
+import histories
 from worked import KINDS
 
 HEADER = harness.ROOT / "embed" / "atomfs.h"
@@ -214,6 +215,12 @@ class Paths(harness.Case):
         self.same("the statuses that came", sorted(self.came), [status for status in atomfs.Status if status == atomfs.Status.OK or status.name.startswith("PATH_")])
 
 
+def refused(came):
+    """The status and the line of what the program says of its input."""
+    line, kind = re.fullmatch(rb"atomfs: line (\d+): (\w+).*\n", came.message).groups()
+    return KINDS[kind.decode()], int(line)
+
+
 class Tools(harness.Case):
     """What a tool of the library tells is what the command of its name prints, byte for byte, or the status and the line of what that says of its input."""
 
@@ -228,12 +235,7 @@ class Tools(harness.Case):
 
     def look(self, words, given, ask):
         came = harness.run(given, *words)
-        self.same(words, harness.told(lambda text: ask(), given), came.output if came.status in (0, 1) and came.output else self.refused(came))
-
-    def refused(self, came):
-        """The status and the line of what the program says of its input."""
-        line, kind = re.fullmatch(rb"atomfs: line (\d+): (\w+).*\n", came.message).groups()
-        return KINDS[kind.decode()], int(line)
+        self.same(words, harness.told(lambda text: ask(), given), came.output if came.status in (0, 1) and came.output else refused(came))
 
     def rows(self):
         library = harness.library()
@@ -257,6 +259,40 @@ class Tools(harness.Case):
 
     def test_as_the_program(self):
         self.each(self.rows(), self.look)
+
+
+class Histories(harness.Case):
+    """What the library finds of a history is what `atomfs linearize` writes, and by words what it says behind it, whatever comes of it."""
+
+    FORMS = (atomfs.Tell.LINE, ()), (atomfs.Tell.FRONT, ("--front",)), (atomfs.Tell.WORDS, ())
+    FOUND = {b"none": atomfs.Found.NO_ORDER, b"fault": atomfs.Found.NO_HISTORY, b"unknown": atomfs.Found.UNKNOWN}
+    DRAWN, LIMITS = 100, (1, 2, 3, 10_000_000)
+
+    def written(self, given, limit, tell, words):
+        """What the program writes, as the library is to answer it."""
+        came = harness.run(given, "linearize", "--limit", str(limit), *words)
+        if not came.output:
+            return refused(came)
+        found = atomfs.Found.LAWFUL if came.status == 0 else self.FOUND.get(came.output.split(b" ")[0], atomfs.Found.NO_ORDER)
+        self.came.add((tell, found))
+        return found, came.output + (came.message.removeprefix(b"atomfs: ") if tell == atomfs.Tell.WORDS else b"")
+
+    def look(self, given, limit):
+        for tell, words in self.FORMS:
+            told = harness.told(lambda history, tell=tell: harness.library().linearize(history, tell, limit), given)
+            self.same(f"{tell!r} of {given}", told, self.written(given, limit, tell, words))
+
+    def rows(self):
+        drawn = (histories.history(random.Random(seed)) for seed in range(self.DRAWN))
+        texts = {name: given for name, (given, _) in histories.ROWS.items()}
+        texts |= {f"drawn {seed}": histories.text_of((*start, *map(histories.line_of, entries))) for seed, (start, entries) in enumerate(drawn)}
+        return ((f"{name} at {limit}", given, limit) for name, given in texts.items() for limit in self.LIMITS)
+
+    def test_as_the_program(self):
+        harness.library()
+        self.came = set()
+        self.each(self.rows(), self.look)
+        self.same("what came", self.came, set(itertools.product((tell for tell, _ in self.FORMS), atomfs.Found)))
 
 
 class Built(harness.Case):

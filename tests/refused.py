@@ -750,6 +750,23 @@ class Library(Case):
         whole, growths = self.growths_of(self.library.explain, b"Nul")
         self.same("what Nul means, and the growths that it asks for", (whole[:5], len(growths)), (b"Nul: ", 0))
 
+    def test_linearize(self):
+        """Histories, in each form. Their reading can do without room that is kept; a path that is none is none only where its memory was not refused."""
+        begun = b"atomfs-journal 1\nbegin 1 0 mkdir /a\nbegin 2 1 stat /a\nreturn 1 ok\n"
+        texts = {
+            "lawful": begun + b"return 2 stat dir ?\n",
+            "no order": begun + b"return 2 stat dir 1\n",
+            "no history": begun + b"return 1 ok\n",
+            "no path": begun + b"begin 3 0 stat /a/./b\n",
+        }
+        for tell in atomfs.Tell:
+            def linearize(history, tell=tell):
+                return self.library.linearize(history, tell)
+
+            came = {name: (text, status_of(linearize, text)) for name, text in texts.items()}
+            self.same("what each is told by", [status for _, (status, _) in came.values()], [*3 * [Status.OK], Status.BAD_PATH])
+            self.texts(linearize, came, {("linearize", "NO_MEMORY"), ("linearize", "OK"), ("linearize", "BAD_PATH")})
+
     def test_check_path(self):
         """Paths. One that is none, and has no more names than are read on the stack, asks for no memory; nor does the root."""
 

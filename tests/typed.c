@@ -506,6 +506,60 @@ static void tools(void) {
     IS(atomfs_explain(NULL, 0, NULL, 0, &count), ATOMFS_BAD_CHOICE);
 }
 
+/* What is found of histories: the journal, or the line that says why there is none, by each of the forms. */
+static void histories(void) {
+    static const char lawful[] = "atomfs-journal 1\nbegin 1 0 mkdir /a\nreturn 1 ok\n";
+    static const char none[] = "atomfs-journal 1\nbegin 1 0 mkdir /a\nreturn 1 failed ?\n";
+    static const char no_history[] = "atomfs-journal 1\nbegin 1 0 mkdir /a\nbegin 2 0 stat /\n";
+    static const char bad[] = "atomfs-journal 1\nbegin 1 0 mkdir /a\ncommit 1\n";
+    static const char journal[] = "atomfs-journal 1\nbegin 1 0 mkdir /a\ncommit 1\nreturn 1 ok\n";
+    static const uint64_t most = 1000000000;
+    uint8_t found = 9;
+    for (uint8_t tell = ATOMFS_TELL_LINE; tell <= ATOMFS_TELL_WORDS; tell++) {
+        IS(atomfs_linearize(PATH(lawful), most, tell, out, sizeof out, &count, &found), ATOMFS_OK);
+        SAYS(out, count, "atomfs-journal 1\nbegin 1 0 mkdir /a\ncommit 1\nreturn 1 ok\n");
+        IS(found, ATOMFS_FOUND_LAWFUL);
+        IS(atomfs_linearize(PATH(lawful), 1, tell, out, sizeof out, &count, &found), ATOMFS_OK);
+        SAYS(out, count, "unknown 2\n");
+        IS(found, ATOMFS_FOUND_UNKNOWN);
+    }
+    IS(atomfs_linearize(PATH(none), most, ATOMFS_TELL_LINE, out, sizeof out, &count, &found), ATOMFS_OK);
+    SAYS(out, count, "none 2 1\n");
+    IS(found, ATOMFS_FOUND_NO_ORDER);
+    IS(atomfs_linearize(PATH(none), most, ATOMFS_TELL_FRONT, out, sizeof out, &count, &found), ATOMFS_OK);
+    SAYS(out, count, "atomfs-journal 1\nbegin 1 0 mkdir /a\nreturn 1 failed ENOENT\n");
+    IS(found, ATOMFS_FOUND_NO_ORDER);
+    IS(atomfs_linearize(PATH(no_history), most, ATOMFS_TELL_WORDS, out, sizeof out, &count, &found), ATOMFS_OK);
+    SAYS(out, count, "fault 2 SeatBusy\nline 3: begin 2 0 stat /; call 2 is stat / on seat 0\n");
+    IS(found, ATOMFS_FOUND_NO_HISTORY);
+    IS(atomfs_linearize(PATH(no_history), most, ATOMFS_TELL_FRONT, out, sizeof out, &count, &found), ATOMFS_OK);
+    SAYS(out, count, "fault 2 SeatBusy\n");
+    memset(out, '#', sizeof out);
+    IS(atomfs_linearize(PATH(none), most, ATOMFS_TELL_WORDS, out, 10, &count, &found), ATOMFS_TOO_SMALL);
+    IS(found, ATOMFS_FOUND_NO_ORDER);
+    IS(out[0], '#');
+    size_t length = count;
+    IS(atomfs_linearize(PATH(none), most, ATOMFS_TELL_WORDS, out, length, &count, &found), ATOMFS_OK);
+    SAYS(out, count, "none 2 1\nline 3: return 1 failed ?; call 1 is mkdir /a on seat 0\n");
+    IS(atomfs_linearize(PATH(lawful), most, ATOMFS_TELL_LINE, NULL, 0, &count, &found), ATOMFS_TOO_SMALL);
+    IS(count, sizeof journal - 1);
+    IS(found, ATOMFS_FOUND_LAWFUL);
+    found = 9;
+    IS(atomfs_linearize(PATH(bad), most, ATOMFS_TELL_LINE, out, sizeof out, &count, &found), ATOMFS_BAD_LINE);
+    IS(count, 3);
+    IS(atomfs_linearize(NULL, 0, most, ATOMFS_TELL_LINE, NULL, 0, &count, &found), ATOMFS_BAD_HEADER);
+    IS(count, 1);
+    IS(atomfs_linearize(PATH(lawful), 0, ATOMFS_TELL_LINE, out, sizeof out, &count, &found), ATOMFS_BAD_CHOICE);
+    IS(atomfs_linearize(PATH(lawful), most + 1, ATOMFS_TELL_LINE, out, sizeof out, &count, &found), ATOMFS_BAD_CHOICE);
+    IS(atomfs_linearize(PATH(lawful), most, ATOMFS_TELL_WORDS + 1, out, sizeof out, &count, &found), ATOMFS_BAD_CHOICE);
+    IS(atomfs_linearize(NULL, 1, most, ATOMFS_TELL_LINE, out, sizeof out, &count, &found), ATOMFS_NULL);
+    IS(atomfs_linearize("", 0, most, ATOMFS_TELL_LINE, NULL, 1, &count, &found), ATOMFS_NULL);
+    IS(atomfs_linearize("", 0, most, ATOMFS_TELL_LINE, out, sizeof out, NULL, &found), ATOMFS_NULL);
+    IS(atomfs_linearize(PATH(lawful), most, ATOMFS_TELL_LINE, out, sizeof out, &count, NULL), ATOMFS_NULL);
+    IS(atomfs_linearize("", SIZE_MAX / 2 + 1, most, ATOMFS_TELL_LINE, out, sizeof out, &count, &found), ATOMFS_BAD_LENGTH);
+    IS(found, 9);
+}
+
 /* Nulls and lengths that are none: a status, and nothing happens. */
 static void nulls(void) {
     atomfs_request request = { ATOMFS_CALL_MKDIR, NULL, 2, NULL, 0, 0, 0, NULL, 0 };
@@ -946,6 +1000,7 @@ int main(void) {
     keeps();
     texts();
     tools();
+    histories();
     nulls();
     no_numbers();
     whole_files();

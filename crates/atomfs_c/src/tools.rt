@@ -1,88 +1,29 @@
 //! The exports of tools over texts, which take no handle. Where a text has a fault its line is told in the place of a length.
 
-ghost use Rattle.std.specs.Prelude.{◌≡◌, ◌≢◌, ◌<◌, ◌⊎◌, ℕ, Bool, List, IsSomeAnd, IfOk, IfErr};
+ghost use Rattle.std.specs.Prelude.{◌≡◌, ◌≢◌, ◌<◌, ◌⊎◌, ℕ, Bool, List, IsSomeAnd};
 ghost use Rattle.std.specs.Str.{IsUtf8};
 ghost use Rattle.fs_explain.specs.Topics.{Explains, word_of};
 ghost use Rattle.fs_explain.specs.declared.topic.Topic.{Topic};
 ghost use Rattle.fs_sched.specs.Seeds.{AreRunsOf};
 ghost use Rattle.fs_sched.specs.declared.running.RunEnd.{RunEnd};
 ghost use Rattle.fs_trace.specs.Traces.{IsScheduleOf, IsTraceOf};
-ghost use Rattle.fs_draw.specs.Faults.{IsFaultOfPicture};
 ghost use Rattle.fs_draw.specs.Pictures.{IsPictureOf};
 ghost use Rattle.fs_embed.specs.Numbered.{is_set, schedule_of};
 ghost use Rattle.fs_embed.specs.Statuses.{IsRefusal};
 ghost use Rattle.fs_embed.specs.Told.{Tells};
-ghost use Rattle.atomfs_c.specs.Tools.{around_of, IsToldNoPicture, IsToldNoSchedule, TellsNoPicture, TellsNoSchedule, TellsNoSeeds, TellsNoTrace};
+ghost use Rattle.fs_tools.specs.Tools.{around_of, IsFoundText};
+ghost use Rattle.atomfs_c.specs.Tools.{TellsNoPicture, TellsNoSchedule, TellsNoSeeds, TellsNothingFound, TellsNoTrace};
 
-use fs_draw::{DrawFault, draw_input};
 use fs_embed::numbered::{is_set, schedule_of};
 use fs_embed::seeds_bytes;
-use fs_embed::status::{BAD_CHOICE, CLOSED, NO_CALL, TOO_LARGE, UNTOLD};
+use fs_embed::status::{BAD_CHOICE, CLOSED, UNTOLD};
 use fs_embed::told::{tell, tell_fault};
 use fs_explain::{explanation_of, topic_in};
-use fs_sched::{Device, RUN_LIMIT, RunFault, SEED_LIMIT, Schedule};
-use fs_trace::{ScheduleFault, schedule_bytes, trace_bytes};
+use fs_recorded::CONFIGURATION_LIMIT;
+use fs_sched::{RUN_LIMIT, SEED_LIMIT};
+use fs_tools::{WORDS, around_of, draw_bytes, found_bytes, tell_no_picture, tell_no_schedule};
+use fs_trace::{schedule_bytes, trace_bytes};
 use std::alloc::Global;
-
-/// By this number the whole of a text is drawn.
-pub const WHOLE: u64 = 18_446_744_073_709_551_615;
-
-/// The call around which is drawn.
-fn around_of(number: u64) -> Option<u64>
-    ensures { result ≡ around_of number }
-{
-    if number == WHOLE {
-        return None;
-    }
-    Some(number)
-}
-
-/// The picture of a text in memory, as `draw_input` writes it.
-fn draw_bytes(
-    alloc: Global,
-    text: &[u8],
-    by: Schedule,
-    call: Option<u64>,
-) -> Result<Vec<u8>, DrawFault>
-    ensures drawn { IfOk result (λ picture. (well : Bool) × IsPictureOf by text.now well picture.items) }
-    ensures fault { IfErr result (IsFaultOfPicture by call text.now) }
-{
-    let mut reader = Device::new(text);
-    let mut writer = Device::new(Vec::new(alloc));
-    match draw_input(alloc, &mut reader, &mut writer, by, call) {
-        Ok(_) => Ok(writer.inner),
-        Err(fault @ DrawFault::NoCall(_)) => Err(fault),
-        Err(fault @ DrawFault::Run(RunFault::Input(_))) => Err(fault),
-        Err(fault @ DrawFault::Run(RunFault::UnderWay(_))) => Err(fault),
-        // Bytes in memory are there to be read, and are written as long as there is memory.
-        Err(_) => Err(DrawFault::Run(RunFault::OutOfMemory)),
-    }
-}
-
-/// Tells why there is no picture.
-fn tell_no_picture(fault: DrawFault, count: &mut usize) -> u8
-    ensures told { IsToldNoPicture fault result count.new }
-    ensures refused { IsRefusal result }
-{
-    match fault {
-        DrawFault::Run(fault) => tell_fault(fault, count),
-        DrawFault::NoCall(_) => NO_CALL,
-    }
-}
-
-/// Tells why a script does not get the events of a run as its words.
-fn tell_no_schedule(fault: ScheduleFault, count: &mut usize) -> u8
-    ensures told { IsToldNoSchedule fault result count.new }
-    ensures refused { IsRefusal result }
-{
-    match fault {
-        ScheduleFault::Run(fault) => tell_fault(fault, count),
-        ScheduleFault::TooManyEvents | ScheduleFault::TooLong => {
-            *count = 0;
-            TOO_LARGE
-        }
-    }
-}
 
 /// Runs a script, and tells its trace, as `atomfs trace` prints it: every event, or those alone that tell something new.
 #[unsafe(no_mangle)]
@@ -174,6 +115,33 @@ pub extern "C" fn atomfs_seeds(
     }
     match seeds_bytes(alloc, script, seed, runs) {
         Ok(text) => tell(text.as_slice(), out, count),
+        Err(fault) => tell_fault(fault, count),
+    }
+}
+
+/// Finds an order in which the calls of a history took effect, and tells the journal, or why there is none, as `atomfs linearize` prints it.
+#[unsafe(no_mangle)]
+pub extern "C" fn atomfs_linearize(
+    alloc: Global,
+    history: &[u8],
+    limit: u64,
+    form: u8,
+    out: &mut [u8],
+    count: &mut usize,
+    found: &mut u8,
+) -> u8
+    ensures linearized { result < UNTOLD → (text : List ℕ) × IsFoundText history.now limit form found.new text × Tells result text count.new out.old out.new }
+    ensures fault { CLOSED < result → TellsNothingFound limit form history.now result count.new }
+    ensures only { (result < UNTOLD) ⊎ IsRefusal result }
+{
+    if limit == 0 || limit > CONFIGURATION_LIMIT || form > WORDS {
+        return BAD_CHOICE;
+    }
+    match found_bytes(alloc, history, limit, form) {
+        Ok(told) => {
+            *found = told.number;
+            tell(told.text.as_slice(), out, count)
+        }
         Err(fault) => tell_fault(fault, count),
     }
 }

@@ -1,0 +1,22 @@
+//! Why a schedule is not written.
+
+ghost use Rattle.fs_embed.specs.Statuses.{IsRefusal};
+ghost use Rattle.fs_tools.specs.Tools.{IsToldNoSchedule};
+
+use fs_embed::status::TOO_LARGE;
+use fs_embed::told::tell_fault;
+use fs_trace::ScheduleFault;
+
+/// Tells why a script does not get the events of a run as its words.
+pub fn tell_no_schedule(fault: ScheduleFault, count: &mut usize) -> u8
+    ensures told { IsToldNoSchedule fault result count.new }
+    ensures refused { IsRefusal result }
+{
+    match fault {
+        ScheduleFault::Run(fault) => tell_fault(fault, count),
+        ScheduleFault::TooManyEvents | ScheduleFault::TooLong => {
+            *count = 0;
+            TOO_LARGE
+        }
+    }
+}
