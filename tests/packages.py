@@ -313,11 +313,11 @@ class Numbers(Case):
         self.same(path.relative_to(ROOT), re.search(pattern, path.read_text(), re.M)[1], VERSION)
 
     def test_statuses(self):
-        """Statuses, what a step did, calls, and sets of limits, as the header numbers them."""
+        """Statuses, what a step did, calls, what came of histories, and sets of limits, as the header numbers them."""
         header = {name: int(value) for name, value in re.findall(r"^    ATOMFS_(\w+) = (\d+)", HEADER, re.M)}
         library, ffi = self.source("python", "src", "atomfs", "_library.py"), self.source("rust", "src", "ffi.rs")
         of_python = {"FAILED": int(re.search(r"^FAILED = (\d+)", library, re.M)[1])}
-        for enum, prefix in (("Limits", ""), ("Status", ""), ("Did", "DID_"), ("Fault", "FAULT_"), ("Call", "CALL_"), ("By", "")):
+        for enum, prefix in (("Limits", ""), ("Status", ""), ("Did", "DID_"), ("Fault", "FAULT_"), ("Call", "CALL_"), ("By", ""), ("Found", "FOUND_"), ("Tell", "TELL_")):
             body = re.search(rf"class {enum}\(enum.\w+\):(.*?)\n\n\n", library, re.S)[1]
             of_python |= {prefix + name: int(value) for name, value in re.findall(r"^    (\w+) = (\d+)", body, re.M)}
         self.same("_library.py", of_python, header)

@@ -265,11 +265,22 @@ class Kernel(Recorder):
 class InMemory(Recorder):
     """record.py, on trees of libraries."""
 
-    def recorded(self, *words, program=None):
-        library = harness.library_at()
-        variables = {"ATOMFS_LIBRARY": library, "ATOMFS_PROGRAM": str(program or harness.program()), "PYTHONDONTWRITEBYTECODE": "1"}
-        words = packages.python(), "-W", "ignore", RECORD / "record.py", *words
-        return ended(words, PYTHONPATH=str(packages.BINDINGS / "python" / "src"), **variables)
+    # By this it runs where no order of the seventh history is found.
+    STANDING_IN = """if True:
+        import itertools, runpy, sys
+        # Another module of this name may stand in the folder in which it runs.
+        del sys.path[0]
+        import atomfs
+        at, find = itertools.count(1), atomfs.History.linearize
+        atomfs.History.linearize = lambda history: atomfs.NoOrder(2, 1) if next(at) == 7 else find(history)
+        sys.argv = sys.argv[1:]
+        runpy.run_path(sys.argv[0], run_name="__main__")
+    """
+
+    def recorded(self, *words, standing_in=None):
+        by = ("-c", standing_in) if standing_in else ()
+        words = packages.python(), "-W", "ignore", *by, RECORD / "record.py", *words
+        return ended(words, PYTHONPATH=str(packages.BINDINGS / "python" / "src"), ATOMFS_LIBRARY=harness.library_at(), PYTHONDONTWRITEBYTECODE="1")
 
     def test_tree(self):
         """Our own tree is lawful."""
@@ -286,7 +297,7 @@ class InMemory(Recorder):
 
     def test_one_thread(self):
         """What is not lawful of one thread is another kind of tree, and it stops there."""
-        status, history, told = self.recorded("Tree", program=self.standing_in(7, "none 2 1", 1))
+        status, history, told = self.recorded("Tree", standing_in=self.STANDING_IN)
         self.same("one thread", (status, told.splitlines()[0]), (2, "one thread, so this is another kind of tree: none 2 1"))
         self.same(history, run(history.encode(), "linearize").status, 0)
 

@@ -3,7 +3,7 @@
 
 Install the package, or build the library by `embed/build` and say where it is:
 
-    export PYTHONPATH=bindings/python/src ATOMFS_LIBRARY=dist/lib/libatomfs.so ATOMFS_PROGRAM=dist/bin/atomfs
+    export PYTHONPATH=bindings/python/src ATOMFS_LIBRARY=dist/lib/libatomfs.so
 
     python3 examples/record/record.py Tree
     python3 examples/record/record.py MemoryFS > none.history

@@ -1,4 +1,4 @@
-"""Histories of any tree: how they are recorded, and what the program of the package finds of them."""
+"""Histories of any tree: how they are recorded, and what the library finds of them."""
 import asyncio
 import errno
 import os
@@ -12,12 +12,12 @@ import fs.errors
 import fs.memoryfs
 
 import atomfs
-from atomfs import Error, History, Lawful, Limits, NoHistory, NoOrder, ProgramError, Status, Tree, Unknown
-from atomfs.__main__ import program
+from atomfs import Error, History, Lawful, Limits, NoHistory, NoOrder, Status, Tree, Unknown
+from atomfs._library import library
 
 HEADER = "atomfs-journal 1\n"
+LONG = f"write /f 0 {'07' * 200}"
 BEGUN = HEADER + "begin 1 0 mkdir /a\nbegin 2 1 stat /a\n"
-OF_PROGRAM = unittest.skipUnless(os.path.exists(program()), "there is no program in the package: ATOMFS_PROGRAM names one")
 
 
 def lines(history):
@@ -30,7 +30,6 @@ def replies(history):
     return [line.split(" ", 2)[2] for line in lines(history) if line.startswith("return ")]
 
 
-@OF_PROGRAM
 class Linearize(unittest.TestCase):
     def test_lawful(self):
         for text in (BEGUN + "return 2 failed ?\nreturn 1 ok\n", (BEGUN + "return 2 stat dir ?\nreturn 1 ok\n").encode()):
@@ -58,8 +57,10 @@ class Linearize(unittest.TestCase):
             (Error, "line 4: BadLine: ", lambda: atomfs.linearize(BEGUN + "commit 1\n")),
             (Error, "line 4: BadReply: ", lambda: atomfs.linearize(BEGUN + "return 1 done\n")),
             (Error, "line 4: BadNumber: ", lambda: atomfs.linearize(BEGUN + "return 2 stat file ?\n")),
-            (Error, "line 2: BadPath NotAbsolute: ", lambda: atomfs.linearize(HEADER + "begin 1 0 mkdir a\n")),
-            (ValueError, "invalid value '0' for '--limit <N>': 0 is not in 1..=1000000000", lambda: atomfs.linearize(BEGUN, 0)),
+            (Error, "line 2: BadPath: ", lambda: atomfs.linearize(HEADER + "begin 1 0 mkdir a\n")),
+            (Error, "line 1: TooLarge: ", lambda: atomfs.linearize(HEADER + "#" * 2**24)),
+            (ValueError, "a limit is 1 to 1,000,000,000 configurations, and not 0", lambda: atomfs.linearize(BEGUN, 0)),
+            (ValueError, "a limit is 1 to 1,000,000,000 configurations, and not 1,000,000,001", lambda: atomfs.linearize(BEGUN, 10**9 + 1)),
             (ValueError, "a negative limit", lambda: atomfs.linearize(BEGUN, -1)),
             (TypeError, "limit is a whole number, and this is str", lambda: atomfs.linearize(BEGUN, "1")),
             (TypeError, "memoryview: ", lambda: atomfs.linearize(7)),
@@ -71,28 +72,39 @@ class Linearize(unittest.TestCase):
             atomfs.linearize(BEGUN + "commit 1\n")
         self.assertEqual((raised.exception.status, raised.exception.about), (Status.BAD_LINE, 4))
 
-    def test_other_ends(self):
-        """What the program says of what it found; and one that ends as it should not, or says what is no verdict."""
-        with tempfile.TemporaryDirectory() as folder:
-            path = pathlib.Path(folder, "program")
-            for text, kind in (
-                ("echo atomfs: out of memory >&2; exit 4", MemoryError),
-                ("echo none 3; exit 1", ProgramError),
-                ("echo unknown >&1; exit 4", ProgramError),
-                ("exit 0", ProgramError),
-                ("kill -9 $$", ProgramError),
-                ("echo none 3 2; echo atomfs: line 4 is told >&2; exit 1", "line 4 is told"),
-                ("echo fault 3 SeatBusy; echo atomfs: line 4 is told >&2; exit 1", "line 4 is told"),
-            ):
-                with self.subTest(text), unittest.mock.patch.dict(os.environ, ATOMFS_PROGRAM=str(path)):
-                    path.write_text(f"#!/bin/sh\n{text}\n")
-                    path.chmod(0o755)
-                    if isinstance(kind, str):
-                        self.assertEqual(History().linearize().words, kind)
-                    else:
-                        self.assertRaises(kind, History().linearize)
-                    path.unlink()
-                    self.assertRaisesRegex(ProgramError, "there is no program: ", History().linearize)
+    def test_words(self):
+        """What the entry says, and which call it is; the rest of a long one is left out, and what is no text stands for itself."""
+        for text, wanted in (
+            (BEGUN + "return 2 stat dir 1\n", "line 4: return 2 stat dir 1; call 2 is stat /a on seat 1"),
+            (BEGUN + "begin 3 1 stat /\n", "line 4: begin 3 1 stat /; call 3 is stat / on seat 1"),
+            (HEADER + "return 7 ok\n", "line 2: return 7 ok; no call 7 has begun"),
+            (HEADER + "begin 1 0 stat /\nreturn 1 failed ?\n" + "# \n" * 50_000, "line 3: return 1 failed ?; call 1 is stat / on seat 0"),
+            (HEADER + f"begin 1 0 {LONG}\nreturn 1 ok\n", f"line 3: return 1 ok; call 1 is {LONG[:240]}.. on seat 0"),
+            (HEADER.encode() + b"begin 1 0 stat /\xff\nreturn 1 ok\n", "line 3: return 1 ok; call 1 is stat /\ufffd on seat 0"),
+        ):
+            with self.subTest(wanted):
+                self.assertEqual(atomfs.linearize(text).words, wanted)
+
+    def test_front(self):
+        """With no order the journal up to that return, which is the first fault of it; else there is none."""
+        told = atomfs.front(BEGUN + "return 2 stat dir 1\nreturn 1 ok\n")
+        self.assertEqual((told, atomfs.check(told)), (BEGUN + "return 2 stat dir 1\n", "fault 3 ReturnUncommitted"))
+        self.assertIn("fault 3 ReturnUncommitted", str(atomfs.draw(told)))
+        for text, limit in ((BEGUN + "return 2 stat dir 1\n", 1), (BEGUN + "return 1 ok\n", None), (BEGUN + "begin 3 1 stat /\n", None)):
+            self.assertIsNone(atomfs.front(text, limit))
+        with self.assertRaisesRegex(Error, "line 4: BadLine: "):
+            atomfs.front(BEGUN + "commit 1\n")
+
+    def test_room(self):
+        """A journal that is longer than the room for it is asked for once more."""
+        text = "atomfs-journal 3\nstart\ndir /\nentries\n" + "".join(f"begin {at} {at} stat /{chr(233) * 30}\n" for at in range(1, 4_000))
+        found = atomfs.linearize(text)
+        self.assertEqual(atomfs.check(found.journal), "lawful")
+        self.assertGreater(len(found.journal), 2 * len(text.encode()) + 2**16)
+
+    def test_no_memory(self):
+        with unittest.mock.patch.object(library(), "linearize", return_value=Status.NO_MEMORY), self.assertRaises(MemoryError):
+            History().linearize()
 
 
 class Texts(unittest.TestCase):
@@ -301,7 +313,6 @@ class Threads(unittest.TestCase):
         asyncio.run(all_of_them())
         self.assertEqual(self.look(history, 15), set("01234"))
 
-    @OF_PROGRAM
     def test_tree(self):
         """What threads do on a tree of this package is lawful."""
         with Tree() as tree:
@@ -331,7 +342,6 @@ class Threads(unittest.TestCase):
 class Others(unittest.TestCase):
     """Trees of others."""
 
-    @OF_PROGRAM
     def test_kernel(self):
         """One thread on a directory of this machine is lawful."""
         history = History()
@@ -357,7 +367,6 @@ class Others(unittest.TestCase):
         self.assertEqual(replies(history), [*wanted, "names f", "stat dir ?", "stat file 2", "ok", "bytes 07"])
         self.assertEqual(history.linearize().verdict, "lawful")
 
-    @OF_PROGRAM
     def test_memory_fs(self):
         """`removedir` of PyFilesystem2 looks whether a directory is empty before it takes the lock: one that is made meanwhile is lost."""
         looked, made = threading.Event(), threading.Event()

@@ -242,7 +242,7 @@ pub enum ErrorKind {
     BadText(u8, usize),
     /// No call has the number around which is to be drawn.
     NoCall,
-    /// The number of runs, their seed or the word of a fault is none.
+    /// The number of runs, their seed, the limit of a search or the word of a fault is none.
     BadChoice,
     /// The options to open a file by contradict each other, or ask for no access.
     BadOptions,

@@ -57,6 +57,12 @@ pub const FAILED: u8 = 128;
 /// By this number all calls are drawn.
 pub const WHOLE: u64 = u64::MAX;
 
+pub const FOUND_LAWFUL: u8 = 0;
+pub const FOUND_NO_ORDER: u8 = 1;
+pub const FOUND_NO_HISTORY: u8 = 2;
+pub const TELL_FRONT: u8 = 1;
+pub const TELL_WORDS: u8 = 2;
+
 /// A function on one path.
 pub type OnPath = unsafe extern "C" fn(*mut Handle, u64, *const u8, usize, *mut u64) -> u8;
 
@@ -283,6 +289,16 @@ extern "C" {
         out: *mut u8,
         room: usize,
         count: *mut usize,
+    ) -> u8;
+    pub fn atomfs_linearize(
+        history: *const u8,
+        length: usize,
+        limit: u64,
+        tell: u8,
+        out: *mut u8,
+        room: usize,
+        count: *mut usize,
+        found: *mut u8,
     ) -> u8;
     pub fn atomfs_explain(
         word: *const u8,

@@ -20,7 +20,8 @@
 //! Threads share a tree as a [`SharedTree`] or by [`Session`]s, whose calls interleave step by step. [`Tree::seat`], [`Tree::begin`] and
 //! [`Tree::step`] play an interleaving of your own.
 //!
-//! [`check`], [`run`], [`trace`], [`draw`], [`schedule`], [`seeds`] and [`explain`] are what the program `atomfs` does with texts.
+//! [`check`], [`run`], [`trace`], [`draw`], [`schedule`], [`seeds`], [`linearize`] and [`explain`] are what the program `atomfs` does with
+//! texts.
 //!
 //! Errors of calls are those of the operating system:
 //!
@@ -44,6 +45,7 @@ mod error;
 mod ffi;
 mod file;
 mod limits;
+mod linearize;
 mod path;
 mod session;
 mod shared;
@@ -55,6 +57,7 @@ pub use call::{Call, Did, Reply, Seat, Stat};
 pub use error::{Errno, Error, ErrorKind, PathFault};
 pub use file::{File, OpenOptions};
 pub use limits::{Journal, Limits};
+pub use linearize::{front, linearize, Linearized};
 pub use path::AsPath;
 pub use session::Session;
 pub use shared::SharedTree;

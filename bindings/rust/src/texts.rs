@@ -162,8 +162,16 @@ fn of_text(function: OfText, given: &[u8]) -> Result<String, Error> {
 }
 
 /// The bytes that a function tells, with as much room as they need.
-fn told(mut ask: impl FnMut(*mut u8, usize, *mut usize) -> u8) -> Result<Vec<u8>, Error> {
-    let mut out = vec![0; ROOM];
+fn told(ask: impl FnMut(*mut u8, usize, *mut usize) -> u8) -> Result<Vec<u8>, Error> {
+    told_in(ROOM, ask)
+}
+
+/// The same with so much room at first.
+pub(crate) fn told_in(
+    room: usize,
+    mut ask: impl FnMut(*mut u8, usize, *mut usize) -> u8,
+) -> Result<Vec<u8>, Error> {
+    let mut out = vec![0; room];
     loop {
         let mut count = 0;
         match ask(out.as_mut_ptr(), out.len(), &mut count) {

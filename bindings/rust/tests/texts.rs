@@ -1,6 +1,7 @@
 //! What the library makes of scripts and journals.
 
-use atomfs::{draw, explain, run, schedule, seeds, trace, ErrorKind, Schedule, Tree};
+use atomfs::{check, draw, explain, front, linearize, run, schedule, seeds, trace};
+use atomfs::{ErrorKind, Linearized, Schedule, Tree};
 
 const SCRIPT: &str =
     "atomfs 1\nthread m\nmkdir /a\nmkdir /a/b\nthread r\nrename /a /b\nschedule\nm*9 r*9 finish\n";
@@ -57,6 +58,52 @@ fn seeded_runs() {
     assert_eq!(seeds(SCRIPT, 5, 2).unwrap(), wanted);
     for (seed, runs) in [(0, 0), (0, 10_001), (1 << 63, 1)] {
         assert_eq!(seeds(SCRIPT, seed, runs).unwrap_err(), ErrorKind::BadChoice);
+    }
+}
+
+const BEGUN: &str = "atomfs-journal 1\nbegin 1 0 mkdir /a\nbegin 2 1 stat /a\n";
+
+#[test]
+fn histories() {
+    let history = format!("{BEGUN}return 2 stat dir ?\nreturn 1 ok\n");
+    let Linearized::Lawful(journal) = linearize(&history, None).unwrap() else {
+        panic!("it is lawful")
+    };
+    assert_eq!(check(&journal).unwrap(), "lawful");
+    assert_eq!(journal.matches("commit ").count(), 2);
+    assert_eq!(front(&history, None).unwrap(), None);
+    let history = format!("{BEGUN}return 2 stat dir 1\n");
+    let wanted = Linearized::NoOrder {
+        place: 3,
+        call: 2,
+        words: "line 4: return 2 stat dir 1; call 2 is stat /a on seat 1".to_owned(),
+    };
+    assert_eq!(linearize(&history, Some(1_000_000_000)).unwrap(), wanted);
+    let told = front(&history, None).unwrap();
+    assert_eq!(told, Some(history.clone()));
+    assert_eq!(
+        linearize(&history, Some(1)).unwrap(),
+        Linearized::Unknown { place: 2 }
+    );
+    assert_eq!(front(history, Some(1)).unwrap(), None);
+}
+
+#[test]
+fn no_histories() {
+    let history = format!("{BEGUN}begin 3 1 stat /\n");
+    let wanted = Linearized::NoHistory {
+        place: 3,
+        kind: "SeatBusy".to_owned(),
+        words: "line 4: begin 3 1 stat /; call 3 is stat / on seat 1".to_owned(),
+    };
+    let found = linearize(&history, None).unwrap();
+    assert_eq!(found.to_string(), "fault 3 SeatBusy");
+    assert_eq!(found, wanted);
+    let error = linearize(format!("{BEGUN}commit 1\n"), None).unwrap_err();
+    assert!(matches!(error.kind(), ErrorKind::BadText(_, 4)));
+    for limit in [0, 1_000_000_001] {
+        let error = linearize(&history, Some(limit)).unwrap_err();
+        assert_eq!(error, ErrorKind::BadChoice);
     }
 }
 

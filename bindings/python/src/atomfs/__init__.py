@@ -12,13 +12,13 @@
 calls, and `atomfs.draw` a picture of them. `atomfs.History` records the calls of any other tree, and judges them. `atomfs.fs` is the
 same as a file system of PyFilesystem2, `atomfs.fsspec` as one of fsspec.
 """
-from ._errors import ClosedError, Error, ProgramError, UnderWayError, WaitsError
+from ._errors import ClosedError, Error, UnderWayError, WaitsError
 from ._explore import ScheduleError, explore, simulate
 from ._history import Answer, History
 from ._journal import ALL, LAST, NONE, Journal
 from ._library import NODE_LIMIT, PATH_LIMIT, Did, Limits, Status
 from ._library import library as _shared_object
-from ._linearize import Lawful, Linearized, NoHistory, NoOrder, Unknown, linearize
+from ._linearize import Lawful, Linearized, NoHistory, NoOrder, Unknown, front, linearize
 from ._load import Snapshot, diff
 from ._patch import patch
 from ._path import Path
@@ -54,7 +54,6 @@ __all__ = [
     "PATH_LIMIT",
     "Path",
     "Picture",
-    "ProgramError",
     "ScheduleError",
     "Seat",
     "SeedVerdict",
@@ -71,6 +70,7 @@ __all__ = [
     "draw",
     "explain",
     "explore",
+    "front",
     "library_version",
     "linearize",
     "patch",

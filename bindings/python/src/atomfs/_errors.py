@@ -10,7 +10,7 @@ from __future__ import annotations
 
 import errno
 import os
-from typing import TYPE_CHECKING, Optional, Union
+from typing import TYPE_CHECKING, Union
 
 from ._library import ENTRY_LIMIT, FAILED, Library, Limits, Status
 
@@ -42,14 +42,6 @@ class WaitsError(Error):
     def __init__(self, words: str, about: int, seat: Seat) -> None:
         super().__init__(Status.WAITS, words, about)
         self.seat = seat
-
-
-class ProgramError(Exception):
-    """The program `atomfs` is not there, or ended as it should not. `status` is what it ended with, if it did; signals are negative."""
-
-    def __init__(self, words: str, status: Optional[int] = None) -> None:
-        super().__init__(words)
-        self.status = status
 
 
 def encoded(path: AnyPath) -> bytes:

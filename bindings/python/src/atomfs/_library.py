@@ -139,6 +139,23 @@ class By(enum.IntEnum):
     SEEDED = 2
 
 
+class Found(enum.IntEnum):
+    """What came of a history."""
+
+    LAWFUL = 0
+    NO_ORDER = 1
+    NO_HISTORY = 2
+    UNKNOWN = 3
+
+
+class Tell(enum.IntEnum):
+    """What is told of a history that is not lawful."""
+
+    LINE = 0
+    FRONT = 1
+    WORDS = 2
+
+
 class Handle(ctypes.Structure):
     _fields_ = [("is_open", ctypes.c_uint8), ("most", ctypes.c_uint32), ("at", ctypes.c_void_p)]
 
@@ -201,6 +218,7 @@ _ARGUMENTS: Dict[str, List[Any]] = {
     "draw": [*_GIVEN, ctypes.c_uint8, _NUMBER, _NUMBER, *_TOLD],
     "schedule": [*_GIVEN, ctypes.c_uint8, _NUMBER, *_TOLD],
     "seeds": [*_GIVEN, _NUMBER, _NUMBER, *_TOLD],
+    "linearize": [*_GIVEN, _NUMBER, ctypes.c_uint8, *_TOLD, _AT],
     "explain": [*_GIVEN, *_TOLD],
     "check_path": [*_GIVEN, ctypes.c_uint8],
 }
@@ -208,7 +226,7 @@ _ARGUMENTS: Dict[str, List[Any]] = {
 
 # What may take long, and lets other threads of Python run meanwhile. A call takes less time than it takes to let them.
 _LONG = {"open_from", "open_at", "close", "journal", "checkpoint", "forget", "verdict", "tree", "run", "check"}
-_LONG |= {"trace", "draw", "schedule", "seeds"}
+_LONG |= {"trace", "draw", "schedule", "seeds", "linearize"}
 
 
 class Library:

@@ -1,21 +1,17 @@
-"""What the program `atomfs`, which is in the package, finds of histories: an order of their calls, or the first return that none explains."""
+"""What the library finds of histories: an order of their calls, or the first return that none explains."""
 from __future__ import annotations
 
+import ctypes
 import dataclasses
-import os
-import re
-import subprocess
-from typing import Optional, Union
+from typing import Optional, Tuple, Union
 
-from ._errors import Error, ProgramError, error_of
-from ._library import Status, library
-from ._program import no_program, program
+from ._errors import error_of
+from ._library import Found, Status, Tell, library
+from ._texts import ROOM, Room
 from ._values import bytes_of, number_of
 
-# What the program ends with where it has written what it found, and where it has written nothing.
-_LAWFUL, _USAGE, _MALFORMED = 0, 2, 3
-# The words that it has for faults of texts.
-_KINDS = {status.kind: status for status in Status}
+# So many configurations are made where no limit is given, and there are so many limits.
+_CONFIGURATIONS, _LIMITS = 10_000_000, range(1, 1_000_000_001)
 
 
 @dataclasses.dataclass(frozen=True)
@@ -36,7 +32,7 @@ class NoOrder:
 
     place: int
     call: int
-    #: What the program says of it.
+    #: What this entry says, with its line, and which call it is.
     words: str = dataclasses.field(default="", compare=False)
 
     @property
@@ -51,7 +47,7 @@ class NoHistory:
 
     place: int
     kind: str
-    #: What the program says of it.
+    #: What this entry says, with its line, and which call it is.
     words: str = dataclasses.field(default="", compare=False)
 
     @property
@@ -81,42 +77,40 @@ def linearize(history: Union[str, bytes], limit: Optional[int] = None) -> Linear
 
     A history is a journal without its lines `commit`, in which `return 3 failed ?` fits any error of call 3, and `return 3 stat dir ?`
     any number of entries; `History` records one. The search makes at most `limit` configurations, 1 to 1,000,000,000, or else
-    10,000,000. `Error` tells the line of what is no history, `ValueError` that there is no such limit, `MemoryError` that there is none
-    left, and `ProgramError` that the program is not there.
+    10,000,000; other threads run meanwhile, and no signal ends it. `Error` tells the line of what is no history, `ValueError` that there
+    is no such limit, and `MemoryError` that there is no memory left.
     """
-    words = ["--limit", str(number_of(limit, "limit"))] if limit is not None else []
+    found, told = _found(history, limit, Tell.WORDS)
+    if found == Found.LAWFUL:
+        return Lawful(told.decode())
+    # The entry is in the words as it was given, and may be cut.
+    line, _, words = told.decode("utf-8", "replace").removesuffix("\n").partition("\n")
+    _, place, *about = line.split(" ")
+    if found == Found.NO_ORDER:
+        return NoOrder(int(place), int(about[0]), words)
+    return NoHistory(int(place), about[0], words) if found == Found.NO_HISTORY else Unknown(int(place))
+
+
+def front(history: Union[str, bytes], limit: Optional[int] = None) -> Optional[str]:
+    """The journal up to the first return that no order explains, for `draw`: one of those that explain all before it.
+
+    There is none where `linearize` finds something else, or the limit is reached. What is refused is refused as there.
+    """
+    found, told = _found(history, limit, Tell.FRONT)
+    return None if found != Found.NO_ORDER or told.startswith(b"none ") else told.decode()
+
+
+def _found(history: Union[str, bytes], limit: Optional[int], tell: Tell) -> Tuple[Found, bytes]:
+    """What came of a history, and what the library tells of it."""
+    most = _CONFIGURATIONS if limit is None else number_of(limit, "limit")
+    if most not in _LIMITS:
+        raise ValueError(f"a limit is {_LIMITS.start} to {_LIMITS.stop - 1:,} configurations, and not {limit:,}")
     given = history.encode("utf-8", "surrogateescape") if isinstance(history, str) else bytes_of(history, "linearize")
-    path = program()
-    try:
-        done = subprocess.run(["atomfs", "linearize", *words], executable=os.path.abspath(path), input=given, capture_output=True, cwd="/")
-    except OSError as error:
-        raise ProgramError(no_program(path, error)) from error
-    written = done.stdout.decode("utf-8", "surrogateescape")
-    said = done.stderr.decode("utf-8", "replace").removeprefix("atomfs: ").rstrip("\n")
-    found = Lawful(written) if done.returncode == _LAWFUL and written else _found(written, said)
-    if found is None:
-        raise _refusal(done.returncode, said)
-    return found
-
-
-def _found(verdict: str, words: str) -> Optional[Linearized]:
-    """What a line of the program says that it found, where the history is not lawful."""
-    if none := re.fullmatch(r"none (\d+) (\d+)\n", verdict):
-        return NoOrder(int(none[1]), int(none[2]), words)
-    if fault := re.fullmatch(r"fault (\d+) (\w+)\n", verdict):
-        return NoHistory(int(fault[1]), fault[2], words)
-    unknown = re.fullmatch(r"unknown (\d+)\n", verdict)
-    return Unknown(int(unknown[1])) if unknown else None
-
-
-def _refusal(ended: int, said: str) -> Exception:
-    """The exception of what the program says where it found nothing."""
-    of = library()
-    if ended == _USAGE:
-        return ValueError(said.split("\n\n")[0].removeprefix("error: "))
-    if ended == _MALFORMED and (fault := re.fullmatch(r"line (\d+): (\w+)( \w+)?", said)) and fault[2] in _KINDS:
-        status = _KINDS[fault[2]]
-        return Error(status, f"{said}: {of.words(status)}", int(fault[1]))
-    if said == "out of memory":
-        return error_of(of, Status.NO_MEMORY)
-    return ProgramError(f"the program ended with {ended}: {said}", ended)
+    # A journal that explains a history is hardly ever twice as long, so no search is made once more for want of room.
+    of, room, found = library(), Room(ROOM + 2 * len(given)), ctypes.c_uint8()
+    at = ctypes.addressof(found)
+    while status := of.linearize(given, len(given), most, tell, room.at, room.size, room.at_count, at):
+        if status != Status.TOO_SMALL:
+            raise error_of(of, status, room.count.value)
+        room.make(room.count.value)
+    return Found(found.value), room.told()

@@ -1,0 +1,134 @@
+//! What the library finds of histories: an order of their calls, or the first return that none explains.
+
+use crate::error::Error;
+use crate::ffi;
+use crate::texts::{ascii, told_in, ROOM};
+use std::fmt;
+
+/// So many configurations are made where no limit is given.
+const CONFIGURATIONS: u64 = 10_000_000;
+
+/// What is found of a history. As text it is the verdict: `lawful`, `none 3 2`, `fault 3 SeatBusy`, `unknown 3`.
+#[derive(Clone, Debug, PartialEq, Eq)]
+pub enum Linearized {
+    /// There is an order of the calls: the journal is the history with its commits, and [`check`](crate::check) says that it is lawful.
+    Lawful(String),
+    /// No order explains the entries up to this place; one explains those before it.
+    NoOrder {
+        /// The place of a return, counted from 1.
+        place: u64,
+        /// The number of the call that returns there.
+        call: u64,
+        /// What this entry says, with its line, and which call it is.
+        words: String,
+    },
+    /// The entry at this place is the first that cannot come next.
+    NoHistory {
+        /// Its place, counted from 1.
+        place: u64,
+        /// Why, as `SeatBusy`.
+        kind: String,
+        /// What it says, with its line, and which call it is.
+        words: String,
+    },
+    /// The limit was reached.
+    Unknown {
+        /// The place of the entry to which the search had come, counted from 1.
+        place: u64,
+    },
+}
+
+impl fmt::Display for Linearized {
+    fn fmt(&self, f: &mut fmt::Formatter<'_>) -> fmt::Result {
+        match self {
+            Linearized::Lawful(_) => f.write_str("lawful"),
+            Linearized::NoOrder { place, call, .. } => write!(f, "none {place} {call}"),
+            Linearized::NoHistory { place, kind, .. } => write!(f, "fault {place} {kind}"),
+            Linearized::Unknown { place } => write!(f, "unknown {place}"),
+        }
+    }
+}
+
+/// An order in which the calls of a history took effect, or the first return that no order explains.
+///
+/// A history is a journal without its lines `commit`, in which `return 3 failed ?` fits any error of call 3, and `return 3 stat dir ?`
+/// any number of entries. The search makes at most `limit` configurations, 1 to 1,000,000,000, or else 10,000,000.
+/// `ErrorKind::BadText` tells the line of what is no history, and `ErrorKind::BadChoice` that there is no such limit.
+///
+/// ```
+/// use atomfs::Linearized;
+/// let begun = "atomfs-journal 1\nbegin 1 0 stat /a\nbegin 2 1 mkdir /a\nreturn 2 ok\n";
+/// let found = atomfs::linearize(format!("{begun}return 1 failed ?\n"), None)?;
+/// let Linearized::Lawful(journal) = found else { panic!("{found}") };
+/// assert_eq!(atomfs::check(journal)?, "lawful");
+/// let found = atomfs::linearize(format!("{begun}return 1 stat file 0\n"), None)?;
+/// assert_eq!(found.to_string(), "none 4 1");
+/// # Ok::<(), atomfs::Error>(())
+/// ```
+pub fn linearize(history: impl AsRef<[u8]>, limit: Option<u64>) -> Result<Linearized, Error> {
+    let (found, told) = found(history.as_ref(), limit, ffi::TELL_WORDS)?;
+    if found == ffi::FOUND_LAWFUL {
+        return Ok(Linearized::Lawful(ascii(&told)));
+    }
+    // The entry is in the words as it was given.
+    let told = String::from_utf8_lossy(&told);
+    let mut lines = told.lines();
+    let mut line = lines.next().unwrap_or_default().split(' ').skip(1);
+    let place = number(line.next());
+    let about = line.next();
+    let words = lines.next().unwrap_or_default().to_owned();
+    Ok(match found {
+        ffi::FOUND_NO_ORDER => Linearized::NoOrder {
+            place,
+            call: number(about),
+            words,
+        },
+        ffi::FOUND_NO_HISTORY => Linearized::NoHistory {
+            place,
+            kind: about.unwrap_or_default().to_owned(),
+            words,
+        },
+        _ => Linearized::Unknown { place },
+    })
+}
+
+/// The journal up to the first return that no order explains, for [`draw`](crate::draw): one of those that explain all before it. `None`,
+/// where [`linearize`] finds something else, or the limit is reached.
+///
+/// ```
+/// use atomfs::{draw, front, Schedule};
+/// let history = "atomfs-journal 1\nbegin 1 0 mkdir /a\nreturn 1 failed ?\n";
+/// let journal = front(history, None)?.expect("nothing explains it");
+/// assert!(draw(journal, Schedule::Given, None)?.starts_with("<svg "));
+/// # Ok::<(), atomfs::Error>(())
+/// ```
+pub fn front(history: impl AsRef<[u8]>, limit: Option<u64>) -> Result<Option<String>, Error> {
+    let (found, told) = found(history.as_ref(), limit, ffi::TELL_FRONT)?;
+    let is_front = found == ffi::FOUND_NO_ORDER && !told.starts_with(b"none ");
+    Ok(is_front.then(|| ascii(&told)))
+}
+
+/// What came of a history, and what the library tells of it.
+fn found(history: &[u8], limit: Option<u64>, tell: u8) -> Result<(u8, Vec<u8>), Error> {
+    let mut found = 0;
+    let limit = limit.unwrap_or(CONFIGURATIONS);
+    // A journal that explains a history is hardly ever twice as long, so no search is made once more for want of room.
+    let told = told_in(ROOM + 2 * history.len(), |out, room, count| unsafe {
+        ffi::atomfs_linearize(
+            history.as_ptr(),
+            history.len(),
+            limit,
+            tell,
+            out,
+            room,
+            count,
+            &mut found,
+        )
+    })?;
+    Ok((found, told))
+}
+
+/// A number of the library.
+fn number(word: Option<&str>) -> u64 {
+    word.and_then(|word| word.parse().ok()).unwrap_or_default()
+}
