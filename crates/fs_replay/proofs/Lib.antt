@@ -1,0 +1,6 @@
+mod CommitLemmas
+mod ChangeLemmas
+mod TurnLemmas
+mod Reasons
+mod AnswerLemmas
+mod WritingLemmas
