@@ -1,6 +1,7 @@
 -- What a binary search finds among entries whose keys rise.
 use Rattle.std.proofs.Common.{◌≡◌, ℕ, zero, suc, ◌+◌, ◌-◌, ◌<◌, ◌≤◌, Bool, true, false, cond, ◌&&◌, List, [], ◌∷◌, length, drop, get_or, Some, None, Option, Result, Ok, Err, refl, sym, ap, subst, ◌∙◌, arith, T, Ordering, Less, Equal, Greater}
-use Rattle.std.specs.Prelude.{slice_set, insert}
+use Rattle.std.specs.Prelude.{slice_set, insert, nat_eq}
+use Rattle.std.proofs.lemmas.Bool.Decides.{nat_tests}
 use Rattle.std.specs.Ordering.{is_eq, is_lt, ordering_index, ordering_reverse}
 use Rattle.std.specs.List.Sorted.{IsNonDecreasingBy, IsBinarySearchResult, IsSearchInRange}
 use Rattle.std.specs.FinMap.{find, put, is_sorted}
@@ -80,6 +81,16 @@ turned x y o e = key_total.antisymm x y ∙ ap ordering_reverse e
 -- an entry is put by the order of the first one
 put_by : (x : Key) (n : Node) (e : Cell) (es : Tree) (o : Ordering) → key_cmp x e.0 ≡ o → put key_cmp x n (e ∷ es) ≡ by_order o ((x, n) ∷ e ∷ es) ((e.0, n) ∷ es) (e ∷ put key_cmp x n es)
 put_by x n e es o h = ap (λ r. by_order r ((x, n) ∷ e ∷ es) ((e.0, n) ∷ es) (e ∷ put key_cmp x n es)) h
+
+-- what is put among no entries stands alone
+pub put_none : (cell : Cell) (t : Tree) → nat_eq (length t) 0 ≡ true → put key_cmp cell.0 cell.1 t ≡ cell ∷ t
+put_none cell [] h = refl
+put_none cell (l ∷ t) h = absurd (let none : length (l ∷ t) ≡ 0 = grind (arith, nat_tests) in omega arith)
+
+-- what is below the first is put in front of it
+pub put_front : (cell first : Cell) (t : Tree) → 0 < length t → first ≡ get_or t 0 first → key_cmp cell.0 first.0 ≡ Less → put key_cmp cell.0 cell.1 t ≡ cell ∷ t
+put_front cell first [] h here less = absurd (omega arith)
+put_front cell first (l ∷ t) h here less = put_by cell.0 cell.1 l t Less (ap (λ z. key_cmp cell.0 z.0) (sym here) ∙ less)
 
 -- what is not the first is found behind it
 find_later : (x : Key) (e : Cell) (es : Tree) → same_key x e.0 ≡ false → find key_cmp x (e ∷ es) ≡ find key_cmp x es

@@ -1,6 +1,6 @@
 //! The entries after a call without an error.
 
-ghost use Rattle.std.specs.Prelude.{◌≡◌, ◌++◌, ◌∷◌, [], IsTrue, IfOk, OnOk, map, if◌then◌else◌};
+ghost use Rattle.std.specs.Prelude.{◌≡◌, ◌++◌, ◌∷◌, [], IsTrue, true, IfOk, OnOk, map, if◌then◌else◌};
 ghost use Rattle.std.specs.FinMap.{is_sorted, put};
 ghost use Rattle.fs_names.specs.Keys.{key_cmp};
 ghost use Rattle.fs_calls.specs.Tree.{File, from_list, inserted, removed, renamed, exchanged};
@@ -13,7 +13,7 @@ ghost use Rattle.fs_flat.specs.code.Cells.{without_key, moved_cell, swapped_cell
 
 use crate::cell::Cell;
 use crate::keys::{behind, joined, names_of, same_key};
-use crate::searching::search;
+use crate::searching::{is_below, search};
 use crate::seeing::bytes_of;
 use fs_calls::Call;
 use fs_names::{Kind, Name, Path};
@@ -31,11 +31,26 @@ pub(crate) fn copied(alloc: Global, cells: &[Cell]) -> Result<Vec<Cell>, AllocEr
     Ok(copy)
 }
 
-/// Puts an entry among others, whatever stood at its key.
+/// Whether an entry was found to belong in front of others.
+#[tactic(auto, using(crate::proofs::SearchLemmas::put_none, crate::proofs::SearchLemmas::put_front))]
+fn is_first(cell: &Cell, cells: &[Cell]) -> bool
+    ensures { result ≡ true → put key_cmp cell.now.0 cell.now.1 cells.now ≡ cell.now ∷ cells.now }
+{
+    if cells.is_empty() {
+        return true;
+    }
+    is_below(cell, &cells[0])
+}
+
+/// Puts an entry among others, whatever stood at its key. Of entries that come from the last on, most are the first.
 fn put(cells: &mut Vec<Cell>, cell: Cell) -> Result<(), AllocError>
     requires { IsTrue (is_sorted key_cmp cells.old.items) }
     ensures { OnOk result (cells.new.items ≡ put key_cmp cell.0 cell.1 cells.old.items) }
 {
+    if is_first(&cell, cells) {
+        cells.insert(0, cell)?;
+        return Ok(());
+    }
     match search(cells, cell.key()) {
         Ok(place) => {
             cells[place] = cell;

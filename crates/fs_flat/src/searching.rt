@@ -31,7 +31,7 @@ pub(crate) fn find<'a>(cells: &'a [Cell], key: &[Name]) -> Option<&'a Cell>
 }
 
 /// Whether the key of an entry is below that of another.
-fn is_below(cell: &Cell, other: &Cell) -> bool
+pub(crate) fn is_below(cell: &Cell, other: &Cell) -> bool
     ensures { result ≡ true → key_cmp cell.now.0 other.now.0 ≡ Ordering.Less }
 {
     cell.key().cmp(other.key()) == Ordering::Less
