@@ -1,0 +1,45 @@
+-- The first drawn run that has something.
+use Rattle.std.proofs.Common.{◌≡◌, ℕ, ◌+◌, ◌≤◌, ◌<◌, ltb, Bool, true, false, List, refl, subst, arith}
+use Rattle.std.proofs.lemmas.Bool.{ltb-true, ltb-false}
+use Rattle.fs_script.specs.Script.{script_of}
+use Rattle.fs_script.specs.declared.script.Script.{Script}
+use Rattle.fs_sched.specs.Devices.{IsFaultOf}
+use Rattle.fs_sched.specs.Runs.{IsFaultOfRun}
+use Rattle.fs_sched.specs.code.Done.{IsStop}
+use Rattle.fs_sched.specs.declared.schedule.Schedule.TheVariants.{Seeded}
+use Rattle.fs_sched.proofs.Drawn.{never_under_way}
+use Rattle.fs_verdict.specs.declared.fault.RunFault.{RunFault}
+use Rattle.fs_verdict.specs.declared.fault.RunFault.TheVariants as faults
+use Rattle.fs_find.specs.Finds.{RunHas}
+use Rattle.fs_find.specs.declared.what.Clause.{Clause}
+
+-- one run more that has it not
+pub each_more : (script : Script) (what : List Clause) (seed run : ℕ) → ((k : ℕ) → seed ≤ k → k < seed + run → RunHas (Seeded k) script what false) → RunHas (Seeded (seed + run)) script what false
+    → (k : ℕ) → seed ≤ k → k < seed + (run + 1) → RunHas (Seeded k) script what false
+each_more script what seed run each this k low high = go (ltb k (seed + run)) refl
+  where
+    go : (b : Bool) → ltb k (seed + run) ≡ b → RunHas (Seeded k) script what false
+    go true t = each k low (ltb-true _ _ t)
+    go false f = let here : seed + run ≡ k = omega (arith, ltb-false _ _ f, high) in subst (λ (n : ℕ). RunHas (Seeded n) script what false) here this
+
+-- a drawn run stops only for want of memory
+pub only_memory : (n : ℕ) (script : Script) (fault : RunFault) → IsStop (Seeded n) script fault → fault ≡ faults.OutOfMemory
+only_memory n script (faults.Input f) stop = absurd stop
+only_memory n script faults.Read stop = absurd stop
+only_memory n script faults.Write stop = absurd stop
+only_memory n script faults.OutOfMemory stop = refl
+only_memory n script faults.Full stop = absurd stop
+only_memory n script (faults.UnderWay c) stop = absurd (never_under_way n script c stop)
+
+-- the input has no script
+pub of_input : (n : ℕ) (input : List ℕ) (fault : RunFault) → IsFaultOf (script_of input) fault → IsFaultOfRun (Seeded n) input fault
+of_input n input (faults.Input f) is = is
+of_input n input faults.Read is = is
+of_input n input faults.Write is = is
+of_input n input faults.OutOfMemory is = is
+of_input n input faults.Full is = is
+of_input n input (faults.UnderWay c) is = absurd is
+
+-- a drawn run comes to no checkpoint
+pub no_stop : (n : ℕ) (input : List ℕ) (c : ℕ) → IsFaultOfRun (Seeded n) input (faults.UnderWay c) → ⊥
+no_stop n input c (script, is, stop) = never_under_way n script c stop

@@ -1,0 +1,6 @@
+pub mod Lives
+pub mod What
+pub mod Reading
+pub mod Finds
+pub mod Faults
+pub mod code

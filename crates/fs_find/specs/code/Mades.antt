@@ -1,0 +1,12 @@
+-- What is made of the text of a script, before it is written.
+use Rattle.std.specs.Prelude.{ℕ, List, Option, Result, IfOk, IfErr}
+use Rattle.fs_io.specs.declared.shell.Made.{Made}
+use Rattle.fs_find.specs.Finds.{IsSearchOf}
+use Rattle.fs_find.specs.Faults.{IsFaultOfFind}
+use Rattle.fs_find.specs.declared.fault.FindFault.{FindFault}
+use Rattle.fs_find.specs.declared.what.Clause.{Clause}
+
+-- the script with the first run that has what is said; or why there is none
+pub record MakesFound (what : List Clause) (seed runs : ℕ) (input : List ℕ) (result : Result (Made (Option ℕ)) FindFault) : Type 0 where
+  pub found : IfOk result (λ made. IsSearchOf what seed runs input made.end made.text.items)
+  pub fault : IfErr result (IsFaultOfFind what input)

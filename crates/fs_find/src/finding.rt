@@ -1,0 +1,188 @@
+//! The runner that searches drawn runs of a script.
+
+ghost use Rattle.std.specs.Prelude.{◌≡◌, ◌≢◌, ◌+◌, ◌-◌, ◌<◌, ◌≤◌, ◌^◌, ℕ, List, Option, Some, true, Ok, Err, IfOk, OnOk, OnErr, IfErr, IfSome, IsErrOf};
+ghost use Rattle.std.specs.Io.KnownBytes.{Appends, IsAtEnd};
+ghost use Rattle.fs_words.specs.declared.fault.ScriptFault.{ScriptFault};
+ghost use Rattle.fs_script.specs.Script.{script_of};
+ghost use Rattle.fs_script.specs.declared.limits.TheConstants.{CALL_LIMIT};
+ghost use Rattle.fs_sched.specs.Devices.{KeepsDevices, WritesBeginning};
+ghost use Rattle.fs_sched.specs.Runs.{calls_in};
+ghost use Rattle.fs_sched.specs.code.Done.{IsStop};
+ghost use Rattle.fs_trace.specs.Faults.{IsFaultOfSchedule};
+ghost use Rattle.fs_trace.specs.declared.fault.ScheduleFault.TheVariants as schedule;
+ghost use Rattle.fs_find.specs.Finds.{RunHas, IsFound, IsSearchOf, IsWritten, LacksCall};
+ghost use Rattle.fs_find.specs.code.Mades.{MakesFound};
+
+use crate::fault::FindFault;
+use crate::having::has;
+use crate::lives::Lives;
+use crate::what::{Clause, names_calls};
+use fs_io::{Device, Made, Sink, Source, transform};
+use fs_sched::{RunFault, SEED_LIMIT, Schedule, Witness, between, script_in, watch};
+use fs_script::Script;
+use fs_trace::{ScheduleFault, schedule_script};
+use std::alloc::Global;
+
+/// The most drawn runs that are searched.
+pub const SEARCH_LIMIT: u64 = 1_000_000;
+
+/// Whether the run of a script by a schedule has what is said.
+pub(crate) fn run_has(
+    alloc: Global,
+    script: &Script,
+    schedule: Schedule,
+    what: &[Clause],
+) -> Result<bool, RunFault>
+    requires few { calls_in script.now.lists ≤ CALL_LIMIT }
+    ensures has { IfOk result (RunHas schedule script.now what.now) }
+    ensures fault { IfErr result (IsStop schedule script.now) }
+{
+    let mut lives = Lives::new(alloc);
+    let ran = match watch(alloc, script, schedule, &mut lives) {
+        Ok(ran) => ran,
+        Err(fault) => return Err(fault),
+    };
+    match has(alloc, &script.names, &lives, ran.core.store(), what) {
+        Ok(has) => Ok(has),
+        Err(_) => Err(RunFault::OutOfMemory),
+    }
+}
+
+/// The first of so many numbers from which a run is drawn that has what is said.
+fn first_seed<Listener: Witness>(
+    alloc: Global,
+    script: &Script,
+    what: &[Clause],
+    seed: u64,
+    runs: u64,
+    witness: &mut Listener,
+) -> Result<Option<u64>, RunFault>
+    requires few { calls_in script.now.lists ≤ CALL_LIMIT }
+    requires seed { seed ≤ SEED_LIMIT }
+    requires runs { runs ≤ SEARCH_LIMIT }
+    ensures found { IfOk result (IsFound script.now what.now seed runs) }
+    ensures fault { IfErr result (λ fault. fault ≡ RunFault.OutOfMemory) }
+{
+    for run in 0..runs {
+        match run_has(alloc, script, Schedule::Seeded(seed + run), what) {
+            Ok(true) => return Ok(Some(seed + run)),
+            Ok(false) => {}
+            Err(fault) => return Err(fault),
+        }
+        witness.has_run(run + 1, runs);
+    }
+    Ok(None)
+}
+
+/// Why the script with a run as its words was not written, where that was to be made in memory.
+fn unwritten(fault: ScheduleFault) -> ScheduleFault
+    ensures { (input : List ℕ) → IsFaultOfSchedule (Schedule.Seeded 0) input result }
+{
+    match fault {
+        ScheduleFault::TooManyEvents => ScheduleFault::TooManyEvents,
+        ScheduleFault::TooLong => ScheduleFault::TooLong,
+        ScheduleFault::Run(_) => ScheduleFault::Run(RunFault::OutOfMemory),
+    }
+}
+
+/// The text of the script with the run that is drawn from a number as its words.
+fn scheduled(alloc: Global, text: &[u8], seed: u64) -> Result<Vec<u8>, ScheduleFault>
+    ensures written { IfOk result (λ written. IsWritten text.now (Some seed) written.items) }
+    ensures fault { IfErr result (IsFaultOfSchedule (Schedule.Seeded 0) text.now) }
+{
+    let mut reader = Device::new(text);
+    let mut writer = Device::new(Vec::new(alloc));
+    match schedule_script(alloc, &mut reader, &mut writer, Schedule::Seeded(seed)) {
+        Ok(()) => Ok(writer.inner),
+        Err(fault) => Err(unwritten(fault)),
+    }
+}
+
+/// The same with the number found; no text where none is found.
+fn text_of_found(alloc: Global, text: &[u8], found: Option<u64>) -> Result<Vec<u8>, ScheduleFault>
+    ensures written { IfOk result (λ made. IsWritten text.now found made.items) }
+    ensures fault { IfErr result (IsFaultOfSchedule (Schedule.Seeded 0) text.now) }
+{
+    match found {
+        Some(seed) => scheduled(alloc, text, seed),
+        None => Ok(Vec::new(alloc)),
+    }
+}
+
+/// The same of the script that a text has.
+fn found_in<Listener: Witness>(
+    alloc: Global,
+    text: &[u8],
+    what: &[Clause],
+    seed: u64,
+    runs: u64,
+    witness: &mut Listener,
+) -> Result<Made<Option<u64>>, FindFault>
+    requires seed { seed ≤ SEED_LIMIT }
+    requires runs { runs ≤ SEARCH_LIMIT }
+    ensures { MakesFound what.now seed runs text.now result }
+{
+    let script = script_in(alloc, text)?;
+    if !names_calls(&script, what) {
+        return Err(FindFault::NoCall);
+    }
+    let found = first_seed(alloc, &script, what, seed, runs, witness)?;
+    drop(script);
+    match text_of_found(alloc, text, found) {
+        Ok(text) => Ok(Made { text, end: found }),
+        Err(fault) => Err(FindFault::Schedule(fault)),
+    }
+}
+
+/// Reads a script to its end, runs it by the threads that are drawn from a number, the next one, and so on, up to the first
+/// run that has what is said, and writes the script with the events of that as its words, as `schedule_script` does. The answer
+/// is the number from which that run is drawn; where no run has it, none, and nothing is written. Whoever is told of progress
+/// hears of each run.
+pub fn find_seed<R: Source, W: Sink, Listener: Witness>(
+    alloc: Global,
+    reader: &mut R,
+    writer: &mut W,
+    what: &[Clause],
+    seed: u64,
+    runs: u64,
+    witness: &mut Listener,
+) -> Result<Option<u64>, FindFault>
+    requires reads { R.failures reader.old < 2 ^ 64 - 1 }
+    requires writes { W.failures writer.old < 2 ^ 64 - 1 }
+    requires seed { seed ≤ SEED_LIMIT }
+    requires runs { runs ≤ SEARCH_LIMIT }
+
+    // The number is the first whose run has what is said, and what is written is that run's script; or none has it.
+    ensures found { IfOk result (λ found. (text : List ℕ)
+        × IfSome (R.remaining reader.old) (λ input. IsSearchOf what.now seed runs input found text)
+        × Appends (W.contents writer.old) (W.contents writer.new) text) }
+    ensures end { OnOk result (IsAtEnd (R.remaining reader.new)) }
+    ensures input { (f : ScriptFault) → result ≡ Err (FindFault.Schedule (schedule.Run (RunFault.Input f)))
+        → IfSome (R.remaining reader.old) (λ input. script_of input ≡ Err f) }
+    ensures no_call { result ≡ Err FindFault.NoCall → IfSome (R.remaining reader.old) (LacksCall what.now) }
+    ensures full { result ≢ Err (FindFault.Schedule (schedule.Run RunFault.Full)) }
+    ensures under_way { (call : ℕ) → result ≢ Err (FindFault.Schedule (schedule.Run (RunFault.UnderWay call))) }
+
+    // A device is blamed only where it failed in this call; after a failed write a beginning of the text stands, and after every
+    // other error nothing was written.
+    ensures devices { KeepsDevices R.failures W.failures reader.old reader.new writer.old writer.new
+        (FindFault.Schedule (schedule.Run RunFault.Read)) (FindFault.Schedule (schedule.Run RunFault.Write)) result }
+    ensures beginning { IsErrOf result (FindFault.Schedule (schedule.Run RunFault.Write)) → (found : Option ℕ) × (text : List ℕ)
+        × IfSome (R.remaining reader.old) (λ input. IsSearchOf what.now seed runs input found text)
+        × WritesBeginning text (W.contents writer.old) (W.contents writer.new) }
+{
+    let ended = transform(
+        alloc,
+        reader,
+        writer,
+        |text| -> Result<Made<Option<u64>>, FindFault>
+            requires seed { seed ≤ SEED_LIMIT }
+            requires runs { runs ≤ SEARCH_LIMIT }
+            ensures { MakesFound what.entry.now seed runs text.items result }
+        { found_in(alloc, text.as_slice(), what, seed, runs, witness) },
+    );
+    match ended {
+        Ok(found) => Ok(found),
+        Err(failure) => Err(between(failure)),
+    }
+}

@@ -1,0 +1,22 @@
+//! The runners that search runs of a script for what is said of them.
+//!
+//! `find_seed` reads a script and plays drawn runs, from a number on, up to the first that has what `Clause`s say: a reply, a
+//! line of the tree at the end, a helped call, the order of two commits. It writes the script with that run as its words.
+//! `read_what` reads the clauses from words.
+//!
+//! Enter at these two. The definitions are in `specs/`: `Lives` (what a run tells of its calls), `What` (when a run has
+//! something), `Finds` and `Faults`; `Reading` has the words; `docs/FORMATS.md` has these for readers. `specs/code/` ties the code to them, and changes no meaning.
+#![tactic(auto)]
+
+mod copying;
+mod fault;
+mod finding;
+mod having;
+mod lives;
+mod reading;
+pub mod what;
+
+pub use fault::FindFault;
+pub use finding::{SEARCH_LIMIT, find_seed};
+pub use reading::{WhatFault, read_what};
+pub use what::{CallName, Clause, Condition, names_calls};
