@@ -89,9 +89,9 @@ pub record IsBegun (most : Option ℕ) (given : Asked) (seat status number : ℕ
   pub refused : IsRefusal status → Goes (After most (λ a b. (why : NotBegun) × (status ≡ begin_status why) × IsNotBegun a seat given why b)) old new
   pub closed : ToldIfClosed status old new
 
--- a step of some seat by which its call went on, told by two numbers; or no call is under way, and nothing changed
-abbrev pub StepsAny : CoreValue → ℕ → ℕ → ℕ → CoreValue → Type 0
-StepsAny old seat code about new = GoesOnAs old seat code about new ⊎ ((code ≡ code_of Idle) × (about ≡ 0) × IsAtRest old × (state_of new ≡ state_of old))
+-- a step of some seat by which its call went on, told by two numbers; or no call is under way, and nothing changed, nor what stood in the place of the seat
+abbrev pub StepsAny : CoreValue → ℕ → ℕ → ℕ → ℕ → CoreValue → Type 0
+StepsAny old before seat code about new = GoesOnAs old seat code about new ⊎ ((code ≡ code_of Idle) × (about ≡ 0) × (seat ≡ before) × IsAtRest old × (state_of new ≡ state_of old))
 
 -- what came of a call behind a handle: its reply, or the status that says why there is none
 abbrev pub Comes : Option ℕ → Asked → ℕ → Result Reply ℕ → ℕ → Option CoreValue → Option CoreValue → Type 0

@@ -1,6 +1,6 @@
 //! The exports that begin calls and step them, and what runs a call behind a handle.
 
-ghost use Rattle.std.specs.Prelude.{◌≡◌, ◌≤◌, ◌<◌, ◌⊎◌, length};
+ghost use Rattle.std.specs.Prelude.{◌≡◌, ◌≢◌, ◌≤◌, ◌<◌, ◌⊎◌, length};
 ghost use Rattle.fs_embed.specs.Requests.{asked, call_in};
 ghost use Rattle.fs_embed.specs.Numbered.{asked_by};
 ghost use Rattle.fs_embed.specs.Calls.{StepsAs};
@@ -20,6 +20,7 @@ use std::alloc::Global;
 fn begin(alloc: Global, handle: &mut Handle, seat: u64, request: Request, number: &mut u64) -> u8
     ensures begun { IsBegun (to_keep handle.old.most) (asked request.entry) seat result number.new handle.old.held.core handle.new.held.core }
     ensures only { IsOfBegin result }
+    ensures untouched { result ≢ OK → number.new ≡ number.old }
     ensures lawful { IsLawful handle.new.held.core }
     ensures spelled { IsSpelled handle.new.held.core }
     ensures keeps { handle.new.most ≡ handle.old.most }
@@ -50,6 +51,7 @@ pub extern "C" fn atomfs_begin(
 ) -> u8
     ensures begun { IsBegun (to_keep handle.old.most) (call_in line.now) seat result number.new handle.old.held.core handle.new.held.core }
     ensures only { IsOfBegin result }
+    ensures untouched { result ≢ OK → number.new ≡ number.old }
     ensures lawful { IsLawful handle.new.held.core }
     ensures spelled { IsSpelled handle.new.held.core }
     ensures keeps { handle.new.most ≡ handle.old.most }
@@ -73,6 +75,7 @@ pub extern "C" fn atomfs_begin_call(
 ) -> u8
     ensures begun { IsBegun (to_keep handle.old.most) (asked_by call path.now other.now off size bytes.now) seat result number.new handle.old.held.core handle.new.held.core }
     ensures only { IsOfBegin result }
+    ensures untouched { result ≢ OK → number.new ≡ number.old }
     ensures lawful { IsLawful handle.new.held.core }
     ensures spelled { IsSpelled handle.new.held.core }
     ensures keeps { handle.new.most ≡ handle.old.most }
@@ -91,6 +94,7 @@ pub extern "C" fn atomfs_step(
     about: &mut u64,
 ) -> u8
     ensures only { (result ≡ OK) ⊎ (result ≡ CLOSED) ⊎ (result ≡ NO_SEAT) }
+    ensures untouched { result ≢ OK → (did.new ≡ did.old) × (about.new ≡ about.old) }
     ensures stepped { result ≡ OK → Goes (λ old new. StepsAs old seat did.new about.new new) handle.old.held.core handle.new.held.core }
     ensures refused { IsRefusal result → Goes (λ old new. (result ≡ NO_SEAT) × (length old.seats ≤ seat) × (new ≡ old)) handle.old.held.core handle.new.held.core }
     ensures closed { ToldIfClosed result handle.old.held.core handle.new.held.core }
@@ -114,7 +118,7 @@ pub extern "C" fn atomfs_step(
 }
 
 /// Does one step of a call that does not wait, whichever it is, and tells its seat, which answer it was and what it speaks of.
-/// Where no call is under way it tells an idle step. So calls never wait for each other without end.
+/// Where no call is under way it tells an idle step, and no seat. So calls never wait for each other without end.
 #[unsafe(no_mangle)]
 pub extern "C" fn atomfs_step_any(
     alloc: Global,
@@ -124,7 +128,8 @@ pub extern "C" fn atomfs_step_any(
     about: &mut u64,
 ) -> u8
     ensures only { (result ≡ OK) ⊎ (result ≡ CLOSED) }
-    ensures never_stuck { result ≡ OK → Goes (λ old new. StepsAny old seat.new did.new about.new new) handle.old.held.core handle.new.held.core }
+    ensures untouched { result ≢ OK → (seat.new ≡ seat.old) × (did.new ≡ did.old) × (about.new ≡ about.old) }
+    ensures never_stuck { result ≡ OK → Goes (λ old new. StepsAny old seat.old seat.new did.new about.new new) handle.old.held.core handle.new.held.core }
     ensures closed { ToldIfClosed result handle.old.held.core handle.new.held.core }
     ensures lawful { IsLawful handle.new.held.core }
     ensures spelled { IsSpelled handle.new.held.core }

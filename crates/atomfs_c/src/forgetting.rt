@@ -22,6 +22,7 @@ pub extern "C" fn atomfs_verdict(
     kind: &mut u8,
 ) -> u8
     ensures only { (result ≡ OK) ⊎ (result ≡ CLOSED) ⊎ (result ≡ NO_MEMORY) }
+    ensures untouched { result ≢ OK → (place.new ≡ place.old) × (kind.new ≡ kind.old) }
     ensures judged { result ≡ OK → IsSomeAnd handle.old.held.core (λ core. IsToldVerdict (verdict core.start core.timeline) place.new kind.new) }
     ensures same { handle.new.held.core ≡ handle.old.held.core }
     ensures closed { ToldIfClosed result handle.old.held.core handle.new.held.core }

@@ -173,6 +173,7 @@ pub extern "C" fn atomfs_close(alloc: Global, handle: &mut Handle) -> u8
 #[unsafe(no_mangle)]
 pub extern "C" fn atomfs_seat(alloc: Global, handle: &mut Handle, seat: &mut u64) -> u8
     ensures only { (result ≡ OK) ⊎ (result ≡ CLOSED) ⊎ (result ≡ NO_MEMORY) }
+    ensures untouched { result ≢ OK → seat.new ≡ seat.old }
     ensures seated { result ≡ OK → Goes (λ old new. (seat.new ≡ length old.seats) × (new.seats ≡ old.seats ++ None ∷ []) × (state_of new ≡ state_of old) × (new.refusals ≡ old.refusals)) handle.old.held.core handle.new.held.core }
     ensures refused { CLOSED < result → Goes (λ old new. (result ≡ NO_MEMORY) × (new.seats ≡ old.seats) × (state_of new ≡ state_of old) × (new.refusals ≢ old.refusals)) handle.old.held.core handle.new.held.core }
     ensures closed { ToldIfClosed result handle.old.held.core handle.new.held.core }
