@@ -1,6 +1,6 @@
 //! Calls that a caller asks for: their begins, their steps and whole runs of them.
 
-ghost use Rattle.std.specs.Prelude.{◌≡◌, ◌<◌, ◌≤◌, length, IfOk, OnOk, IfErr, IsSome, MatchOption, MatchBool};
+ghost use Rattle.std.specs.Prelude.{◌≡◌, ◌<◌, ◌≤◌, ℕ, length, IfOk, OnOk, IfErr, IfSome, IsSome, MatchOption, MatchBool};
 ghost use Rattle.fs_laws.specs.OneCall.{StepsTo};
 ghost use Rattle.fs_core.specs.CoreValues.{state_of, IsAtRest};
 ghost use Rattle.fs_embed.specs.Requests.{asked};
@@ -168,6 +168,7 @@ fn step_on(core: &mut Core, seat: SeatNo) -> Option<StepTold>
 /// exactly where no call is under way, so calls never wait for each other without end.
 pub fn step_any(core: &mut Core) -> Option<(SeatNo, StepTold)>
     ensures never_stuck { MatchOption result (IsAtRest core.old × (state_of core.new ≡ state_of core.old)) (λ went. GoesOnAs core.old went.0 went.1.code went.1.about core.new) }
+    ensures first { IfSome result (λ went. (seat : ℕ) → seat < went.0 → StandsStill (state_of core.old) seat) }
     ensures seats { length core.new.seats ≡ length core.old.seats }
 {
     core.told_of_progress();
