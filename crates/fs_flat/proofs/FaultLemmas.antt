@@ -1,5 +1,5 @@
 -- The first error of a call, by what was found.
-use Rattle.std.proofs.Common.{◌≡◌, ℕ, Bool, ◌∷◌, Some, None, Option, refl, sym, ap, ◌∙◌}
+use Rattle.std.proofs.Common.{◌≡◌, ℕ, Bool, Some, None, Option, refl, ap, ◌∙◌}
 use Rattle.fs_names.specs.Keys.{Key, parent_of}
 use Rattle.fs_names.specs.Failures.{or_else, first_failure}
 use Rattle.fs_calls.specs.Tree.{Tree}

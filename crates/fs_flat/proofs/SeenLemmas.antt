@@ -1,12 +1,11 @@
 -- What is seen at a key, by the entry that was found there.
-use Rattle.std.proofs.Common.{◌≡◌, ℕ, zero, suc, ◌+◌, ◌<◌, ◌≤◌, Bool, true, false, cond, List, [], ◌∷◌, ◌++◌, length, take, drop, get_or, Some, None, Option, is_some, refl, sym, ap, ◌∙◌, arith, append_assoc, append-nil, length-append}
+use Rattle.std.proofs.Common.{◌≡◌, ℕ, zero, suc, ◌+◌, ◌<◌, ◌≤◌, Bool, true, false, List, [], ◌∷◌, ◌++◌, length, take, drop, get_or, Some, None, Option, refl, sym, ap, ◌∙◌, arith, append_assoc, append-nil, length-append}
 use Rattle.std.specs.Prelude.{nat_le}
 use Rattle.std.specs.FinMap.{find}
 use Rattle.fs_names.specs.Names.{Name}
 use Rattle.fs_names.specs.Shapes as shapes
 use Rattle.fs_names.specs.Keys.{Key, key_cmp}
 use Rattle.fs_names.specs.Failures.{or_else}
-use Rattle.fs_names.specs.declared.kind.Kind.{Kind}
 use Rattle.fs_names.specs.declared.kind.Kind.TheVariants as kinds
 use Rattle.fs_calls.specs.Tree.{Tree, Node, Dir, File, names_in, name_in, with_name}
 use Rattle.fs_calls.specs.Sights.{tree_shapes, shape_of, has_any, bytes_of, is_full, resolve, resolve_next, resolve_dir}

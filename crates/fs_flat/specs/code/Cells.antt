@@ -1,5 +1,5 @@
 -- Entries whose keys rise, and what is found among them.
-use Rattle.std.specs.Prelude.{◌≡◌, ℕ, ◌<◌, ◌≤◌, List, [], ◌∷◌, not, ◌+◌, ◌++◌, length, take, drop, slice_index_or, slice_set, insert, Option, Some, None, Result, Ok, Err}
+use Rattle.std.specs.Prelude.{◌≡◌, ℕ, ◌<◌, ◌≤◌, List, [], not, ◌+◌, ◌++◌, length, take, drop, slice_index_or, slice_set, insert, Option, Some, None, Result, Ok, Err}
 use Rattle.std.specs.FinMap.{find, put}
 use Rattle.std.specs.FinMap.Entries.{where_key}
 use Rattle.fs_names.specs.Keys.{Key, key_cmp, same_key}
