@@ -1,7 +1,7 @@
 -- What the command line asks for.
 use Rattle.std.specs.Prelude.{ℕ, ◌≤◌, List, codes}
 use Rattle.fs_sched.specs.declared.seeding.TheConstants.{SEED_LIMIT, RUN_LIMIT}
-use Rattle.fs_command.specs.declared.cli.TheConstants.{CONFIGURATION_LIMIT}
+use Rattle.fs_recorded.specs.declared.linearizing.TheConstants.{CONFIGURATION_LIMIT}
 use Rattle.fs_command.specs.declared.cli.Subcommand.{Subcommand}
 use Rattle.fs_command.specs.declared.cli.Subcommand.TheVariants.{Run, Seeds, Threads, Check, Linearize, Trace, Draw, Schedule, Explain}
 

@@ -9,6 +9,7 @@ ghost use Rattle.fs_explain.specs.Topics.{word_of};
 use clap::error::ErrorKind;
 use clap::{Arg, ArgAction, ArgMatches, Command, Error, value_parser};
 use fs_explain::{Topic, WORDS, topic_of};
+use fs_recorded::CONFIGURATION_LIMIT;
 use fs_sched::{RUN_LIMIT, SEED_LIMIT, Schedule};
 use std::alloc::Global;
 use std::convert::AsStr;
@@ -16,10 +17,7 @@ use std::convert::AsStr;
 /// The version of the program.
 pub const VERSION: &str = "0.3.0";
 
-/// The most configurations that `linearize` makes.
-pub const CONFIGURATION_LIMIT: u64 = 1_000_000_000;
-
-/// How many it makes where no limit is given.
+/// How many configurations `linearize` makes where no limit is given.
 pub const CONFIGURATIONS: u64 = 10_000_000;
 
 /// What is written of histories.
