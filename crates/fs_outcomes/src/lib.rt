@@ -1,0 +1,27 @@
+//! What can happen: the ends of drawn runs, each once, and how often it came.
+//!
+//! `run_outcomes` reads a script to its end, runs it by the schedules that are drawn from a number, the next one, and so on,
+//! and writes a line for each different end, the most frequent first. An end is what each call replied and the tree, whole. The
+//! whole text is made before its first byte is written, and `Read` or `Write` is answered only if the reader or the writer failed
+//! during this call.
+//!
+//! `add_outcomes` adds up lines that were written of pieces of a range.
+//!
+//! The definitions are in `specs/`: `Ends` (what the end of a run is), `Sums` (rows that add up others), `Outcomes` (the rows of
+//! drawn runs), `Lines` (how rows are written), `Added`.
+#![tactic(auto)]
+
+mod adding;
+mod ends;
+mod heard;
+mod lines;
+mod places;
+mod rows;
+mod running;
+
+pub use adding::add_outcomes;
+pub use ends::End;
+pub use lines::Form;
+pub use places::Place;
+pub use rows::Row;
+pub use running::{OUTCOME_LIMIT, run_outcomes};
