@@ -10,6 +10,7 @@ import functools
 import os
 import pathlib
 import re
+import shlex
 import shutil
 import subprocess
 import sys
@@ -97,7 +98,7 @@ def number(text):
 FILLED = {
     **{"PATH": ("/a", "/b"), "NUMBER": ("1", "2"), "HEX": ("6869",), "ERRNO": ("ENOENT",)},
     **{"p": ("/a",), "q": ("/b",), "offset": ("1",), "count": ("2",), "bytes": ("6869",), "size": ("1",)},
-    **{"N": ("7",), "K": ("3",), "KIND": ("TrailingSlash",)},
+    **{"N": ("7",), "K": ("3",), "KIND": ("TrailingSlash",), "WHAT": ("'not helped m#3'",)},
 }
 
 
@@ -488,6 +489,9 @@ class Commands(Page):
             "run --robin": robin,
             "run --seed 7": drawn,
             "seeds --seed 7 --runs 3": b"seed 7 lawful\nseed 8 lawful\nseed 9 lawful\n",
+            "outcomes --seed 7 --runs 3": b"3 seed 7 tree 84901e4addb59faf\n",
+            "find --where 'not helped m#3' --seed 7 --runs 3": run(HELPED.with_suffix(".script").read_bytes(), "schedule", "--seed", "7").output,
+            "tree": text[text.index(b"tree\n") :].rpartition(b"begun ")[0],
             "threads": b"lawful calls 4\n",
             "check": b"lawful\n",
             "linearize": text.partition(b"tree\n")[0],
@@ -516,7 +520,8 @@ class Commands(Page):
         self.agrees("the commands of README", sorted(named), sorted({words.split(" ")[0] for words in shown if words[0] != "-"} - {"help"}))
 
     def look(self, words):
-        self.same(f"atomfs {words}", run(example_for(words), *words.split(" ")), Outcome(0, self.due().get(words, b"no such command")))
+        said = b"atomfs: seed 7\n" if words.startswith("find ") else b""
+        self.same(f"atomfs {words}", run(example_for(words), *shlex.split(words)), Outcome(0, self.due().get(words, b"no such command"), said))
 
     def test_of_examples(self):
         """What examples/README.md says that each command prints."""
@@ -1041,7 +1046,7 @@ class Listed(Page):
         said = re.search(r"^Messages go to .*", FORMATS.read_text(), re.M)[0]
         statuses = re.findall(r"^  (\d)  ", (DATA / "help" / "atomfs").read_text(), re.M)
         self.agrees("the statuses", re.findall(r"\b(\d): ", said), [status for status in statuses if status != "0"])
-        sources = "".join(source(f"{crate}/src/fault.rt") for crate in ("fs_verdict", "fs_threads", "fs_trace", "fs_draw"))
+        sources = "".join(source(f"{crate}/src/fault.rt") for crate in ("fs_verdict", "fs_threads", "fs_trace", "fs_find", "fs_draw"))
         messages = [re.sub(r"\{\w*\}", "N", message) for message in re.findall(r'#\[error\("([^"]*\w \w[^"]*|full)"', sources)]
         self.agrees("the messages", sorted(set(spans(said)) - {"atomfs: ", "line N: KIND"}), sorted(messages))
 
@@ -1087,6 +1092,7 @@ class Numbers(Sentences):
             f"then at most {scripts['THREAD_NAME_LIMIT'] - 1} of `a` to `z`",
             f"or {draws['DRAW_LIMIT']:,} are drawn",
             f"N from 0 to {seeds['SEED_LIMIT']:,}, K from 1 to {seeds['RUN_LIMIT']:,}",
+            f"of such runs, K from 1 to {constants('fs_outcomes/src/running.rt')['OUTCOME_LIMIT']:,}",
             f"at most {2**64 - 1:,} | `BadNumber`",
         )
         self.each(((sentence, FORMATS, sentence) for sentence in sentences), self.says)

@@ -232,7 +232,7 @@ class Seeds(Many):
         self.same("how often it is told", came.message.decode().count(message), 1)
 
     def test_help(self):
-        for command in ("seeds", "histories"):
+        for command in ("seeds", "outcomes", "histories"):
             came = self.came(command, "--help")
             self.same(f"{command} --help", (came.status, came.output.split(b" [HOSTS] SCRIPT")[0].split(b" HOSTS")[0], came.message), (0, f"usage: examples/many/{command}".encode(), b""))
 
@@ -266,6 +266,35 @@ class Histories(Many):
     def test_refused(self):
         came = self.came("histories", ":", "first", "none")
         self.same("a file that is not there", came, Outcome(2, b"", b"examples/many/histories: cannot read none: No such file or directory\n"))
+
+
+class Outcomes(Many):
+    """`outcomes` on the cores of this machine."""
+
+    def counted(self, first, last, program=None):
+        """It writes what one run of the program over all seeds writes."""
+        words = (self.program, "outcomes", "--seed", str(first), "--runs", str(last - first + 1))
+        done = subprocess.run(words, input=SCRIPT.read_bytes(), capture_output=True, timeout=harness.MOST_SECONDS)
+        came = self.came("outcomes", SCRIPT, str(first), str(last), program=program)
+        self.same(f"{first} to {last}", came, Outcome(done.returncode, done.stdout, done.stderr))
+
+    def test_as_one(self):
+        self.each((("cut", 1, 70), ("one seed", 7, 7), ("the greatest", GREATEST - 2, GREATEST)), self.counted)
+
+    def test_killed(self):
+        """A piece that is killed half-way is done again, and counts once."""
+        self.counted(1, 4, written(self.folder / "killed", KILLED.format(folder=self.folder, program=self.program)))
+        self.same("whether one was killed", (self.folder / "second").exists(), True)
+
+    def test_refused(self):
+        (self.folder / "wrong").write_text("atomfs 1\nmkdir /a\n")
+        came = self.came("outcomes", "wrong", "1", "100")
+        self.same("a fault of the script", came, Outcome(3, b"", b"atomfs: line 2: BadLine\n"))
+
+    def test_limits(self):
+        """The numbers of the program that `outcomes` has."""
+        (shown,) = re.findall(r"^SEED_LIMIT, RUN_LIMIT = (\S+), (\S+)$", (MANY / "outcomes").read_text(), re.M)
+        self.same("its limits", [int(number) for number in shown], [GREATEST, constants("fs_outcomes/src/running.rt")["OUTCOME_LIMIT"]])
 
 
 class OnHosts(Many):

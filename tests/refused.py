@@ -18,6 +18,7 @@ import urllib.parse
 import harness
 import atomfs
 import model
+import outcomes
 from atomfs import Did, Status
 from harness import Case, Outcome
 
@@ -35,6 +36,12 @@ def setUpModule():
 
 def stored(name):
     return (RUNS / name).read_bytes()
+
+
+def ends_of(name):
+    """The line of the end of a stored run that is drawn from 7."""
+    end = outcomes.end_of(stored(f"{name}.drawn.text"), stored(f"{name}.script"))
+    return outcomes.lines(outcomes.table([(7, end)]), every=True)
 
 
 class Preloaded(Case):
@@ -89,6 +96,7 @@ class Program(Preloaded):
             ("from", f"run --from {STARTS}/moved.tree", "../../starts/moved.script", stored("../../starts/moved.text")),
             ("from a journal", f"run --from {STARTS}/moved.text", "../../starts/moved.script", stored("../../starts/moved.text")),
             ("seeds", "seeds --seed 7 --runs 3", "helped_rename.script", b"seed 7 lawful\nseed 8 lawful\nseed 9 lawful\n"),
+            ("outcomes", "outcomes --seed 7 --runs 1 --all", "helped_rename.script", ends_of("helped_rename")),
             ("check", "check", "errors_of_each_call.text", b"lawful\n"),
             ("threads", "threads", "errors_of_each_call.script", b"lawful calls 57\n"),
             ("explain", "explain Nul", "errors_of_each_call.script", b"Nul: a path has a byte zero\n\nIn a script, for    stat /a%00\nwrite               stat /a%2500\nbecause             no name has a byte zero, and `%25` is a `%`\n"),

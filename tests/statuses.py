@@ -34,7 +34,7 @@ begun 2 committed 2 returned 1
 NO_CALL_BEGUN = b"atomfs-journal 1\ntree\ndir /\nbegun 0 committed 0 returned 0\n"
 WRONG = b"atomfs-journal 1\nbegin 1 0 mkdir /a\ncommit 1\nreturn 1 failed EEXIST\n"
 SLASH = b"atomfs 1\nthread t\nmkdir /a/\nschedule\n"
-COMMANDS = (("run",), ("run", "--robin"), ("run", "--seed", "1"), ("seeds", "--seed", "1", "--runs", "2"), ("threads",), ("check",), ("trace",), ("draw",), ("schedule", "--robin"))
+COMMANDS = (("run",), ("run", "--robin"), ("run", "--seed", "1"), ("seeds", "--seed", "1", "--runs", "2"), ("outcomes", "--seed", "1", "--runs", "2"), ("tree",), ("threads",), ("check",), ("trace",), ("draw",), ("schedule", "--robin"))
 # What `atomfs explain` knows. tests/documents.py looks at each.
 KINDS = re.search(r"possible values: (.*)\]", (HELP / "explain").read_text())[1].split(", ")
 NOT_UTF_8 = Outcome(2, b"", b"atomfs: an argument is not UTF-8\n")
@@ -94,6 +94,10 @@ class Words(Case):
             ("seeds --runs 1 --seed 0", of(HELPED), lawful(0, 1)),
             ("seeds --seed 9223372036854775807 --runs 2", of(HELPED), lawful(9_223_372_036_854_775_807, 2)),
             ("seeds --seed 1 --runs 10000", EMPTY, lawful(1, 10_000)),
+            ("tree", of(HELPED), Outcome(0, b"tree\n" + of(HELPED, "text").partition(b"\ntree\n")[2].rpartition(b"begun ")[0])),
+            ("tree --seed=7 --at=0", of(ONE_CALL), Outcome(0, b"tree\ndir /\n")),
+            ("tree --robin --before t#1", of(ONE_CALL), Outcome(0, b"tree\ndir /\n")),
+            ("tree --who /a", of(ONE_CALL), Outcome(0, b"commit 1 call 1 t#1 mkdir /a\n")),
             ("threads", of(HELPED), Outcome(0, b"lawful calls 4\n")),
             ("check", of(HELPED, "text"), Outcome(0, b"lawful\n")),
             ("trace", of(HELPED), Outcome(0, (DATA / "traces" / "helped_mkdir.trace").read_bytes())),
@@ -137,12 +141,15 @@ class Words(Case):
             ("a journal of another version is drawn", "draw", b"atomfs-journal 4\n", malformed("line 1: BadHeader")),
             ("a call that no journal has", "draw --around 5", of(HELPED, "text"), Outcome(2, b"", b"atomfs: there is no call 5\n")),
             ("a slash too many on threads", "threads", SLASH, malformed("line 3: BadPath TrailingSlash")),
+            ("ends of a journal", "outcomes --seed 0 --runs 1", of(HELPED, "text"), malformed("line 1: BadHeader")),
+            ("a script is added up", "outcomes --add", of(HELPED), malformed("line 1: BadLine")),
             ("no schedule in drawn runs", "seeds --seed 0 --runs 1", b"atomfs 1\nthread t\nstat /\n", malformed("line 4: NoSchedule")),
         ))
 
     def test_usage(self):
         """The words are `clap`'s. Nothing is run, though the input is a script."""
         program, of_run, of_seeds, of_explain = "<COMMAND>", "run [OPTIONS] < FILE", "seeds --seed <N> --runs <K> < FILE", "explain <KIND> [KIND]"
+        of_outcomes = "outcomes <--seed <N> --runs <K>|--add> [OPTIONS] < FILE"
         missing = "the following required arguments were not provided:"
         self.all_end((words, words, of(ONE_CALL), wanted) for words, wanted in (
             ("", misused(f"no command is given\n\nTry first a script of one call:\n  {ONE_CALL_PASTED}", program)),
@@ -173,8 +180,20 @@ class Words(Case):
             ("seeds --seed 9223372036854775808 --runs 1", unread(2**63, "--seed <N>", f"{2**63} is not in 0..={2**63 - 1}")),
             ("seeds --seed 7 --runs 0", unread(0, "--runs <K>", "0 is not in 1..=10000")),
             ("seeds --seed 7 --runs 10001", unread(10_001, "--runs <K>", "10001 is not in 1..=10000")),
+            ("find", misused(f"{missing}\n  --where <WHAT>\n  --seed <N>\n  --runs <K>", "find --where <WHAT> --seed <N> --runs <K> < FILE")),
+            ("find --where 'tree dir /' --seed 7 --runs 0", unread(0, "--runs <K>", "0 is not in 1..=1000000")),
+            ("find --where 'tree dir /' --seed 7 --runs 1000001", unread(1_000_001, "--runs <K>", "1000001 is not in 1..=1000000")),
+            ("tree --at x", unread("x", "--at <N>", "invalid digit found in string")),
+            ("tree --at 1 --before a#1", misused("the argument '--at <N>' cannot be used with '--before <CALL>'", "tree [OPTIONS] < FILE")),
+            ("tree --who / --before a#1", misused("the argument '--before <CALL>' cannot be used with '--who <PATH>'", "tree [OPTIONS] < FILE")),
             ("threads --seed 1", misused("unexpected argument '--seed' found", "threads < FILE")),
             ("check now", misused("unexpected argument 'now' found", "check < FILE")),
+            ("outcomes", misused(f"{missing}\n  --seed <N>\n  --runs <K>", of_outcomes)),
+            ("outcomes --seed 1", misused(f"{missing}\n  --runs <K>", of_outcomes)),
+            ("outcomes --seed 1 --runs 0", unread(0, "--runs <K>", "0 is not in 1..=1000000")),
+            ("outcomes --seed 1 --runs 1000001", unread(1_000_001, "--runs <K>", "1000001 is not in 1..=1000000")),
+            ("outcomes --add --runs 1", misused("the argument '--add' cannot be used with '--runs <K>'", of_outcomes)),
+            ("outcomes --add --trees", misused("the argument '--add' cannot be used with '--trees'", of_outcomes)),
             ("linearize --front --many", misused("the argument '--front' cannot be used with '--many'", "linearize [OPTIONS] < FILE")),
             ("linearize --many --many", misused("the argument '--many' cannot be used multiple times", "linearize [OPTIONS] < FILE")),
             ("linearize --limit 0", unread(0, "--limit <N>", "0 is not in 1..=1000000000")),
@@ -193,7 +212,7 @@ class Words(Case):
 
     def test_help(self):
         rows = [(words, "atomfs") for words in ("help", "--help", "-h")]
-        rows += [(words, name) for name in ("run", "seeds", "threads", "check", "linearize", "trace", "draw", "schedule", "explain") for words in (f"help {name}", f"{name} --help", f"{name} -h")]
+        rows += [(words, name) for name in ("run", "seeds", "outcomes", "find", "tree", "threads", "check", "linearize", "trace", "draw", "schedule", "explain") for words in (f"help {name}", f"{name} --help", f"{name} -h")]
         self.all_end((words, words, b"", Outcome(0, (HELP / name).read_bytes())) for words, name in rows)
 
     def pasted(self, line):
@@ -209,7 +228,8 @@ class Words(Case):
         line = (HELP / name).read_text().splitlines()[-1]
         words, given = self.pasted(line)
         came = run(given, *shlex.split(words)[1:])
-        self.same(line, (came.status, came.message), (0, b""))
+        # A search tells the seed that it found.
+        self.same(line, (came.status, re.sub(rb"^atomfs: seed \d+\n$", b"", came.message)), (0, b""))
 
     def test_examples_of_the_help(self):
         self.each(((path.name, path.name) for path in sorted(HELP.iterdir())), self.do_the_example)
@@ -267,6 +287,7 @@ class Process(Case):
             ("a run with calls left", ("run",), of(CUT), 5),
             ("a journal that is not lawful", ("check",), WRONG, 5),
             ("a trace", ("trace",), of(ONE_CALL), 5),
+            ("a tree of commits", ("tree",), of(ONE_CALL), 5),
             ("a picture", ("draw",), of(ONE_CALL), 5),
             ("what a fault means", ("explain", "Dot"), b"", 5),
         ), self.unheard)

@@ -14,6 +14,7 @@ import subprocess
 import sys
 import tempfile
 import threading
+import time
 
 ROOT = pathlib.Path(__file__).resolve().parent.parent.parent
 PROGRAM = pathlib.Path(os.environ.get("ATOMFS", ROOT / "crates" / "atomfs" / "out" / "atomfs")).absolute()
@@ -38,6 +39,32 @@ def bytes_of(path, most=-1):
             return file.read(most)
     except OSError as error:
         return fail(f"cannot read {path}: {error.strerror}")
+
+
+def seed_of(word, most):
+    if word.isascii() and word.isdigit() and int(word) <= most:
+        return int(word)
+    return fail(f"{word} is no seed: 0 to {most}")
+
+
+def range_of(first, last, most):
+    """The seeds from one word to another."""
+    first, last = seed_of(first, most), seed_of(last, most)
+    if last < first:
+        fail(f"{last} is less than {first}")
+    return first, last
+
+
+def seconds_of(folder, script, *words):
+    """How long the first run takes. What is wrong with a script is told here, once, before any host is asked."""
+    start = time.monotonic()
+    try:
+        status = subprocess.run((folder / "atomfs", *words), input=script, stdout=subprocess.DEVNULL).returncode
+    except OSError as error:
+        fail(f"cannot run {PROGRAM}: {error.strerror}")
+    if status not in (0, 1):
+        sys.exit(abs(status))
+    return time.monotonic() - start
 
 
 def hosts_of(word):

@@ -1,25 +1,31 @@
 //! The program `atomfs`. `atomfs run` runs the script on standard input, from the tree in a file if one is named, `atomfs seeds`
-//! runs it by drawn schedules, `atomfs threads` runs its threads on real ones, `atomfs check` reads a journal there, and
-//! `atomfs linearize` a history; each writes what came of it.
-//! `atomfs explain` writes what the words of a message mean.
+//! runs it by drawn schedules, `atomfs outcomes` counts how these end, `atomfs find` searches them, `atomfs threads` runs its
+//! threads on real ones, `atomfs check` reads a journal there, `atomfs tree` a journal or a script, and `atomfs linearize` a
+//! history; each writes what came of it. `atomfs explain` writes what the words of a message mean.
 //!
 //! `fs_command` reads the command line and has the exit statuses. Each part is proved to mean what its clauses say. The
 //! program from its arguments to its status, and the words of the messages, are tested.
 #![tactic(auto)]
 
-ghost use Rattle.std.specs.Prelude.{◌-◌, ◌<◌, ◌^◌};
+ghost use Rattle.std.specs.Prelude.{◌-◌, ◌<◌, ◌≤◌, ◌^◌};
 ghost use Rattle.fs_command.specs.Commands.{IsWithin};
+ghost use Rattle.fs_sched.specs.declared.seeding.TheConstants.{SEED_LIMIT};
+ghost use Rattle.fs_find.specs.declared.finding.TheConstants.{SEARCH_LIMIT};
 
 #[cfg(test)]
 mod tests;
 
 use fs_command::{
     Histories, Line, SharedLine, Subcommand, Topic, explanation, parse, report, report_check,
-    report_draw, report_file, report_from, report_linearize, report_many, report_schedule,
-    status_of_run, status_of_unreadable_args, status_of_usage, status_of_verdict,
+    report_draw, report_file, report_find, report_from, report_linearize, report_many,
+    report_schedule, report_tree, report_words, status_of_run, status_of_unreadable_args,
+    status_of_usage, status_of_verdict,
 };
 use fs_draw::{DrawFault, draw_input};
+use fs_find::{Clause, FindFault, find_seed, read_what};
+use fs_outcomes::{Form, add_outcomes, run_outcomes};
 use fs_recorded::{linearize_history, linearize_many};
+use fs_replay::{Asked, ReplayFault, Replayed, read_question, replay_input};
 use fs_sched::{
     Device, RunFault, Schedule, Silent, Sink, Source, Witness, check_journal, run_script,
     run_seeds, write_text,
@@ -88,6 +94,23 @@ fn seeds<R: Source, W: Sink, P: Witness>(
 {
     match run_seeds(alloc, reader, writer, seed, runs, progress) {
         Ok(lawful) => Ok(status_of_verdict(lawful)),
+        Err(fault) => Err(fault),
+    }
+}
+
+/// Answers what is asked of the trees of a journal, or of a script's run. The words are read before the input.
+fn tree<R: Source, W: Sink>(
+    alloc: Global,
+    reader: &mut R,
+    writer: &mut W,
+    schedule: Schedule,
+    asked: Asked<'_>,
+) -> Result<Replayed, ReplayFault>
+    requires reads { R.failures reader.old < 2 ^ 64 - 1 }
+    requires writes { W.failures writer.old < 2 ^ 64 - 1 }
+{
+    match read_question(alloc, asked) {
+        Ok(question) => replay_input(alloc, reader, writer, schedule, &question),
         Err(fault) => Err(fault),
     }
 }
@@ -272,6 +295,122 @@ fn seeds_shown<C: Clock, R: Source, W: Sink>(
     outcome
 }
 
+/// Counts the ends of drawn runs of a script, and answers the status.
+fn outcomes<R: Source, W: Sink, P: Witness>(
+    alloc: Global,
+    reader: &mut R,
+    writer: &mut W,
+    numbers: (u64, u64),
+    form: Form,
+    progress: &mut P,
+) -> Result<u8, RunFault>
+    requires reads { R.failures reader.old < 2 ^ 64 - 1 }
+    requires writes { W.failures writer.old < 2 ^ 64 - 1 }
+    requires within { IsWithin (Subcommand.Outcomes numbers.0 numbers.1 form) }
+{
+    let (first, runs) = numbers;
+    match run_outcomes(alloc, reader, writer, first, runs, form, progress) {
+        Ok(()) => Ok(0),
+        Err(fault) => Err(fault),
+    }
+}
+
+/// The same, and tells on a terminal how far the runs are.
+fn outcomes_shown<C: Clock, R: Source, W: Sink>(
+    clock: &C,
+    alloc: Global,
+    reader: &mut R,
+    writer: &mut W,
+    numbers: (u64, u64),
+    form: Form,
+    terminal: Option<Stderr>,
+) -> Result<u8, RunFault>
+    requires reads { R.failures reader.old < 2 ^ 64 - 1 }
+    requires writes { W.failures writer.old < 2 ^ 64 - 1 }
+    requires within { IsWithin (Subcommand.Outcomes numbers.0 numbers.1 form) }
+{
+    let Some(errors) = terminal else {
+        return outcomes(alloc, reader, writer, numbers, form, &mut Silent);
+    };
+    let mut line = Line::new(alloc, clock, errors);
+    let outcome = outcomes(alloc, reader, writer, numbers, form, &mut line);
+    line.end();
+    outcome
+}
+
+/// Adds up lines of ends, and answers the status.
+fn added_outcomes<R: Source, W: Sink>(
+    alloc: Global,
+    reader: &mut R,
+    writer: &mut W,
+    form: Form,
+) -> Result<u8, RunFault>
+    requires reads { R.failures reader.old < 2 ^ 64 - 1 }
+    requires writes { W.failures writer.old < 2 ^ 64 - 1 }
+{
+    match add_outcomes(alloc, reader, writer, form) {
+        Ok(()) => Ok(0),
+        Err(fault) => Err(fault),
+    }
+}
+
+/// Searches drawn runs of a script, and tells on a terminal how far they are.
+fn find_shown<C: Clock, R: Source, W: Sink>(
+    clock: &C,
+    alloc: Global,
+    reader: &mut R,
+    writer: &mut W,
+    what: &[Clause],
+    numbers: (u64, u64),
+    terminal: Option<Stderr>,
+) -> Result<Option<u64>, FindFault>
+    requires reads { R.failures reader.old < 2 ^ 64 - 1 }
+    requires writes { W.failures writer.old < 2 ^ 64 - 1 }
+    requires seed { numbers.0 ≤ SEED_LIMIT }
+    requires runs { numbers.1 ≤ SEARCH_LIMIT }
+{
+    let (first, runs) = numbers;
+    let Some(errors) = terminal else {
+        return find_seed(alloc, reader, writer, what, first, runs, &mut Silent);
+    };
+    let mut line = Line::new(alloc, clock, errors);
+    let outcome = find_seed(alloc, reader, writer, what, first, runs, &mut line);
+    line.end();
+    outcome
+}
+
+/// Searches drawn runs of a script for what a text says, which is read first, and answers the exit status.
+fn find<C: Clock, R: Source, W: Sink, E: Write>(
+    clock: &C,
+    alloc: Global,
+    what: &str,
+    numbers: (u64, u64),
+    reader: &mut R,
+    writer: &mut W,
+    errors: &mut E,
+    terminal: Option<Stderr>,
+) -> u8
+    requires reads { R.failures reader.old < 2 ^ 64 - 1 }
+    requires writes { W.failures writer.old < 2 ^ 64 - 1 }
+    requires seed { numbers.0 ≤ SEED_LIMIT }
+    requires runs { numbers.1 ≤ SEARCH_LIMIT }
+{
+    let what = match read_what(alloc, what.as_bytes()) {
+        Ok(what) => what,
+        Err(fault) => return report_words(errors, fault),
+    };
+    let outcome = find_shown(
+        clock,
+        alloc,
+        reader,
+        writer,
+        what.as_slice(),
+        numbers,
+        terminal,
+    );
+    report_find(errors, numbers.0, numbers.1, outcome)
+}
+
 /// Runs the threads of a script on real ones, and tells on a terminal how far they are.
 fn threads_shown<T: Threads + Wait + Clock + Sync, R: Source, W: Sink>(
     rt: &T,
@@ -314,6 +453,25 @@ fn perform<T: Threads + Wait + Clock + Files + Sync, R: Source, W: Sink, E: Writ
         }
         Subcommand::Seeds(first, runs) => {
             seeds_shown(rt, alloc, reader, writer, (*first, *runs), terminal)
+        }
+        Subcommand::Outcomes(first, runs, form) => {
+            outcomes_shown(rt, alloc, reader, writer, (*first, *runs), *form, terminal)
+        }
+        Subcommand::AddedOutcomes(form) => added_outcomes(alloc, reader, writer, *form),
+        Subcommand::Find(what, first, runs) => {
+            return find(
+                rt,
+                alloc,
+                what,
+                (*first, *runs),
+                reader,
+                writer,
+                errors,
+                terminal,
+            );
+        }
+        Subcommand::Tree(order, asked) => {
+            return report_tree(errors, tree(alloc, reader, writer, *order, *asked));
         }
         Subcommand::Check => return report_check(errors, check_journal(alloc, reader, writer)),
         Subcommand::Linearize(Histories::Many, limit) => {

@@ -1,6 +1,6 @@
 -- The exit statuses.
 use Rattle.std.specs.List.{list_any}
-use Rattle.std.specs.Prelude.{ℕ, List, Bool, ◌==◌, if◌then◌else◌, Result, Ok, Err}
+use Rattle.std.specs.Prelude.{ℕ, List, Bool, ◌==◌, if◌then◌else◌, Result, Ok, Err, Option, Some, None}
 use Rattle.fs_sched.specs.declared.running.RunEnd.{RunEnd}
 use Rattle.fs_sched.specs.Faults.{status_of_fault}
 use Rattle.fs_verdict.specs.declared.checking.Checked.{Checked}
@@ -9,12 +9,19 @@ use Rattle.fs_recorded.specs.declared.answer.Linearized.{Linearized}
 use Rattle.fs_recorded.specs.declared.answer.Outcome.{Outcome}
 use Rattle.fs_recorded.specs.declared.answer.Outcome.TheVariants as outcome
 use Rattle.fs_recorded.specs.declared.many.Histories.{Histories}
+use Rattle.fs_replay.specs.Faults.{status_of_replay}
+use Rattle.fs_replay.specs.declared.fault.ReplayFault.{ReplayFault}
+use Rattle.fs_replay.specs.declared.running.Replayed.{Replayed}
 use Rattle.fs_threads.specs.declared.fault.ThreadsFault.{ThreadsFault}
 use Rattle.fs_threads.specs.declared.fault.ThreadsFault.TheVariants.{Run, Lists}
 use Rattle.fs_draw.specs.Faults.{status_of_draw}
 use Rattle.fs_draw.specs.declared.fault.DrawFault.{DrawFault}
 use Rattle.fs_start.specs.Faults.{status_of_start}
 use Rattle.fs_start.specs.declared.fault.StartFault.{StartFault}
+use Rattle.fs_find.specs.Faults.{status_of_find}
+use Rattle.fs_find.specs.declared.fault.FindFault.{FindFault}
+use Rattle.fs_find.specs.declared.reading.WhatFault.{WhatFault}
+use Rattle.fs_find.specs.declared.reading.WhatFault.TheVariants as words
 use Rattle.fs_trace.specs.Faults.{status_of_schedule}
 use Rattle.fs_trace.specs.declared.fault.ScheduleFault.{ScheduleFault}
 
@@ -66,10 +73,26 @@ abbrev pub status_of_scheduled : Result ℕ ScheduleFault → ℕ
 status_of_scheduled (Ok status) = status
 status_of_scheduled (Err fault) = status_of_schedule fault
 
+-- success where a run was found, 1 where none was
+abbrev pub status_of_found : Result (Option ℕ) FindFault → ℕ
+status_of_found (Ok (Some seed)) = 0
+status_of_found (Ok None) = 1
+status_of_found (Err fault) = status_of_find fault
+
+-- words that say nothing of a run are a usage error
+abbrev pub status_of_words : WhatFault → ℕ
+status_of_words words.OutOfMemory = 4
+status_of_words f = 2
+
 -- the same of a picture
 abbrev pub status_of_drawn : Result ℕ DrawFault → ℕ
 status_of_drawn (Ok status) = status
 status_of_drawn (Err fault) = status_of_draw fault
+
+-- the same of what was asked of trees: 1 where it was not found, or a journal is not lawful
+abbrev pub status_of_replayed : Result Replayed ReplayFault → ℕ
+status_of_replayed (Ok replayed) = status_of_verdict replayed.well
+status_of_replayed (Err fault) = status_of_replay fault
 
 -- success where every call of the script returned, else 1
 abbrev pub status_of_run : RunEnd → ℕ

@@ -1,6 +1,6 @@
 //! The command line, read by `clap`.
 
-ghost use Rattle.std.specs.Prelude.{◌≡◌, Some, None, IfOk, IfSome, codes};
+ghost use Rattle.std.specs.Prelude.{◌≡◌, true, false, Some, None, IfOk, IfSome, codes};
 ghost use Rattle.std.specs.Option.{ForSome};
 ghost use Rattle.clap.specs.Matches.{first_value, found_of, one_text, subcommand_name_of};
 ghost use Rattle.fs_command.specs.Commands.{IsWithin, name_of};
@@ -9,7 +9,10 @@ ghost use Rattle.fs_explain.specs.Topics.{word_of};
 use clap::error::ErrorKind;
 use clap::{Arg, ArgAction, ArgMatches, Command, Error, value_parser};
 use fs_explain::{Topic, WORDS, topic_of};
+use fs_find::SEARCH_LIMIT;
+use fs_outcomes::{Form, OUTCOME_LIMIT};
 use fs_recorded::CONFIGURATION_LIMIT;
+use fs_replay::Asked;
 use fs_sched::{RUN_LIMIT, SEED_LIMIT, Schedule};
 use std::alloc::Global;
 use std::convert::AsStr;
@@ -38,6 +41,14 @@ pub enum Subcommand<'a> {
     Run(Schedule, Option<&'a str>),
     /// Runs of a script that are drawn from a number, the next one, and so on: the number, and how many.
     Seeds(u64, u64),
+    /// The ends of such runs, how often each came, and what is written of them.
+    Outcomes(u64, u64, Form),
+    /// The same, added up from lines of pieces.
+    AddedOutcomes(Form),
+    /// The first of so many such runs that has what is said.
+    Find(&'a str, u64, u64),
+    /// What is asked of the trees of a journal, or of a script's run by a schedule.
+    Tree(Schedule, Asked<'a>),
     /// The calls of a script on real threads.
     Threads,
     /// The verdict on a journal.
@@ -81,6 +92,54 @@ Exit status:
 
 Example:
   atomfs seeds --seed 1 --runs 100 < examples/moved_ancestor.script";
+
+const OUTCOMES_STATUSES: &str = "\
+A line is `TIMES seed SEED tree DIGEST`, and the calls whose replies differ: ` | THREAD#N REPLY`, the N-th call of THREAD. The most frequent end comes first; SEED is the least number that has it, for `atomfs run --seed SEED`.
+Where standard error is a terminal, a command that takes longer than a quarter of a second shows there how far it is.
+
+Exit status:
+  0  success
+  2  usage error
+  3  the input is no script, or with --add no lines of `outcomes --all`: `atomfs explain` says what to write instead
+  4  out of memory
+  5  a read or a write failed
+
+Example:
+  atomfs outcomes --seed 1 --runs 1000 < examples/moved_ancestor.script";
+
+const FIND_STATUSES: &str = "\
+WHAT is one or several conditions with `and` between them, each also behind `not`:
+  reply CALL REPLY   the call returned this, as a journal has it, or `failed` for any error
+  tree LINE          at the end this is a line of the tree text, as `dir /b/d/x`
+  helped CALL        the step of another call committed this one
+  before CALL CALL   the first committed before the second
+CALL is `THREAD#N`, the N-th call of the thread's block. A name `and` is written `%61nd`.
+
+Exit status:
+  0  success: a run of what is written has it, and the seed is on standard error
+  1  no run has it
+  2  usage error, or the script has no such call
+  3  the input is no script: `atomfs explain` says what to write instead
+  4  out of memory, no node number left, or more events than a script gives
+  5  a read or a write failed
+
+Example:
+  atomfs find --where 'reply writer#2 failed' --seed 1 --runs 100 < examples/moved_ancestor.script";
+
+const TREE_STATUSES: &str = "\
+Of a script's run in pieces the last one is asked about, and of a journal that is not lawful the entries before its fault.
+CALL is THREAD#NUMBER: m#3 is the third call of the thread m, and of a journal 0#3 the third on seat 0.
+
+Exit status:
+  0  success
+  1  `nobody`: no commit changed what stands at PATH; or the journal has a fault; or a checkpoint found calls under way
+  2  usage error, or what is asked for is not there
+  3  the input is no script and no journal: `atomfs explain` says what to write instead
+  4  out of memory, or no node number left
+  5  a read or a write failed
+
+Example:
+  atomfs tree --at 3 < examples/moved_ancestor.script";
 
 const THREADS_STATUSES: &str = "\
 Where standard error is a terminal, a command that takes longer than a quarter of a second shows there how far it is.
@@ -324,6 +383,161 @@ fn seeds_command<'a>(alloc: Global) -> Result<Command<'a>, Error> {
     )
 }
 
+fn outcomes_seed_argument<'a>(alloc: Global) -> Result<Arg<'a>, Error> {
+    Ok(
+        Arg::new(alloc, "seed")
+            .long("seed")
+            .value_name("N")
+            .value_parser(value_parser!(u64).range(0..=SEED_LIMIT as i64))
+            .required_unless_present("add")?
+            .conflicts_with("add")?
+            .help("The number that the first run is drawn from, 0 to 9223372036854775807"),
+    )
+}
+
+fn outcomes_runs_argument<'a>(alloc: Global) -> Result<Arg<'a>, Error> {
+    Ok(
+        Arg::new(alloc, "runs")
+            .long("runs")
+            .value_name("K")
+            .value_parser(value_parser!(u64).range(1..=OUTCOME_LIMIT as i64))
+            .required_unless_present("add")?
+            .conflicts_with("add")?
+            .help("How many runs, drawn from N, N + 1, and so on, 1 to 1000000"),
+    )
+}
+
+fn trees_argument<'a>(alloc: Global) -> Result<Arg<'a>, Error> {
+    Ok(
+        Arg::new(alloc, "trees")
+            .long("trees")
+            .action(ArgAction::SetTrue)
+            .conflicts_with("add")?
+            .help("Behind each line its tree"),
+    )
+}
+
+fn all_argument<'a>(alloc: Global) -> Arg<'a> {
+    Arg::new(alloc, "all")
+        .long("all")
+        .action(ArgAction::SetTrue)
+        .help("The replies of all calls, not only of those that differ")
+}
+
+fn add_argument<'a>(alloc: Global) -> Arg<'a> {
+    Arg::new(alloc, "add")
+        .long("add")
+        .action(ArgAction::SetTrue)
+        .help("Reads lines that pieces of a range of numbers wrote with --all, and adds them up")
+}
+
+fn outcomes_alone<'a>(alloc: Global) -> Command<'a> {
+    Command::new(alloc, "outcomes")
+        .about(
+            "Runs the script on standard input by drawn schedules and writes a line for each different end, and how often it came",
+        )
+        .override_usage("atomfs outcomes <--seed <N> --runs <K>|--add> [OPTIONS] < FILE")
+        .after_help(OUTCOMES_STATUSES)
+}
+
+fn outcomes_of_range<'a>(alloc: Global) -> Result<Command<'a>, Error> {
+    let seed = outcomes_seed_argument(alloc)?;
+    let runs = outcomes_runs_argument(alloc)?;
+    with_arguments(outcomes_alone(alloc), seed, runs)
+}
+
+fn outcomes_command<'a>(alloc: Global) -> Result<Command<'a>, Error> {
+    let trees = trees_argument(alloc)?;
+    let by_form = with_arguments(outcomes_of_range(alloc)?, trees, all_argument(alloc))?;
+    Ok(by_form.arg(add_argument(alloc))?)
+}
+
+fn where_argument<'a>(alloc: Global) -> Arg<'a> {
+    Arg::new(alloc, "where")
+        .long("where")
+        .value_name("WHAT")
+        .required(true)
+        .help("What the run is to have, as below")
+}
+
+fn searched_argument<'a>(alloc: Global) -> Arg<'a> {
+    Arg::new(alloc, "runs")
+        .long("runs")
+        .value_name("K")
+        .required(true)
+        .value_parser(value_parser!(u64).range(1..=SEARCH_LIMIT as i64))
+        .help("The most runs, drawn from N, N + 1, and so on, 1 to 1000000")
+}
+
+fn find_alone<'a>(alloc: Global) -> Command<'a> {
+    Command::new(alloc, "find")
+        .about(
+            "Runs the script on standard input by drawn schedules up to the first run that has WHAT, and writes the script with the events of that run as its schedule",
+        )
+        .override_usage("atomfs find --where <WHAT> --seed <N> --runs <K> < FILE")
+        .after_help(FIND_STATUSES)
+}
+
+fn find_command<'a>(alloc: Global) -> Result<Command<'a>, Error> {
+    let numbers = with_arguments(
+        find_alone(alloc),
+        where_argument(alloc),
+        first_seed_argument(alloc),
+    )?;
+    Ok(numbers.arg(searched_argument(alloc))?)
+}
+
+fn at_argument<'a>(alloc: Global) -> Arg<'a> {
+    Arg::new(alloc, "at")
+        .long("at")
+        .value_name("N")
+        .value_parser(value_parser!(u64))
+        .help("The tree behind the first N commits, in place of all")
+}
+
+fn before_argument<'a>(alloc: Global) -> Result<Arg<'a>, Error> {
+    Ok(
+        Arg::new(alloc, "before")
+            .long("before")
+            .value_name("CALL")
+            .conflicts_with("at")?
+            .help("The tree before the commit of CALL"),
+    )
+}
+
+fn who_argument<'a>(alloc: Global) -> Result<Arg<'a>, Error> {
+    Ok(
+        Arg::new(alloc, "who")
+            .long("who")
+            .value_name("PATH")
+            .conflicts_with("at")?
+            .conflicts_with("before")?
+            .help("The commit that last changed what stands at PATH, in place of a tree"),
+    )
+}
+
+fn tree_alone<'a>(alloc: Global) -> Command<'a> {
+    Command::new(alloc, "tree")
+        .about(
+            "Reads a journal on standard input, or runs a script there, and writes the tree that its commits make, or who changed what stands at a path",
+        )
+        .override_usage("atomfs tree [OPTIONS] < FILE")
+        .after_help(TREE_STATUSES)
+}
+
+fn tree_by_question<'a>(alloc: Global) -> Result<Command<'a>, Error> {
+    let before = before_argument(alloc)?;
+    let who = who_argument(alloc)?;
+    let by_place = with_arguments(tree_alone(alloc), at_argument(alloc), before)?;
+    Ok(by_place.arg(who)?)
+}
+
+fn tree_command<'a>(alloc: Global) -> Result<Command<'a>, Error> {
+    let seed = seed_argument(alloc)?;
+    let by_question = tree_by_question(alloc)?;
+    with_arguments(by_question, robin_argument(alloc), seed)
+}
+
 fn threads_command<'a>(alloc: Global) -> Command<'a> {
     Command::new(alloc, "threads")
         .about(
@@ -442,8 +656,23 @@ fn program_with_seeds<'a>(alloc: Global) -> Result<Command<'a>, Error> {
     with(program_with_run(alloc)?, seeds)
 }
 
+fn program_with_outcomes<'a>(alloc: Global) -> Result<Command<'a>, Error> {
+    let outcomes = outcomes_command(alloc)?;
+    with(program_with_seeds(alloc)?, outcomes)
+}
+
+fn program_with_find<'a>(alloc: Global) -> Result<Command<'a>, Error> {
+    let find = find_command(alloc)?;
+    with(program_with_outcomes(alloc)?, find)
+}
+
+fn program_with_tree<'a>(alloc: Global) -> Result<Command<'a>, Error> {
+    let tree = tree_command(alloc)?;
+    with(program_with_find(alloc)?, tree)
+}
+
 fn program_with_threads<'a>(alloc: Global) -> Result<Command<'a>, Error> {
-    with(program_with_seeds(alloc)?, threads_command(alloc))
+    with(program_with_tree(alloc)?, threads_command(alloc))
 }
 
 fn program_with_check<'a>(alloc: Global) -> Result<Command<'a>, Error> {
@@ -502,6 +731,65 @@ fn seeds_of<'a>(matches: &ArgMatches<'a>) -> Option<Subcommand<'a>>
     Some(Subcommand::Seeds(seed, runs))
 }
 
+/// What is written of the ends of runs.
+fn form_of<'a>(matches: &ArgMatches<'a>) -> Form
+    ensures all { one_text (found_of matches.now) (codes "all") ≡ Some (codes "true") → result.all ≡ true }
+    ensures few { one_text (found_of matches.now) (codes "all") ≡ Some (codes "false") → result.all ≡ false }
+    ensures trees { one_text (found_of matches.now) (codes "trees") ≡ Some (codes "true") → result.trees ≡ true }
+    ensures lines { one_text (found_of matches.now) (codes "trees") ≡ Some (codes "false") → result.trees ≡ false }
+{
+    Form {
+        all: matches.get_flag("all"),
+        trees: matches.get_flag("trees"),
+    }
+}
+
+/// The numbers of drawn runs whose ends are counted, or that lines are added up. `clap` has read the numbers within their
+/// ranges, and here they are looked at once more.
+fn outcomes_of<'a>(matches: &ArgMatches<'a>) -> Option<Subcommand<'a>>
+    ensures within { ForSome result IsWithin }
+    ensures name { IfSome result (λ command. name_of command ≡ codes "outcomes") }
+{
+    let form = form_of(matches);
+    if matches.get_flag("add") {
+        return Some(Subcommand::AddedOutcomes(form));
+    }
+    let seed = matches.get_one::<u64>("seed")?;
+    let runs = matches.get_one::<u64>("runs")?;
+    if seed > SEED_LIMIT || runs < 1 || runs > OUTCOME_LIMIT {
+        return None;
+    }
+    Some(Subcommand::Outcomes(seed, runs, form))
+}
+
+/// What is searched, in how many runs. `clap` has read the numbers within their ranges, and here they are looked at once more.
+fn find_of<'a>(matches: &ArgMatches<'a>) -> Option<Subcommand<'a>>
+    ensures within { ForSome result IsWithin }
+    ensures name { IfSome result (λ command. name_of command ≡ codes "find") }
+{
+    let what = matches.get_str("where")?;
+    let seed = matches.get_one::<u64>("seed")?;
+    let runs = matches.get_one::<u64>("runs")?;
+    if seed > SEED_LIMIT || runs < 1 || runs > SEARCH_LIMIT {
+        return None;
+    }
+    Some(Subcommand::Find(what, seed, runs))
+}
+
+/// What is asked of trees.
+fn asked_of<'a>(matches: &ArgMatches<'a>) -> Asked<'a> {
+    if let Some(commits) = matches.get_one::<u64>("at") {
+        return Asked::At(commits);
+    }
+    if let Some(call) = matches.get_str("before") {
+        return Asked::Before(call);
+    }
+    match matches.get_str("who") {
+        Some(path) => Asked::Who(path),
+        None => Asked::Whole,
+    }
+}
+
 /// What is written of histories.
 fn histories_of<'a>(matches: &ArgMatches<'a>) -> Histories
     ensures many { one_text (found_of matches.now) (codes "many") ≡ Some (codes "true") → result ≡ Histories.Many }
@@ -556,6 +844,9 @@ fn subcommand_of<'a>(matches: &ArgMatches<'a>) -> Option<Subcommand<'a>>
     match name {
         "run" => Some(Subcommand::Run(schedule_of(given), given.get_str("from"))),
         "seeds" => seeds_of(given),
+        "outcomes" => outcomes_of(given),
+        "find" => find_of(given),
+        "tree" => Some(Subcommand::Tree(schedule_of(given), asked_of(given))),
         "threads" => Some(Subcommand::Threads),
         "check" => Some(Subcommand::Check),
         "linearize" => limit_of(given),

@@ -18,6 +18,7 @@ pub use cli::{Histories, Subcommand, parse};
 pub use fs_explain::{Topic, explanation};
 pub use progress::{Line, SharedLine};
 pub use status::{
-    report, report_check, report_draw, report_file, report_from, report_linearize, report_many,
-    report_schedule, status_of_run, status_of_unreadable_args, status_of_usage, status_of_verdict,
+    report, report_check, report_draw, report_file, report_find, report_from, report_linearize,
+    report_many, report_schedule, report_tree, report_words, status_of_run,
+    status_of_unreadable_args, status_of_usage, status_of_verdict,
 };

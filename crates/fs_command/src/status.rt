@@ -3,13 +3,15 @@
 ghost use Rattle.std.specs.Prelude.{◌≡◌, ◌≢◌, ◌⊎◌};
 ghost use Rattle.std.specs.IoError.{error_kind};
 ghost use Rattle.clap.specs.Values.{kind_of};
-ghost use Rattle.fs_command.specs.Statuses.{has_status, status_of, status_of_checked, status_of_drawn, status_of_linearized, status_of_many, status_of_outcome, status_of_outcomes, status_of_run, status_of_scheduled, status_of_started, status_of_verdict};
+ghost use Rattle.fs_command.specs.Statuses.{has_status, status_of, status_of_checked, status_of_drawn, status_of_found, status_of_linearized, status_of_many, status_of_outcome, status_of_outcomes, status_of_replayed, status_of_run, status_of_scheduled, status_of_started, status_of_verdict, status_of_words};
 ghost use Rattle.fs_sched.specs.Faults.{status_of_fault};
 
 use clap::Error;
 use clap::error::ErrorKind;
 use fs_draw::DrawFault;
+use fs_find::{FindFault, WhatFault};
 use fs_recorded::{Histories, Linearized, Outcome};
+use fs_replay::{ReplayFault, Replayed};
 use fs_sched::{Checked, RunEnd, RunFault};
 use fs_start::StartFault;
 use fs_threads::ThreadsFault;
@@ -160,12 +162,67 @@ pub fn report_schedule<E: Write>(errors: &mut E, outcome: Result<u8, ScheduleFau
     fault.status()
 }
 
+/// The status that a search of so many runs from a number on came to, or that of its fault, whose message is written. What was
+/// found is told too.
+pub fn report_find<E: Write>(
+    errors: &mut E,
+    seed: u64,
+    runs: u64,
+    outcome: Result<Option<u64>, FindFault>,
+) -> u8
+    ensures { result ≡ status_of_found outcome }
+{
+    let fault = match outcome {
+        Ok(Some(found)) => {
+            let _ = writeln!(errors, "atomfs: seed {found}");
+            return 0;
+        }
+        Ok(None) => {
+            let _ = writeln!(
+                errors,
+                "atomfs: no run of {runs} from seed {seed} on has it"
+            );
+            return 1;
+        }
+        Err(fault) => fault,
+    };
+    let _ = writeln!(errors, "atomfs: {fault}");
+    fault.status()
+}
+
+/// The status where words say nothing of a run, and the message.
+pub fn report_words<E: Write>(errors: &mut E, fault: WhatFault) -> u8
+    ensures { result ≡ status_of_words fault }
+{
+    if let WhatFault::OutOfMemory = fault {
+        return report(errors, Err(ThreadsFault::Run(RunFault::OutOfMemory)));
+    }
+    let _ = writeln!(errors, "atomfs: --where: {fault}");
+    2
+}
+
 /// The status that a picture came to, or that of its fault, whose message is written.
 pub fn report_draw<E: Write>(errors: &mut E, outcome: Result<u8, DrawFault>) -> u8
     ensures { result ≡ status_of_drawn outcome }
 {
     let fault = match outcome {
         Ok(status) => return status,
+        Err(fault) => fault,
+    };
+    let _ = writeln!(errors, "atomfs: {fault}");
+    fault.status()
+}
+
+/// The status that what was asked of trees came to, or that of its fault, whose message is written. Of a journal that is not lawful
+/// the message says what is wrong.
+pub fn report_tree<E: Write>(errors: &mut E, outcome: Result<Replayed, ReplayFault>) -> u8
+    ensures { result ≡ status_of_replayed outcome }
+{
+    let fault = match outcome {
+        Ok(replayed) => {
+            tell(errors, replayed.reason.as_slice());
+            return status_of_verdict(replayed.well);
+        }
         Err(fault) => fault,
     };
     let _ = writeln!(errors, "atomfs: {fault}");

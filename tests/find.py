@@ -1,0 +1,186 @@
+"""Searches of drawn runs: `atomfs find` against what the program's own runs show, read here once more.
+
+What a run has is read from its run text, and who helped whom from its trace. So the first seed is that of a loop over `atomfs run --seed`.
+"""
+import random
+import re
+import shlex
+import typing
+import unittest
+
+import drawn
+from harness import Case, Outcome, run, takes_a_process
+
+SCRIPTS, SEEDS = 200, 6
+REPLIES = "ok", "failed", "failed ENOENT", "failed EEXIST", "stat dir 0", "wrote 0"
+LINES = "dir /a", "dir /b", "dir /a/a", "dir /b/a", "dir /a/b", "file /a -", "file /a/a -", "dir /c"
+RACE = b"atomfs 1\nthread m\nmkdir /a\nmkdir /a/d\nthread r\nrename /a /b\nschedule\nfinish\n"
+WORDS = b"write `reply CALL REPLY`, `tree LINE`, `helped CALL` or `before CALL CALL`, each also behind `not`, with `and` between two"
+CALL = b"a CALL is the name of a thread, `#` and a number from 1"
+REPLY = b"a REPLY is that of a journal, or `failed` for any error"
+LINE = b"a LINE is `dir PATH` or `file PATH HEX`, as a tree text has it"
+
+
+class Seen(typing.NamedTuple):
+    """What a run showed: by the thread and the place of a call its reply, when it committed, and whether it was helped; and the lines of its tree."""
+
+    replies: dict
+    commits: dict
+    helped: set
+    lines: set
+
+
+class Script(typing.NamedTuple):
+    """The threads of a script with their calls, and its words."""
+
+    threads: dict
+    words: list
+
+    def text(self):
+        blocks = "".join(f"thread {name}\n" + "".join(f"{call}\n" for call in calls) for name, calls in self.threads.items())
+        return f"atomfs 1\n{blocks}schedule\n{' '.join(self.words)}\n".encode()
+
+
+def seen(names, text, trace):
+    """What a run of one piece showed by its run text and its trace."""
+    lines = text.decode().splitlines()
+    at = lines.index("tree")
+    calls, begun, replies, commits = {}, {}, {}, {}
+    for place, line in enumerate(lines[1:at]):
+        kind, number, *rest = line.split()
+        if kind == "begin":
+            name = names[int(rest[0])]
+            begun[name] = begun.get(name, 0) + 1
+            calls[number] = (name, begun[name])
+        elif kind == "commit":
+            commits[calls[number]] = place
+        else:
+            replies[calls[number]] = " ".join(rest)
+    helped = {calls[number] for number in re.findall(r" helps \w+#(\d+), ", trace.decode())}
+    return Seen(replies, commits, helped, set(lines[at + 1 : -1]))
+
+
+def call_of(word):
+    name, place = word.split("#")
+    return name, int(place)
+
+
+def holds(clause, run):
+    """Whether a run has what a clause says."""
+    words = clause.split()
+    if words[0] == "not":
+        return not holds(clause.removeprefix("not "), run)
+    match words[0]:
+        case "reply":
+            reply = run.replies.get(call_of(words[1]), "none")
+            return reply.startswith("failed ") if words[2:] == ["failed"] else reply == " ".join(words[2:])
+        case "tree":
+            return " ".join(words[1:]) in run.lines
+        case "helped":
+            return call_of(words[1]) in run.helped
+        case "before":
+            first, second = (run.commits.get(call_of(word)) for word in words[1:])
+            return first is not None and second is not None and first < second
+    raise ValueError(clause)
+
+
+def has(what, run):
+    return all(holds(clause, run) for clause in what.split(" and "))
+
+
+def drawn_clause(draw, threads):
+    """A clause about calls of these threads."""
+
+    def call():
+        name = draw.choice([name for name in threads if threads[name]])
+        return f"{name}#{draw.randint(1, len(threads[name]))}"
+
+    match draw.choice(("reply", "reply", "tree", "helped", "before")):
+        case "reply":
+            clause = f"reply {call()} {draw.choice(REPLIES)}"
+        case "tree":
+            clause = f"tree {draw.choice(LINES)}"
+        case "helped":
+            clause = f"helped {call()}"
+        case _:
+            clause = f"before {call()} {call()}"
+    return clause if draw.randrange(4) else f"not {clause}"
+
+
+def drawn_script(draw):
+    """A small script, and something that a run of it may have."""
+    if draw.randrange(2):
+        calls = [[drawn.crowded_call(draw) for _ in range(draw.randint(1, 4))] for _ in range(3)]
+    else:
+        calls = drawn.moving(draw)[:3]
+    threads = {f"t{number}": made for number, made in enumerate(calls)}
+    what = " and ".join(drawn_clause(draw, threads) for _ in range(draw.choice((1, 1, 2))))
+    return Script(threads, ["finish"]), what
+
+
+class Finds(Case):
+    def look(self, number):
+        draw = random.Random(number)
+        script, what = drawn_script(draw)
+        text, first, names = script.text(), draw.randrange(1000), list(script.threads)
+        seeds = [str(seed) for seed in range(first, first + SEEDS)]
+        runs = [(run(text, "run", "--seed", seed).output, run(text, "trace", "--seed", seed).output) for seed in seeds]
+        schedules = [run(text, "schedule", "--seed", seed).output for seed in seeds]
+        came = run(text, "find", "--where", what, "--seed", seeds[0], "--runs", str(SEEDS))
+        if not all(output for output, _ in runs):
+            return  # Nothing was answered yet.
+        wanted = Outcome(1, b"", f"atomfs: no run of {SEEDS} from seed {first} on has it\n".encode())
+        for seed, (output, trace), schedule in zip(seeds, runs, schedules):
+            if has(what, seen(names, output, trace)):
+                wanted = Outcome(0, schedule, f"atomfs: seed {seed}\n".encode())
+                break
+        self.same(f"atomfs find --where '{what}' --seed {first} --runs {SEEDS}\n{text.decode()}", came, wanted)
+
+    def test_first_seed(self):
+        self.each(((f"script_{number}", number) for number in range(SCRIPTS)), self.look)
+
+
+class Words(Case):
+    def ends(self, words, given, wanted):
+        self.same(f"atomfs {shlex.join(words)}\n{given.decode()}", run(given, *words), wanted)
+
+    def all_end(self, rows):
+        self.each(((name, tuple(shlex.split(words)), *rest) for name, words, *rest in rows), self.ends)
+
+    def test_found(self):
+        self.all_end((
+            ("none", "find --where 'tree dir /none' --seed 1 --runs 5", RACE, Outcome(1, b"", b"atomfs: no run of 5 from seed 1 on has it\n")),
+            ("the last seed", "find --where 'not tree dir /none' --seed 9223372036854775807 --runs 1000000", b"atomfs 1\nschedule\n", Outcome(0, b"atomfs 1\nschedule\n", b"atomfs: seed 9223372036854775807\n")),
+        ))
+
+    def test_bad_words(self):
+        """Before any run, and nothing is written."""
+
+        def bad(why):
+            return Outcome(2, b"", b"atomfs: --where: " + why + b"\n")
+
+        rows = (
+            ("", WORDS), (" ", WORDS), ("and", WORDS), ("not", WORDS), ("reply", WORDS), ("none m#1", WORDS), ("reply m#1 ok and", WORDS), ("reply m#1 ok  and helped m#1", WORDS),
+            ("not not helped m#1", WORDS), ("helped", WORDS), ("helped m#1 m#2", WORDS), ("before m#1", WORDS), ("before m#1 m#2 m#2", WORDS),
+            ("helped m", CALL), ("helped m#", CALL), ("helped m#0", CALL), ("helped m#01", CALL), ("helped m#x", CALL), ("before m#1 r", CALL), ("reply m ok", CALL),
+            ("reply m#1", REPLY), ("reply m#1 done", REPLY), ("reply m#1 ok ok", REPLY), ("reply m#1 failed ENONE", REPLY), ("reply m#1 stat dir", REPLY), ("reply m#1 bytes 0", REPLY), ("reply m#1 failed ENOENT EEXIST", REPLY),
+            ("tree", LINE), ("tree dir", LINE), ("tree dir a", LINE), ("tree dir /a 00", LINE), ("tree file /a", LINE), ("tree file /a 0", LINE), ("tree link /a", LINE),
+        )  # fmt: skip
+        for command in (("find", "--seed", "1", "--runs", "5"),):
+            self.each(((f"{command[0]} {number}", (*command, "--where", what), RACE, bad(why)) for number, (what, why) in enumerate(rows)), self.ends)
+            no_call = Outcome(2, b"", b"atomfs: the script has no such call\n")
+            self.each(((f"{command[0]} {what}", (*command, "--where", what), RACE, no_call) for what in ("helped m#3", "helped n#1", "reply m#18446744073709551615 ok", "before m#1 r#2", "not helped M#1")), self.ends)
+
+    def test_two_lines(self):
+        takes_a_process()
+        self.ends(("find", "--where", "reply m#1 ok\nand helped m#1", "--seed", "1", "--runs", "5"), RACE, Outcome(2, b"", b"atomfs: --where: " + WORDS + b"\n"))
+
+    def test_readable(self):
+        """What words may be."""
+        self.each(((what, ("find", "--where", what, "--seed", "1", "--runs", "1"), b"atomfs 1\nthread m\nreaddir /\nschedule\n", Outcome(0, b"atomfs 1\nthread m\nreaddir /\nschedule\nm*5\n", b"atomfs: seed 1\n")) for what in (
+            "reply m#1 names", "not reply m#1 failed", "not reply m#1 names a %61nd b", "tree dir /", "not tree file /f -", "not helped m#1 and not before m#1 m#1", "not reply m#1 bytes -", "not reply m#1 stat file 3",
+        )), self.ends)  # fmt: skip
+
+
+if __name__ == "__main__":
+    unittest.main()
