@@ -9,6 +9,7 @@ examples/tour/ show, of which tests/data/tour/ has what each writes.
 import os
 import pathlib
 import re
+import shlex
 import subprocess
 import tempfile
 import typing
@@ -197,7 +198,7 @@ def shown(path):
     """The commands that a file of the tour shows, in order."""
     for line in re.findall(r"^#? +examples/run (.+)$", path.read_text(), re.M):
         words, reads, writes = re.fullmatch(r"([^<>]+?)(?: < (\S+))?(?: > (\S+))?", line).groups("")
-        yield Command(tuple(words.split(" ")), reads, writes)
+        yield Command(tuple(shlex.split(words)), reads, writes)
 
 
 def without_comments(text):
@@ -207,7 +208,7 @@ def without_comments(text):
 class Tour(Case):
     """examples/tour/: each command that its files show, what it writes, and what its page says to look for."""
 
-    STEPS = "1_one_call.script", "2_race.script", "3_helping_rename.script", "4_both_won.journal", "5_kept_seed.script", "6_race.py"
+    STEPS = "1_one_call.script", "2_race.script", "3_helping_rename.script", "4_both_won.journal", "5_kept_seed.script", "6_race.py", "7_what_can_happen.script"
     # Stored elsewhere: what comes of the calls of the third step.
     HELPED = {"trace": DATA / "traces" / "helped_mkdir.trace", "draw": ROOT / "docs" / "helped_mkdir.svg"}
     # What the sixth step writes, and the commands behind it read.
@@ -227,9 +228,9 @@ class Tour(Case):
     def stored(self, command):
         """Where what a command writes is kept, if it is."""
         reads = pathlib.Path(command.reads).name
-        if reads == self.STEPS[2]:
+        if reads == self.STEPS[2] and command.words[0] in self.HELPED:
             return self.HELPED[command.words[0]]
-        return DATA / "tour" / f"{reads.split('.')[0]}.{'_'.join(word.lstrip('-') for word in command.words)}"
+        return DATA / "tour" / f"{reads.split('.')[0]}.{'_'.join(re.findall('[A-Za-z0-9]+', ' '.join(command.words)))}"
 
     def test_steps(self):
         """Each file is a step, and each that the program reads ends with the command that draws it."""
@@ -270,7 +271,7 @@ class Tour(Case):
         page = (TOUR / "README.md").read_text()
         rows = re.findall(r"^\| \[(.*?)\]\((.*?)\) \| .* \| (.*?) \|$", page, re.M)
         self.same("the rows of the page", [row[:2] for row in rows], [(step, step) for step in self.STEPS])
-        self.each(((step, step, re.findall("`([^`]+)`", cell)) for step, _, cell in rows[:-1]), self.look_for)
+        self.each(((step, step, re.findall("`([^`]+)`", cell)) for step, _, cell in rows if not step.endswith(".py")), self.look_for)
         first, answer = re.findall(r"^```\n(.*?)^```$", page, re.M | re.S)
         self.same("the command of the page", first, f"examples/run trace < examples/tour/{self.STEPS[0]}\n")
         self.same("what it answers", answer, (DATA / "tour" / "1_one_call.trace").read_text())
@@ -286,11 +287,13 @@ class Tour(Case):
         helped = (RUNS / "helped_mkdir.script").read_text()
         self.same(self.STEPS[2], without_comments((TOUR / self.STEPS[2]).read_text()), helped.splitlines())
 
-    def test_kept_seed(self):
-        """The fifth step is what its first command writes of the second, with other comments."""
-        ((_, step, command),) = (row for row in self.commands() if row[2].words[0] == "schedule")
-        written = self.stored(command).read_text()
-        self.same(step, without_comments((TOUR / step).read_text()), without_comments(written))
+    def test_kept_seeds(self):
+        """The fifth step is what its first command writes of the second, and the seventh what its second writes of the third, with other comments."""
+        kept = [(step, command) for _, step, command in self.commands() if command.words[0] in ("schedule", "find")]
+        self.same("what is kept", [step for step, _ in kept], [self.STEPS[4], self.STEPS[6]])
+        for step, command in kept:
+            written = self.stored(command).read_text()
+            self.same(step, without_comments((TOUR / step).read_text()), without_comments(written))
 
     def test_as_typed(self):
         """Each command as a reader types it, where the program is built."""
@@ -304,7 +307,7 @@ class Tour(Case):
 
     def look_as_typed(self, folder, command):
         reads, writes = (f" {sign} {name}" if name else "" for sign, name in (("<", command.reads), (">", command.writes)))
-        typed = f"examples/run {' '.join(command.words)}{reads}{writes}"
+        typed = f"examples/run {shlex.join(command.words)}{reads}{writes}"
         done = subprocess.run(["bash", "-c", typed], cwd=folder, stdin=subprocess.DEVNULL, capture_output=True, timeout=harness.MOST_SECONDS)
         written = pathlib.Path(folder, command.writes).read_bytes() if command.writes else done.stdout
         due = run(self.given(command), *command.words)
