@@ -655,12 +655,13 @@ class EachCommand(Page):
 
     def look_at_program(self, words, given):
         """The program takes these words, or words that begin so; what it prints is looked at where a page says so."""
-        words = [self.PUT.get(word, word) for word in filled(words.strip()).split(" ") if word not in ("", "..")]
+        words = [self.PUT.get(word, word) for word in shlex.split(filled(words.strip())) if word != ".."]
         if not words or (ROOT / words[0]).exists():
             return self.same("the scripts that are not there", [word for word in words if not (ROOT / word).exists()], [])
         outcome = run((ROOT / given).read_bytes() if given not in self.INPUTS else example_for(words[0]), *words)
-        # A check tells what is wrong beside the verdict.
-        message = b"" if self.IN_PART.match(outcome.message) or outcome.output.startswith(b"fault ") else outcome.message
+        # A check tells what is wrong beside the verdict, and a search the seed that it found.
+        is_told = self.IN_PART.match(outcome.message) or outcome.output.startswith(b"fault ") or words[0] == "find"
+        message = b"" if is_told else outcome.message
         self.same("what it tells", message, b"")
 
     def look_at_promises(self, command):

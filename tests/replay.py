@@ -31,7 +31,8 @@ class Commits:
 
     def keep(self):
         self.trees.append(text_of(self.tree.text()))
-        self.looks.append(dict(self.tree.nodes))
+        # A directory is the same whatever is in it.
+        self.looks.append({path: node if isinstance(node, bytes) else None for path, node in self.tree.nodes.items()})
 
     def commit(self, number, who, call):
         """The reply of a call that commits."""

@@ -185,7 +185,7 @@ class Words(Case):
             ("find --where 'tree dir /' --seed 7 --runs 1000001", unread(1_000_001, "--runs <K>", "1000001 is not in 1..=1000000")),
             ("tree --at x", unread("x", "--at <N>", "invalid digit found in string")),
             ("tree --at 1 --before a#1", misused("the argument '--at <N>' cannot be used with '--before <CALL>'", "tree [OPTIONS] < FILE")),
-            ("tree --who / --before a#1", misused("the argument '--before <CALL>' cannot be used with '--who <PATH>'", "tree [OPTIONS] < FILE")),
+            ("tree --who / --before a#1", misused("the argument '--who <PATH>' cannot be used with '--before <CALL>'", "tree [OPTIONS] < FILE")),
             ("threads --seed 1", misused("unexpected argument '--seed' found", "threads < FILE")),
             ("check now", misused("unexpected argument 'now' found", "check < FILE")),
             ("outcomes", misused(f"{missing}\n  --seed <N>\n  --runs <K>", of_outcomes)),
