@@ -5,6 +5,7 @@ import contextlib
 import os
 import pathlib
 import re
+import shlex
 import shutil
 import subprocess
 import tempfile
@@ -100,7 +101,7 @@ class Clean(Case):
         for command in sorted(found):
             words, reads, writes = re.fullmatch(r"examples/run ([^<>]+?)(?: < (\S+))?(?: > (\S+))?", command).groups("")
             if (ROOT / reads).is_file() or (not reads and " " in words):
-                yield command, command, words.split(" "), reads, writes
+                yield command, command, shlex.split(words), reads, writes
 
     def test_from_a_seed_to_a_picture(self):
         """From drawn runs to a kept one, one command after the other: the later ones read what the earlier ones wrote."""
