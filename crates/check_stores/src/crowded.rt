@@ -1,9 +1,9 @@
 //! Two directories of up to 256 entries, in both stores: drawn names, and names that the index keeps apart badly.
 
 use crate::drawing::below;
-use crate::tally::Looks;
 use crate::twins::{Twin, Twins};
 use anyhow::{Result, ensure};
+use check_nodes::looks::Looks;
 use fs_names::{ENTRY_LIMIT, Kind, Name};
 use rand_core::{Rng, SeedableRng};
 use rand_pcg::Pcg32;

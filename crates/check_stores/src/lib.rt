@@ -1,25 +1,22 @@
-//! Uses a store, holders and held nodes as their examples do, and makes drawn calls on the store with sibling links and on
-//! the one without an index. No program and no library for C shows a second store, the number of entries that a look-up
-//! looked at, or who holds what.
+//! Makes drawn calls on the store with sibling links and on the one without an index, beside what `check_nodes` checks of one
+//! store. No program and no library for C shows a second store, the number of entries that a look-up looked at, or who holds
+//! what.
 //!
 //! A drawn call is made where its conditions hold, also of directories with entries; others are drawn in the place of those
 //! that cannot be made. It writes how many calls of each kind were made, and how many answers differed: none. Then calls are
 //! drawn on full directories, also with names that the index keeps apart badly, and at how many places look-ups look is
-//! written, and so for a directory of far more entries than any limits allow. Then entries change what they name, those of a small tree and drawn ones, beside calls of a stream of their own.
+//! written. Then entries change what they name, those of a small tree and drawn ones, beside calls of a stream of their own.
 #![tactic(auto)]
 
-mod calls;
 mod crowded;
 mod drawing;
-mod examples;
-mod large;
-mod locks;
 mod swaps;
 mod tally;
 mod twins;
 
 use anyhow::{Result, bail};
-use calls::LIMIT;
+use check_nodes::calls::LIMIT;
+use check_nodes::large;
 use drawing::{below, name};
 use fs_names::{Kind, Name};
 use rand_core::{Rng, SeedableRng};
@@ -142,13 +139,6 @@ fn draw_all(alloc: Global, twins: &mut Twins, tally: &mut Tally) -> Result<()> {
     bail!("too few of the calls could be made")
 }
 
-/// The store in use.
-fn use_store(alloc: Global) -> Result<()> {
-    examples::two_numbers(alloc)?;
-    examples::names_in_order(alloc)?;
-    examples::bytes_of_a_file(alloc)
-}
-
 /// Drawn calls, of which it writes what was counted.
 fn count(rt: &impl Print, alloc: Global, twins: &mut Twins) -> Result<()> {
     let mut tally = Tally::default();
@@ -163,11 +153,7 @@ fn run_drawn(rt: &impl Print, alloc: Global) -> Result<()> {
 
 /// Does all of this, and writes what was counted.
 pub fn run(rt: &impl Print, alloc: Global) -> Result<()> {
-    use_store(alloc)?;
-    locks::use_locks(alloc)?;
-    println!(rt;
-        "locks: one holder at a time, all calls but the last can hold, nodes in the order taken"
-    )?;
+    check_nodes::run(rt, alloc)?;
     run_drawn(rt, alloc)?;
     crowded::run(rt, alloc)?;
     large::run(rt, alloc)?;

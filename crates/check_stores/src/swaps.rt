@@ -1,11 +1,11 @@
 //! Entries that change what they name, in both stores: those of a small tree, and drawn ones.
 
-use crate::calls::LIMIT;
 use crate::drawing::name;
 use crate::tally::Tally;
 use crate::twins::Twins;
 use crate::{DRAWS, directory, draw};
 use anyhow::{Result, bail, ensure};
+use check_nodes::calls::LIMIT;
 use fs_names::{Kind, Name};
 use rand_core::SeedableRng;
 use rand_pcg::Pcg32;

@@ -3,8 +3,8 @@
 ghost use Rattle.std.specs.Prelude.{◌≤◌};
 ghost use Rattle.fs_names.specs.declared.limits.TheConstants.{NODE_LIMIT};
 
-use crate::calls::{Linked, Plain};
-use crate::tally::Looks;
+use check_nodes::calls::{Linked, Plain};
+use check_nodes::looks::Looks;
 use fs_names::{Kind, Name};
 use fs_nodes::{NoNode, NodeNo, Store, plain};
 use std::alloc::{AllocError, Global};

@@ -1,7 +1,7 @@
 //! Directories of far more entries than any limits allow: at how many places is looked for where a name stands in their order.
 
 use crate::calls::Linked;
-use crate::tally::Looks;
+use crate::looks::Looks;
 use anyhow::{Result, bail};
 use fs_names::{Kind, Name};
 use fs_nodes::{NodeNo, Store};

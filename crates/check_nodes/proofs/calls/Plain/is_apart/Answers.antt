@@ -1,7 +1,7 @@
 use Rattle.fs_nodes.specs.Seen.{seen}
 use Rattle.fs_nodes.specs.Stores.{child}
-use Rattle.check_stores.proofs.AscentLemmas.{reaches_up, never_reached, differ_by}
-use Rattle.check_stores.proofs.calls.Linked.is_apart.Goals as goal
+use Rattle.check_nodes.proofs.AscentLemmas.{reaches_up, never_reached, differ_by}
+use Rattle.check_nodes.proofs.calls.Plain.is_apart.Goals as goal
 
 pub returns-in-None : goal.returns-in-None
 returns-in-None c = λ _ r. never_reached (child c.args.self.now.store) c.args.node c.loop.at c.in-None.ensures (differ_by c.loop.at c.args.node c.if-eq.ensures) (c.loop.invariant r)

@@ -1,6 +1,6 @@
 use Rattle.fs_nodes.specs.Graphs.{IsReached}
 use Rattle.fs_nodes.specs.Stores.{child}
-use Rattle.check_stores.proofs.calls.Plain.is_apart.Given as goal
+use Rattle.check_nodes.proofs.calls.Plain.is_apart.Given as goal
 
 -- what leads to the directory leads to where the way up is
 abbrev pub invariant-loop : goal.invariant-loop
