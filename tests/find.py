@@ -9,7 +9,7 @@ import typing
 import unittest
 
 import drawn
-from harness import Case, Outcome, run, takes_a_process
+from harness import Case, Outcome, rows_of, run, takes_a_process
 
 SCRIPTS, SEEDS = 200, 6
 REPLIES = "ok", "failed", "failed ENOENT", "failed EEXIST", "stat dir 0", "wrote 0"
@@ -137,7 +137,7 @@ class Finds(Case):
         self.same(f"atomfs find --where '{what}' --seed {first} --runs {SEEDS}\n{text.decode()}", came, wanted)
 
     def test_first_seed(self):
-        self.each(((f"script_{number}", number) for number in range(SCRIPTS)), self.look)
+        self.each(((f"script_{number}", number) for number in range(rows_of(SCRIPTS))), self.look)
 
 
 class Words(Case):

@@ -118,6 +118,11 @@ def takes_a_process():
         raise unittest.SkipTest("devices, memory and time of a process are looked at in the program that is proved and built")
 
 
+def rows_of(count):
+    """How many of so many drawn rows are looked at: a tenth where the program is asked in another way, since unproved it looks for faults at each access."""
+    return count if answer is spawned else max(1, count // 10)
+
+
 def asks_of_answers():
     """Skips what asks the program of what it has answered where it is asked all at once."""
     if answer is not spawned:

@@ -8,7 +8,7 @@ import unittest
 
 import drawn
 from documents import constants
-from harness import Case, Outcome, asks_of_answers, run
+from harness import Case, Outcome, asks_of_answers, rows_of, run
 
 SCRIPTS, RUNS = 200, 12
 DRAWN = drawn.narrow, drawn.moving, drawn.exchanging, drawn.crowded
@@ -71,7 +71,7 @@ class Outcomes(Case):
         """A line for each end, in order, with the replies that differ."""
 
         def rows():
-            for number in range(SCRIPTS):
+            for number in range(rows_of(SCRIPTS)):
                 draw = random.Random(number)
                 script = drawn.script(DRAWN[number % len(DRAWN)](draw)).encode()
                 words = [word for word in ("--all", "--trees") if draw.randrange(2)]

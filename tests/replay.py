@@ -114,11 +114,11 @@ class Replays(Case):
             self.same(f"--who {path}\n{given.decode()}", run(given, "tree", "--who", path, *words), wanted)
 
     def test_drawn_journals(self):
-        rows = ((f"journal_{number}", *journal(random.Random(number))) for number in range(JOURNALS))
+        rows = ((f"journal_{number}", *journal(random.Random(number))) for number in range(harness.rows_of(JOURNALS)))
         self.each(rows, self.look)
 
     def test_scripts_in_order(self):
-        rows = ((f"script_{number}", *in_order(random.Random(f"in order {number}")), ["a#1000", "z#1", "0#1"]) for number in range(SCRIPTS))
+        rows = ((f"script_{number}", *in_order(random.Random(f"in order {number}")), ["a#1000", "z#1", "0#1"]) for number in range(harness.rows_of(SCRIPTS)))
         self.each(rows, self.look)
 
     def same_as_its_journal(self, given, *words):

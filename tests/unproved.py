@@ -235,7 +235,10 @@ def asked(requests):
         answers = pathlib.Path(folder, "answers")
         answers.touch()
         words = (*started("atomfs"), "--answer-each")
-        done = subprocess.run(words, input=f"{answers}\n".encode() + encoded(requests), capture_output=True, timeout=MOST_SECONDS)
+        try:
+            done = subprocess.run(words, input=f"{answers}\n".encode() + encoded(requests), capture_output=True, timeout=MOST_SECONDS)
+        except subprocess.TimeoutExpired:
+            raise SystemExit(f"tests/unproved.py: the unproved program has not answered after {MOST_SECONDS} seconds: tests/run --quick PART asks less of it") from None
         return list(decoded(answers.read_bytes())), done.stderr
 
 
