@@ -1,3 +1,4 @@
+pub mod NodeLines
 pub mod SameStarts
 pub mod StartNames
 pub mod Starting

@@ -35,7 +35,7 @@ either : {A F : Type 0} (P : A → Type 0) (b : Bool) (r q : Result A F) → Giv
 either P true r q h g = h
 either P false r q h g = g
 
-any_then : {A B F : Type 0} (P : B → Type 0) (r : Result A F) (f : A → Result B F) → ((x : A) → Given P (f x)) → Given P (r >>= f)
+pub any_then : {A B F : Type 0} (P : B → Type 0) (r : Result A F) (f : A → Result B F) → ((x : A) → Given P (f x)) → Given P (r >>= f)
 any_then P (Ok x) f each = each x
 any_then P (Err e) f each = tt
 
@@ -91,7 +91,7 @@ entries_given : (limits : Limits) (start : Start) (entries : Result (List Entry)
 entries_given limits start (Ok es) h = h
 entries_given limits start (Err f) h = tt
 
-placed : {A : Type 0} (P : A → Type 0) (n : ℕ) (r : Result A FaultKind) → Given P r → Given P (in_start n r)
+pub placed : {A : Type 0} (P : A → Type 0) (n : ℕ) (r : Result A FaultKind) → Given P r → Given P (in_start n r)
 placed P n (Ok x) h = h
 placed P n (Err k) h = tt
 
@@ -156,7 +156,7 @@ header_no_end V2 = no_end (codes "atomfs-journal 3") (search rules)
 split_twice : (line rest : List ℕ) → All (λ b. is_line_feed b ≡ false) line → lines_of (line ++ (10 ∷ (codes "start" ++ (10 ∷ rest)))) ≡ line ∷ without_last_empty (codes "start" ∷ slice_split is_line_feed rest)
 split_twice line rest h = ap without_last_empty (slice_split_at is_line_feed line 10 (codes "start" ++ (10 ∷ rest)) h refl ∙ ap (λ (l : List (List ℕ)). line ∷ l) (slice_split_at is_line_feed (codes "start") 10 rest (no_end (codes "start") (search rules)) refl))
 
-cut : (limits : Limits) (nodes : List ℕ) → lines_of (nodes_journal limits nodes) ≡ started_header limits ∷ without_last_empty (codes "start" ∷ slice_split is_line_feed (nodes ++ line_end nodes ++ codes "entries\n"))
+pub cut : (limits : Limits) (nodes : List ℕ) → lines_of (nodes_journal limits nodes) ≡ started_header limits ∷ without_last_empty (codes "start" ∷ slice_split is_line_feed (nodes ++ line_end nodes ++ codes "entries\n"))
 cut V1 nodes = split_twice (started_header V1) (nodes ++ line_end nodes ++ codes "entries\n") (header_no_end V1)
 cut V2 nodes = split_twice (started_header V2) (nodes ++ line_end nodes ++ codes "entries\n") (header_no_end V2)
 

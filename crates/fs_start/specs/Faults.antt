@@ -1,8 +1,10 @@
 -- The fault of a run from a tree, and the status after it.
-use Rattle.std.specs.Prelude.{ℕ, ◌≡◌, ◌<◌, ◌⊎◌, max, List, length, Ok, Err}
+use Rattle.std.specs.Prelude.{ℕ, ◌≡◌, ◌+◌, ◌<◌, ◌⊎◌, max, List, [], ◌∷◌, length, take, slice_get, if◌then◌else◌, codes, Ok, Err, Some}
+use Rattle.std.specs.Str.{bytes_eq}
 use Rattle.fs_names.specs.declared.limits.Limits.{Limits}
 use Rattle.fs_names.specs.declared.limits.TheConstants.{NODE_LIMIT}
 use Rattle.fs_calls.specs.Starts.{Start}
+use Rattle.fs_words.specs.Lines.{lines_of, is_passed_over}
 use Rattle.fs_words.specs.Reading.{fault_at}
 use Rattle.fs_words.specs.declared.fault.ScriptFault.{ScriptFault}
 use Rattle.fs_words.specs.declared.fault.FaultKind.{FaultKind}
@@ -31,13 +33,26 @@ by_kind f k = Tree (told_fault f)
 abbrev pub tree_fault_of : ScriptFault → StartFault
 tree_fault_of f = by_kind f f.kind
 
--- no tree within these limits is read from a text: it has this fault, or the tree has more nodes than there are numbers
+-- the numbers of the lines that are neither empty nor comments, where the first line has this number
+abbrev pub told_lines : ℕ → List (List ℕ) → List ℕ
+told_lines n [] = []
+told_lines n (line ∷ more) = if is_passed_over line then told_lines (n + 1) more else n ∷ told_lines (n + 1) more
+
+-- how many of them stand before the nodes: the line `tree`, or the header of a journal and the line `start`
+abbrev pub lines_before : List ℕ → ℕ
+lines_before text = if bytes_eq (take 5 text) (codes "tree\n") then 1 else 2
+
+-- a line tells the first node for which there is no number
+abbrev pub IsNodeTooMany : List ℕ → ℕ → Type 0
+IsNodeTooMany text line = slice_get (told_lines 1 (lines_of text)) (lines_before text + NODE_LIMIT) ≡ Some line
+
+-- no tree within these limits is read from a text: it has this fault, or the tree has more nodes than there are numbers, at the line of the first too many
 abbrev pub IsTreeFault : Limits → List ℕ → ScriptFault → Type 0
 IsTreeFault limits text f =
     ((g : ScriptFault) × (start_of limits text ≡ Err g) × (f ≡ told_fault g))
-    ⊎ ((start : Start) × (start_of limits text ≡ Ok start) × (NODE_LIMIT < length start.tree) × (f.kind ≡ kind.TooLarge))
+    ⊎ ((start : Start) × (start_of limits text ≡ Ok start) × (NODE_LIMIT < length start.tree) × (f.kind ≡ kind.TooLarge) × IsNodeTooMany text f.line)
 
--- the fault of a tree that is too large
-abbrev pub IsTooLarge : StartFault → Type 0
-IsTooLarge (Tree f) = f.kind ≡ kind.TooLarge
-IsTooLarge (Run f) = ⊥
+-- the same of a text whose tree is there
+abbrev pub IsTooLarge : List ℕ → StartFault → Type 0
+IsTooLarge text (Tree f) = (f.kind ≡ kind.TooLarge) × IsNodeTooMany text f.line
+IsTooLarge text (Run f) = ⊥

@@ -1,15 +1,17 @@
 //! The runner that runs a script from a tree.
 
-ghost use Rattle.std.specs.Prelude.{◌≡◌, ◌≢◌, ◌⊎◌, ◌+◌, ◌-◌, ◌<◌, ◌≤◌, ◌^◌, ℕ, List, Ok, Err, IfOk, OnOk, OnErr, IfErr, IfSome, IsErrOf};
+ghost use Rattle.std.specs.Prelude.{◌≡◌, ◌≢◌, ◌⊎◌, ◌+◌, ◌-◌, ◌<◌, ◌≤◌, ◌^◌, ℕ, List, length, get_or, Ok, Err, IfOk, OnOk, OnErr, IfErr, IfSome, IsErrOf};
 ghost use Rattle.std.specs.Io.KnownBytes.{Appends, IsAtEnd};
 ghost use Rattle.fs_names.specs.Limits.{file_limit};
+ghost use Rattle.fs_calls.specs.Starts.{Start};
 ghost use Rattle.fs_seq.specs.Rows.{IsWithinLimits};
+ghost use Rattle.fs_words.specs.Lines.{lines_of};
 ghost use Rattle.fs_words.specs.declared.fault.ScriptFault.{ScriptFault};
 ghost use Rattle.fs_script.specs.Script.{script_of};
 ghost use Rattle.fs_script.specs.Journals.{start_of};
 ghost use Rattle.fs_sched.specs.Devices.{IsSameText, KeepsDevices, WritesBeginning};
 ghost use Rattle.fs_sched.specs.Runs.{IsWhole, HasFinish};
-ghost use Rattle.fs_start.specs.Faults.{IsTooLarge};
+ghost use Rattle.fs_start.specs.Faults.{told_lines, lines_before, IsTooLarge};
 ghost use Rattle.fs_start.specs.Starts.{AreOfTheRunAt, EachIsReadAgainAt, HasTreeFault, ReachesStopAt};
 ghost use Rattle.fs_start.specs.code.Mades.{IsCoreAt, IsNoCore, MakesRunAt};
 
@@ -24,33 +26,39 @@ use fs_words::lines::{cut_line, is_passed_over};
 use std::alloc::Global;
 
 /// The line of a text that stands behind so many lines that are not passed over; where there are fewer, the number of lines.
-fn line_behind(text: &[u8], lines: usize) -> u64 {
+fn line_behind(text: &[u8], lines: usize) -> u64
+    ensures { result ≡ get_or (told_lines 1 (lines_of text.now)) lines (length (lines_of text.now)) }
+{
     let mut left = text;
     let mut told = 0usize;
-    for number in 1..=u64::MAX {
-        let Some((line, rest)) = cut_line(left) else {
-            return number - 1;
-        };
+    let mut number = 0u64;
+    'lines: while let Some((line, rest)) = cut_line(left) {
+        number += 1;
         if !is_passed_over(line) {
-            if told >= lines {
+            if told == lines {
                 return number;
             }
             told += 1;
         }
         left = rest;
     }
-    u64::MAX
+    number
+}
+
+/// How many lines that are not passed over stand in front of the nodes of a tree, or of those of a journal.
+fn lines_before(text: &[u8]) -> usize
+    ensures { result ≡ lines_before text.now }
+{
+    if text.starts_with(b"tree\n") { 1 } else { 2 }
 }
 
 /// The fault of the text of a tree, or of a journal, that has more nodes than there are numbers: its line is that of the first
 /// node too many.
 fn too_many_nodes(text: &[u8]) -> StartFault
-    ensures { IsTooLarge result }
+    ensures { (limits : Limits) (start : Start) → start_of limits text.now ≡ Ok start → NODE_LIMIT < length start.tree → IsTooLarge text.now result }
 {
-    // In front of its nodes a tree has the line `tree`, and a journal its version and the line `start`.
-    let before = if text.starts_with(b"tree\n") { 1 } else { 2 };
     StartFault::Tree(ScriptFault {
-        line: line_behind(text, before + NODE_LIMIT),
+        line: line_behind(text, lines_before(text) + NODE_LIMIT),
         kind: FaultKind::TooLarge,
     })
 }
@@ -161,7 +169,8 @@ pub fn run_from<R: Source, W: Sink, Listener: Witness>(
     ensures end { OnOk result (IsAtEnd (R.remaining reader.new)) }
     ensures input { (f : ScriptFault) → result ≡ Err (StartFault.Run (RunFault.Input f)) → IfSome (R.remaining reader.old) (λ input. script_of input ≡ Err f) }
 
-    // The text has no tree by the limits of the script, or one with more nodes than there are numbers.
+    // The text has no tree by the limits of the script, or one with more nodes than there are numbers: then the fault is in the line
+    // of the first node too many.
     ensures tree { (f : ScriptFault) → result ≡ Err (StartFault.Tree f) → IfSome (R.remaining reader.old) (λ input. HasTreeFault tree.items input (StartFault.Tree f)) }
 
     // `Full` comes only where a call begins when all numbers are in use, by the nodes of the tree among them; `UnderWay` where the
