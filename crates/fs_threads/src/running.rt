@@ -113,6 +113,9 @@ pub fn run_threads<R: Threads + Wait + Clock + Sync, S: Source, W: Sink, G: Watc
     ensures end { OnOk result (IsAtEnd (S.remaining reader.new)) }
     ensures input { (f : ScriptFault) → result ≡ Err (ThreadsFault.Run (RunFault.Input f)) → IfSome (S.remaining reader.old) (λ input. script_of input ≡ Err f) }
 
+    // On threads a script comes to no checkpoint, whatever its schedule says.
+    ensures under_way { (call : ℕ) → result ≢ Err (ThreadsFault.Run (RunFault.UnderWay call)) }
+
     // A device is blamed only where it failed in this call; after a failed write a beginning of the line stands, and after every
     // other error nothing was written.
     ensures devices { KeepsDevices S.failures W.failures reader.old reader.new writer.old writer.new (ThreadsFault.Run RunFault.Read) (ThreadsFault.Run RunFault.Write) result }

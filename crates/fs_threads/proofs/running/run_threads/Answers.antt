@@ -2,7 +2,7 @@ use Rattle.std.proofs.Common.{refl, subst, Err, ap, ◌≡◌, ◌≢◌, ◌∙
 use Rattle.fs_io.specs.declared.failure.Failure.TheVariants as failure
 use Rattle.fs_script.specs.Script.{script_of}
 use Rattle.fs_verdict.specs.declared.fault.RunFault.{RunFault}
-use Rattle.fs_verdict.specs.declared.fault.RunFault.TheVariants.{Input, Write}
+use Rattle.fs_verdict.specs.declared.fault.RunFault.TheVariants.{Input, Write, UnderWay}
 use Rattle.fs_sched.proofs.RunLemmas.{script_short, known_script}
 use Rattle.fs_threads.specs.Faults.{IsOfInput}
 use Rattle.fs_threads.specs.declared.fault.ThreadsFault.{ThreadsFault}
@@ -29,6 +29,11 @@ pub returns-in-Err-clause-input : goal.returns-in-Err-clause-input
 returns-in-Err-clause-input g c f e =
     let told = c.in-Err.ensures.unmade (Run (Input f)) (ap Err (unmade gives _ _ (Run (Input f)) c.between.ensures (cc) (λ z. cc) (λ z. cc) (λ z. cc))) in
     known_script _ _ _ _ refl told.1 told.2.1.fault
+
+pub returns-in-Err-clause-under_way : goal.returns-in-Err-clause-under_way
+returns-in-Err-clause-under_way g c call e =
+    let told = c.in-Err.ensures.unmade (Run (UnderWay call)) (ap Err (unmade gives _ _ (Run (UnderWay call)) c.between.ensures (cc) (λ z. cc) (λ z. cc) (λ z. cc))) in
+    absurd told.2.1.fault
 
 pub returns-in-Err-clause-beginning : goal.returns-in-Err-clause-beginning
 returns-in-Err-clause-beginning g c e =
