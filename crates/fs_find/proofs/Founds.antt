@@ -1,5 +1,5 @@
 -- The first drawn run that has something.
-use Rattle.std.proofs.Common.{◌≡◌, ℕ, ◌+◌, ◌≤◌, ◌<◌, ltb, Bool, true, false, List, refl, subst, arith}
+use Rattle.std.proofs.Common.{◌≡◌, ℕ, ◌+◌, ◌≤◌, ◌<◌, ltb, Bool, true, false, List, Option, Some, None, Ok, refl, subst, arith}
 use Rattle.std.proofs.lemmas.Bool.{ltb-true, ltb-false}
 use Rattle.fs_script.specs.Script.{script_of}
 use Rattle.fs_script.specs.declared.script.Script.{Script}
@@ -10,7 +10,12 @@ use Rattle.fs_sched.specs.declared.schedule.Schedule.TheVariants.{Seeded}
 use Rattle.fs_sched.proofs.Drawn.{never_under_way}
 use Rattle.fs_verdict.specs.declared.fault.RunFault.{RunFault}
 use Rattle.fs_verdict.specs.declared.fault.RunFault.TheVariants as faults
-use Rattle.fs_find.specs.Finds.{RunHas}
+use Rattle.fs_trace.specs.declared.fault.ScheduleFault.{ScheduleFault}
+use Rattle.fs_trace.specs.declared.fault.ScheduleFault.TheVariants.{Run, TooManyEvents, TooLong}
+use Rattle.fs_find.specs.Faults.{IsFaultOfFind}
+use Rattle.fs_find.specs.Finds.{RunHas, IsFound}
+use Rattle.fs_find.specs.code.Mades.{IsNotWritten}
+use Rattle.fs_find.specs.declared.fault.FindFault.TheVariants.{Schedule}
 use Rattle.fs_find.specs.declared.what.Clause.{Clause}
 
 -- one run more that has it not
@@ -31,15 +36,18 @@ only_memory n script faults.OutOfMemory stop = refl
 only_memory n script faults.Full stop = absurd stop
 only_memory n script (faults.UnderWay c) stop = absurd (never_under_way n script c stop)
 
--- the input has no script
-pub of_input : (n : ℕ) (input : List ℕ) (fault : RunFault) → IsFaultOf (script_of input) fault → IsFaultOfRun (Seeded n) input fault
-of_input n input (faults.Input f) is = is
-of_input n input faults.Read is = is
-of_input n input faults.Write is = is
-of_input n input faults.OutOfMemory is = is
-of_input n input faults.Full is = is
-of_input n input (faults.UnderWay c) is = absurd is
+-- a drawn run comes to no checkpoint, so its faults are those of the input
+of_drawn : (n : ℕ) (input : List ℕ) (fault : RunFault) → IsFaultOfRun (Seeded n) input fault → IsFaultOf (script_of input) fault
+of_drawn n input (faults.Input f) is = is
+of_drawn n input faults.Read is = is
+of_drawn n input faults.Write is = is
+of_drawn n input faults.OutOfMemory is = is
+of_drawn n input faults.Full is = is
+of_drawn n input (faults.UnderWay c) (script, is, stop) = absurd (never_under_way n script c stop)
 
--- a drawn run comes to no checkpoint
-pub no_stop : (n : ℕ) (input : List ℕ) (c : ℕ) → IsFaultOfRun (Seeded n) input (faults.UnderWay c) → ⊥
-no_stop n input c (script, is, stop) = never_under_way n script c stop
+-- the run that was found is not written
+pub of_found : (what : List Clause) (seed runs : ℕ) (input : List ℕ) (script : Script) (found : Option ℕ) (fault : ScheduleFault) → script_of input ≡ Ok script → IsFound script what seed runs found → IsNotWritten input found fault → IsFaultOfFind what seed runs input (Schedule fault)
+of_found what seed runs input script None fault is first none = absurd none
+of_found what seed runs input script (Some n) (Run fault) is first none = of_drawn n input fault none
+of_found what seed runs input script (Some n) TooManyEvents is first none = (script, is, n, first, none)
+of_found what seed runs input script (Some n) TooLong is first none = (script, is, n, first, none)

@@ -8,19 +8,19 @@ ghost use Rattle.fs_script.specs.declared.limits.TheConstants.{CALL_LIMIT};
 ghost use Rattle.fs_sched.specs.Devices.{KeepsDevices, WritesBeginning};
 ghost use Rattle.fs_sched.specs.Runs.{calls_in};
 ghost use Rattle.fs_sched.specs.code.Done.{IsStop};
-ghost use Rattle.fs_trace.specs.Faults.{IsFaultOfSchedule};
 ghost use Rattle.fs_trace.specs.declared.fault.ScheduleFault.TheVariants as schedule;
+ghost use Rattle.fs_find.specs.Faults.{LacksRoom};
 ghost use Rattle.fs_find.specs.Finds.{RunHas, IsFound, IsSearchOf, IsWritten, LacksCall};
-ghost use Rattle.fs_find.specs.code.Mades.{MakesFound};
+ghost use Rattle.fs_find.specs.code.Mades.{IsNotWritten, MakesFound};
 
 use crate::fault::FindFault;
 use crate::having::has;
 use crate::lives::Lives;
 use crate::what::{Clause, names_calls};
-use fs_io::{Device, Made, Sink, Source, transform};
+use fs_io::{Made, Sink, Source, transform};
 use fs_sched::{RunFault, SEED_LIMIT, Schedule, Witness, between, script_in, watch};
 use fs_script::Script;
-use fs_trace::{ScheduleFault, schedule_script};
+use fs_trace::{ScheduleFault, schedule_bytes};
 use std::alloc::Global;
 
 /// The most drawn runs that are searched.
@@ -74,42 +74,18 @@ fn first_seed<Listener: Witness>(
     Ok(None)
 }
 
-/// Why the script with a run as its words was not written, where that was to be made in memory.
-fn unwritten(fault: ScheduleFault) -> ScheduleFault
-    ensures { (input : List ℕ) → IsFaultOfSchedule (Schedule.Seeded 0) input result }
-{
-    match fault {
-        ScheduleFault::TooManyEvents => ScheduleFault::TooManyEvents,
-        ScheduleFault::TooLong => ScheduleFault::TooLong,
-        ScheduleFault::Run(_) => ScheduleFault::Run(RunFault::OutOfMemory),
-    }
-}
-
-/// The text of the script with the run that is drawn from a number as its words.
-fn scheduled(alloc: Global, text: &[u8], seed: u64) -> Result<Vec<u8>, ScheduleFault>
-    ensures written { IfOk result (λ written. IsWritten text.now (Some seed) written.items) }
-    ensures fault { IfErr result (IsFaultOfSchedule (Schedule.Seeded 0) text.now) }
-{
-    let mut reader = Device::new(text);
-    let mut writer = Device::new(Vec::new(alloc));
-    match schedule_script(alloc, &mut reader, &mut writer, Schedule::Seeded(seed)) {
-        Ok(()) => Ok(writer.inner),
-        Err(fault) => Err(unwritten(fault)),
-    }
-}
-
-/// The same with the number found; no text where none is found.
+/// The text of the script with the run that is drawn from the number found as its words; no text where none is found.
 fn text_of_found(alloc: Global, text: &[u8], found: Option<u64>) -> Result<Vec<u8>, ScheduleFault>
     ensures written { IfOk result (λ made. IsWritten text.now found made.items) }
-    ensures fault { IfErr result (IsFaultOfSchedule (Schedule.Seeded 0) text.now) }
+    ensures fault { IfErr result (IsNotWritten text.now found) }
 {
     match found {
-        Some(seed) => scheduled(alloc, text, seed),
+        Some(seed) => schedule_bytes(alloc, text, Schedule::Seeded(seed)),
         None => Ok(Vec::new(alloc)),
     }
 }
 
-/// The same of the script that a text has.
+/// The text of the first run of the script that a text has, and the number from which it is drawn.
 fn found_in<Listener: Witness>(
     alloc: Global,
     text: &[u8],
@@ -162,6 +138,12 @@ pub fn find_seed<R: Source, W: Sink, Listener: Witness>(
     ensures no_call { result ≡ Err FindFault.NoCall → IfSome (R.remaining reader.old) (LacksCall what.now) }
     ensures full { result ≢ Err (FindFault.Schedule (schedule.Run RunFault.Full)) }
     ensures under_way { (call : ℕ) → result ≢ Err (FindFault.Schedule (schedule.Run (RunFault.UnderWay call))) }
+
+    // A script has no room for the first run that has what is said: for its events, or for the bytes of these as words.
+    ensures too_many { result ≡ Err (FindFault.Schedule schedule.TooManyEvents)
+        → IfSome (R.remaining reader.old) (λ input. LacksRoom what.now seed runs input schedule.TooManyEvents) }
+    ensures too_long { result ≡ Err (FindFault.Schedule schedule.TooLong)
+        → IfSome (R.remaining reader.old) (λ input. LacksRoom what.now seed runs input schedule.TooLong) }
 
     // A device is blamed only where it failed in this call; after a failed write a beginning of the text stands, and after every
     // other error nothing was written.

@@ -6,13 +6,21 @@ use Rattle.fs_script.specs.Script.{script_of}
 use Rattle.fs_script.specs.declared.script.Script.{Script}
 use Rattle.std.specs.Prelude.{Ok}
 use Rattle.fs_sched.specs.Watching.{Watches}
+use Rattle.fs_sched.specs.Moments.{TellsRun}
+use Rattle.fs_sched.specs.Runs.{Stage}
 use Rattle.fs_sched.specs.declared.schedule.Schedule.{Schedule}
 use Rattle.fs_sched.specs.declared.watching.Ran.{Ran}
 use Rattle.fs_story.specs.code.Waiting.{GoesOn, HasShown}
 use Rattle.fs_story.specs.declared.story.Teller.{Teller}
+use Rattle.fs_trace.specs.Faults.{IsFaultOfSchedule}
 use Rattle.fs_trace.specs.Traces.{IsTraceOf, IsTraceText}
 use Rattle.fs_trace.specs.code.LineTexts.{HasLines}
+use Rattle.fs_trace.specs.code.Mades.{IsNotHandedOut}
+use Rattle.fs_trace.specs.declared.fault.ScheduleFault.{ScheduleFault}
+use Rattle.fs_trace.specs.declared.fault.ScheduleFault.TheVariants.{Run, TooManyEvents, TooLong}
 use Rattle.fs_trace.specs.declared.trace_text.TraceLines.{TraceLines}
+use Rattle.fs_verdict.specs.declared.fault.RunFault.TheVariants as run
+use Rattle.fs_witness.specs.declared.moments.Moment.{Moment}
 
 -- what a teller has shown of a run is what the run's moments are
 pub told_all : (every : Bool) (schedule : Schedule) (script : Script) (start : TraceLines) (old new : Teller TraceLines) (ran : Ran) → HasShown HasLines every start old []
@@ -31,3 +39,14 @@ trace_made schedule every text made script old new ran is w trace = (
   w.end,
   subst (λ (s : State). IsTraceText every script.names w.moments s made) (sym w.core) trace,
 )
+
+-- a script that was not handed out, with the moments of a run as its words
+pub not_made : (schedule : Schedule) (input : List ℕ) (script : Script) (ms : List Moment) (last : Stage) (fault : ScheduleFault) → script_of input ≡ Ok script → TellsRun schedule script ms last → IsNotHandedOut input script.names ms fault → IsFaultOfSchedule schedule input fault
+not_made schedule input script ms last (Run (run.Input f)) is tells none = absurd none
+not_made schedule input script ms last (Run run.Read) is tells none = absurd none
+not_made schedule input script ms last (Run run.Write) is tells none = absurd none
+not_made schedule input script ms last (Run run.OutOfMemory) is tells none = tt
+not_made schedule input script ms last (Run run.Full) is tells none = absurd none
+not_made schedule input script ms last (Run (run.UnderWay c)) is tells none = absurd none
+not_made schedule input script ms last TooManyEvents is tells none = absurd none
+not_made schedule input script ms last TooLong is tells (text, written, long) = (text, (script, is, ms, last, tells, written), long)

@@ -29,7 +29,7 @@ use Rattle.fs_sched.proofs.Staging.{call_past}
 use Rattle.fs_sched.proofs.Telling.{moment_does, words_told, regrouped, run_told}
 use Rattle.fs_sched.proofs.Whole.{ListFacts, kept_start, words_keep}
 use Rattle.fs_trace.specs.Traces.{busy_event, busy_word, busy_words, HasSameRun, IsReadBack}
-use Rattle.fs_trace.specs.code.WordTexts.{AreTimed, HasWords, IsWritten}
+use Rattle.fs_trace.specs.code.WordTexts.{AreTimed, AreAllWords, HasWords, IsWritten}
 use Rattle.fs_trace.specs.declared.script_text.RunWords.{RunWords}
 use Rattle.fs_trace.proofs.Rereading.{read_again}
 
@@ -158,24 +158,40 @@ seats_given n (word.Events seat times ∷ words) (some, timed) a = (first_there 
 seats_given n (word.Checkpoint ∷ words) timed a = seats_given n words timed a
 seats_given n (word.Finish ∷ words) timed a = absurd timed
 
+-- one moment more gives as many events more as its word
+more_events : (ms : List Moment) (m : Moment) → events_in (busy_words (ms ++ m ∷ [])) ≡ events_in (busy_words ms) + events_in (busy_word m)
+more_events ms m =
+    let words : busy_words (ms ++ m ∷ []) ≡ busy_words ms ++ busy_words (m ∷ []) = flat_map-append busy_word ms (m ∷ []) in
+    let one : events_in (busy_words (m ∷ [])) ≡ events_in (busy_word m) = ap events_in (append-nil (busy_word m)) in
+    let sum : events_in (busy_words (ms ++ m ∷ [])) ≡ events_in (busy_words ms) + events_in (busy_words (m ∷ [])) = ap events_in words ∙ events_append (busy_words ms) (busy_words (m ∷ [])) in
+    omega (arith, one, sum)
+
+-- a moment more, where the events are too many with it
+pub moment_past : (old new : RunWords) (ms : List Moment) (m : Moment) → HasWords old ms → new.events ≤ old.events + events_in (busy_word m) → EVENT_LIMIT < new.events → HasWords new (ms ++ m ∷ [])
+moment_past old new ms m has most many = record {
+  most = omega (arith, more_events ms m, most, has.most);
+  all = λ few. absurd (omega (arith, few, many));
+}
+
 -- a moment more, and its word
 pub moment_more : (old new : RunWords) (ms : List Moment) (m : Moment) → HasWords old ms → given_words new.words.items ≡ given_words old.words.items ++ busy_words (m ∷ []) → (AreTimed old.words.items → AreTimed new.words.items)
     → new.events ≡ old.events + events_in (busy_word m) → new.events ≤ EVENT_LIMIT → HasWords new (ms ++ m ∷ [])
 moment_more old new ms m has given timed counted few =
     let words : busy_words (ms ++ m ∷ []) ≡ busy_words ms ++ busy_words (m ∷ []) = flat_map-append busy_word ms (m ∷ []) in
-    let one : events_in (busy_words (m ∷ [])) ≡ events_in (busy_word m) = ap events_in (append-nil (busy_word m)) in
-    let sum : events_in (busy_words (ms ++ m ∷ [])) ≡ events_in (busy_words ms) + events_in (busy_words (m ∷ [])) = ap events_in words ∙ events_append (busy_words ms) (busy_words (m ∷ [])) in
-    record {
-      given = given ∙ ap (λ (l : List Word). l ++ busy_words (m ∷ [])) has.given ∙ sym words;
-      timed = timed has.timed;
-      counted = omega (arith, one, sum, counted, has.counted);
-      few = few;
+    let before : AreAllWords old ms = has.all (omega (arith, counted, few)) in record {
+      most = omega (arith, more_events ms m, counted, has.most);
+      all = λ small. record {
+        given = given ∙ ap (λ (l : List Word). l ++ busy_words (m ∷ [])) before.given ∙ sym words;
+        timed = timed before.timed;
+        counted = omega (arith, more_events ms m, counted, before.counted);
+        few = few;
+      };
     }
 
 -- ---- the whole
 
 -- what was written is read back
-pub read_back : (schedule : Schedule) (input text : List ℕ) (script : Script) (run : RunWords) (ms : List Moment) (last : Stage) → script_of input ≡ Ok script → TellsRun schedule script ms last → HasWords run ms → IsWritten input script.names run.words.items text → length text ≤ 16777216 → IsReadBack schedule input text
+pub read_back : (schedule : Schedule) (input text : List ℕ) (script : Script) (run : RunWords) (ms : List Moment) (last : Stage) → script_of input ≡ Ok script → TellsRun schedule script ms last → AreAllWords run ms → IsWritten input script.names run.words.items text → length text ≤ 16777216 → IsReadBack schedule input text
 read_back schedule input text script run ms last is tells has written short =
     let words : List Word = run.words.items in
     let seats : SeatsAreThere (length script.lists) (busy_words ms) = moments_there script.lists [] _ last ms (run_moments schedule script ms last tells) (kept_start script.limits script.lists) in

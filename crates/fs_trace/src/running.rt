@@ -6,7 +6,7 @@ ghost use Rattle.fs_words.specs.declared.fault.ScriptFault.{ScriptFault};
 ghost use Rattle.fs_script.specs.Script.{script_of};
 ghost use Rattle.fs_sched.specs.Devices.{KeepsDevices, WritesBeginning};
 ghost use Rattle.fs_sched.specs.Runs.{IsFaultOfRun, ReachesStop};
-ghost use Rattle.fs_trace.specs.Faults.{IsFaultOfSchedule};
+ghost use Rattle.fs_trace.specs.Faults.{HasTooManyEvents, IsFaultOfSchedule, IsTooLongWritten};
 ghost use Rattle.fs_trace.specs.Traces.{IsReadBack, IsScheduleOf, IsTraceOf};
 ghost use Rattle.fs_trace.specs.code.Mades.{MakesSchedule, MakesTrace};
 
@@ -63,11 +63,10 @@ fn schedule_of(alloc: Global, text: &[u8], schedule: Schedule) -> Result<Made<()
 {
     let script = script_in(alloc, text)?;
     let mut words = RunWords::new(alloc);
-    let ran = watch(alloc, &script, schedule, &mut words);
+    watch(alloc, &script, schedule, &mut words)?;
     if words.are_too_many() {
         return Err(ScheduleFault::TooManyEvents);
     }
-    ran?;
     let text = script_text(alloc, text, &script, words)?;
     Ok(Made { text, end: () })
 }
@@ -79,6 +78,7 @@ pub fn schedule_bytes(
     schedule: Schedule,
 ) -> Result<Vec<u8>, ScheduleFault>
     ensures scheduled { IfOk result (λ text. IsScheduleOf schedule script.now text.items) }
+    ensures again { IfOk result (λ text. IsReadBack schedule script.now text.items) }
     ensures fault { IfErr result (IsFaultOfSchedule schedule script.now) }
 {
     match schedule_of(alloc, script, schedule) {
@@ -164,6 +164,10 @@ pub fn schedule_script<R: Source, W: Sink>(
     // `UnderWay` comes where the script comes to a checkpoint while calls are under way; then it has no run.
     ensures under_way { (call : ℕ) → result ≡ Err (ScheduleFault.Run (RunFault.UnderWay call))
         → IfSome (R.remaining reader.old) (λ input. ReachesStop schedule input (RunFault.UnderWay call)) }
+
+    // A script has no room for the run: it takes too many events, or the script with these as its words has too many bytes.
+    ensures too_many { result ≡ Err ScheduleFault.TooManyEvents → IfSome (R.remaining reader.old) (HasTooManyEvents schedule) }
+    ensures too_long { result ≡ Err ScheduleFault.TooLong → IfSome (R.remaining reader.old) (IsTooLongWritten schedule) }
 
     // A device is blamed only where it failed in this call; after a failed write a beginning of the text stands, and after every
     // other error nothing was written.

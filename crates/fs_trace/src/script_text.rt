@@ -6,9 +6,8 @@ ghost use Rattle.fs_script.specs.declared.limits.TheConstants.{EVENT_LIMIT};
 ghost use Rattle.fs_witness.specs.declared.moments.Moment.{Moment};
 ghost use Rattle.fs_sched.specs.Gives.{single_words, given_words};
 ghost use Rattle.fs_sched.specs.Schedules.{one_event};
-ghost use Rattle.fs_sched.specs.declared.schedule.Schedule.{Schedule};
-ghost use Rattle.fs_trace.specs.Faults.{IsFaultOfSchedule};
 ghost use Rattle.fs_trace.specs.Traces.{busy_event, busy_word, busy_words, times_text, word_text, AreWordTexts, IsGap, IsScheduleText};
+ghost use Rattle.fs_trace.specs.code.Mades.{IsNotHandedOut};
 ghost use Rattle.fs_trace.specs.code.WordTexts.{is_schedule, AddsWords, AreTimed, HasHead, HasWords, IsBeginning, IsGapBehind, IsWritten};
 ghost use Rattle.fs_words.specs.declared.limits.TheConstants.{TEXT_LIMIT};
 
@@ -79,7 +78,8 @@ fn push_moment(moment: &Moment, words: &mut Vec<Word>) -> Result<(), AllocError>
     }
 }
 
-/// The words of a run's moments so far, without idle turns, and how many events they give.
+/// The words of a run's moments so far, without idle turns, and how many events they give. Once these are more than a script may
+/// give, no more words are kept.
 #[derive(Drop)]
 pub(crate) struct RunWords {
     words: Vec<Word>,
@@ -110,11 +110,11 @@ impl Witness for RunWords {
 
     fn begins(&mut self, _calls: usize) {}
 
-    /// A run that takes more events than a script may give ends there.
+    /// A run that takes more events than a script may give goes on, so that they are known to be those of a run.
     fn saw(&mut self, _core: &Core, moment: Moment) -> Result<(), AllocError> {
         self.events = self.events.saturating_add(events_of(&moment));
         if self.are_too_many() {
-            return Err(AllocError);
+            return Ok(());
         }
         push_moment(&moment, &mut self.words)
     }
@@ -263,7 +263,8 @@ pub(crate) fn script_text(
         → IfOk result (λ text. IsScheduleText input.now script.now.names moments text.items) }
     ensures written { IfOk result (λ text. IsWritten input.now script.now.names words.words.items text.items) }
     ensures short { IfOk result (λ text. length text.items ≤ TEXT_LIMIT) }
-    ensures fault { (schedule : Schedule) (given : List ℕ) → IfErr result (IsFaultOfSchedule schedule given) }
+    ensures fault { (moments : List Moment) → given_words words.words.items ≡ busy_words moments
+        → IfErr result (IsNotHandedOut input.now script.now.names moments) }
 {
     match with_words(alloc, input, &script.names, words.words.as_slice()) {
         Ok(text) if text.len() > TEXT_LIMIT => Err(ScheduleFault::TooLong),

@@ -1,13 +1,17 @@
 -- What is made of the text of an input, before it is written.
-use Rattle.std.specs.Prelude.{ℕ, Bool, List, Result, IfOk, IfErr}
+use Rattle.std.specs.Prelude.{ℕ, ◌<◌, Bool, List, length, Result, IfOk, IfErr}
 use Rattle.fs_io.specs.declared.shell.Made.{Made}
 use Rattle.fs_verdict.specs.declared.fault.RunFault.{RunFault}
+use Rattle.fs_verdict.specs.declared.fault.RunFault.TheVariants.{OutOfMemory}
+use Rattle.fs_witness.specs.declared.moments.Moment.{Moment}
+use Rattle.fs_words.specs.declared.limits.TheConstants.{TEXT_LIMIT}
 use Rattle.fs_sched.specs.declared.running.RunEnd.{RunEnd}
 use Rattle.fs_sched.specs.declared.schedule.Schedule.{Schedule}
 use Rattle.fs_sched.specs.Runs.{IsFaultOfRun}
 use Rattle.fs_trace.specs.Faults.{IsFaultOfSchedule}
-use Rattle.fs_trace.specs.Traces.{IsTraceOf, IsScheduleOf, IsReadBack}
+use Rattle.fs_trace.specs.Traces.{IsTraceOf, IsScheduleText, IsScheduleOf, IsReadBack}
 use Rattle.fs_trace.specs.declared.fault.ScheduleFault.{ScheduleFault}
+use Rattle.fs_trace.specs.declared.fault.ScheduleFault.TheVariants.{Run, TooManyEvents, TooLong}
 
 -- the trace of a run, and how that ended; or why there is none
 pub record MakesTrace (schedule : Schedule) (every : Bool) (input : List ℕ) (result : Result (Made RunEnd) RunFault) : Type 0 where
@@ -19,3 +23,10 @@ pub record MakesSchedule (schedule : Schedule) (input : List ℕ) (result : Resu
   pub script : IfOk result (λ made. IsScheduleOf schedule input made.text.items)
   pub again : IfOk result (λ made. IsReadBack schedule input made.text.items)
   pub fault : IfErr result (IsFaultOfSchedule schedule input)
+
+-- why a script's text with the moments of a run as its words is not handed out: it is too long, or out of memory
+abbrev pub IsNotHandedOut : List ℕ → List (List ℕ) → List Moment → ScheduleFault → Type 0
+IsNotHandedOut input names ms (Run OutOfMemory) = Unit {0}
+IsNotHandedOut input names ms (Run fault) = ⊥
+IsNotHandedOut input names ms TooManyEvents = ⊥
+IsNotHandedOut input names ms TooLong = (text : List ℕ) × IsScheduleText input names ms text × (TEXT_LIMIT < length text)

@@ -22,12 +22,17 @@ AreTimed (word.Events seat times ∷ words) = (1 ≤ times) × AreTimed words
 AreTimed (word.Checkpoint ∷ words) = AreTimed words
 AreTimed (word.Finish ∷ words) = ⊥
 
--- the words of moments, and how many events they give, for which a script has room
-pub record HasWords (run : RunWords) (ms : List Moment) : Type 0 where
+-- all words of moments, where a script has room for them
+pub record AreAllWords (run : RunWords) (ms : List Moment) : Type 0 where
   pub given : given_words run.words.items ≡ busy_words ms
   pub timed : AreTimed run.words.items
   pub counted : events_in (busy_words ms) ≤ run.events
   pub few : run.events ≤ EVENT_LIMIT
+
+-- the words of moments, and how many events they give: once these are too many for a script, no more than they are
+pub record HasWords (run : RunWords) (ms : List Moment) : Type 0 where
+  pub most : run.events ≤ events_in (busy_words ms)
+  pub all : run.events ≤ EVENT_LIMIT → AreAllWords run ms
 
 -- ---- words that are written
 

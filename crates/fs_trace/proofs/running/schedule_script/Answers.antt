@@ -4,10 +4,10 @@ use Rattle.fs_verdict.specs.declared.fault.RunFault.{RunFault}
 use Rattle.fs_verdict.specs.declared.fault.RunFault.TheVariants as run
 use Rattle.fs_sched.proofs.Reasons.{known, known_stop}
 use Rattle.fs_sched.proofs.RunLemmas.{known_script, script_short}
-use Rattle.fs_trace.specs.Faults.{IsFaultOfSchedule}
+use Rattle.fs_trace.specs.Faults.{HasTooManyEvents, IsTooLongWritten, IsFaultOfSchedule}
 use Rattle.fs_trace.specs.Traces.{IsReadBack, IsScheduleOf}
 use Rattle.fs_trace.specs.declared.fault.ScheduleFault.{ScheduleFault}
-use Rattle.fs_trace.specs.declared.fault.ScheduleFault.TheVariants.{Run}
+use Rattle.fs_trace.specs.declared.fault.ScheduleFault.TheVariants.{Run, TooManyEvents, TooLong}
 use Rattle.fs_verdict.proofs.Unmade.{unmade, unwritten}
 use Rattle.fs_trace.proofs.running.schedule_script.Goals as goal
 
@@ -43,6 +43,18 @@ pub returns-in-Err-clause-under_way : goal.returns-in-Err-clause-under_way
 returns-in-Err-clause-under_way g c call e =
     let told = c.in-Err.ensures.unmade (Run (run.UnderWay call)) (ap Err (unmade gives _ _ (Run (run.UnderWay call)) c.between.ensures (cc) (λ z. cc) (λ z. cc) (λ z. cc))) in
     known_stop _ _ _ c.args.schedule (run.UnderWay call) refl told.1 told.2.1.fault
+
+pub returns-in-Err-clause-too_many : goal.returns-in-Err-clause-too_many
+returns-in-Err-clause-too_many g c e =
+    let told = c.in-Err.ensures.unmade TooManyEvents (ap Err (unmade gives _ _ TooManyEvents c.between.ensures (cc) (λ z. cc) (λ z. cc) (λ z. cc))) in
+    let many = told.2.1.fault in
+    known (HasTooManyEvents c.args.schedule) _ _ _ refl (script_short _ _ _ refl many.1) told.1 many
+
+pub returns-in-Err-clause-too_long : goal.returns-in-Err-clause-too_long
+returns-in-Err-clause-too_long g c e =
+    let told = c.in-Err.ensures.unmade TooLong (ap Err (unmade gives _ _ TooLong c.between.ensures (cc) (λ z. cc) (λ z. cc) (λ z. cc))) in
+    let long = told.2.1.fault in
+    known (IsTooLongWritten c.args.schedule) _ _ _ refl (script_short _ _ _ refl long.1.1) told.1 long
 
 pub returns-in-Err-clause-beginning : goal.returns-in-Err-clause-beginning
 returns-in-Err-clause-beginning g c e =
