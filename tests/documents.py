@@ -483,7 +483,7 @@ class Commands(Page):
         """What comes of a command on the worked example."""
         text, robin, drawn = (HELPED.with_suffix(ending).read_bytes() for ending in (".text", ".robin.text", ".drawn.text"))
         helps = {name: (DATA / "help" / name).read_bytes() for name in ("atomfs", "run")}
-        version = re.search(r'VERSION: &str = "(.*)"', source("fs_command/src/cli.rt"))[1]
+        version = re.search(r'VERSION: &str = "(.*)"', source("fs_arguments/src/cli.rt"))[1]
         return {
             "run": text,
             "run --robin": robin,

@@ -301,7 +301,7 @@ class Numbers(Case):
     def test_versions(self):
         """One version stands in the header, the program, the packages and the list of changes."""
         rows = (
-            ("the program", CRATES / "fs_command" / "src" / "cli.rt", r'VERSION: &str = "(.*)"'),
+            ("the program", CRATES / "fs_arguments" / "src" / "cli.rt", r'VERSION: &str = "(.*)"'),
             ("pyproject.toml", BINDINGS / "python" / "pyproject.toml", r'^version = "(.*)"'),
             ("the package for Python", BINDINGS / "python" / "src" / "atomfs" / "__init__.py", r'^__version__ = "(.*)"'),
             ("Cargo.toml", BINDINGS / "rust" / "Cargo.toml", r'^version = "(.*)"'),

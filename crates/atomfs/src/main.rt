@@ -3,25 +3,26 @@
 //! threads on real ones, `atomfs check` reads a journal there, `atomfs tree` a journal or a script, and `atomfs linearize` a
 //! history; each writes what came of it. `atomfs explain` writes what the words of a message mean.
 //!
-//! `fs_command` reads the command line and has the exit statuses. Each part is proved to mean what its clauses say. The
+//! `fs_arguments` reads the command line, and `fs_command` has the exit statuses. Each part is proved to mean what its clauses say. The
 //! program from its arguments to its status, and the words of the messages, are tested.
 #![tactic(auto)]
 
 ghost use Rattle.std.specs.Prelude.{◌-◌, ◌<◌, ◌≤◌, ◌^◌};
-ghost use Rattle.fs_command.specs.Commands.{IsWithin};
+ghost use Rattle.fs_arguments.specs.Commands.{IsWithin};
 ghost use Rattle.fs_sched.specs.declared.seeding.TheConstants.{SEED_LIMIT};
 ghost use Rattle.fs_find.specs.declared.finding.TheConstants.{SEARCH_LIMIT};
 
 #[cfg(test)]
 mod tests;
 
+use fs_arguments::{Histories, Subcommand, parse};
 use fs_command::{
-    Histories, Line, SharedLine, Subcommand, Topic, explanation, parse, report, report_check,
-    report_draw, report_file, report_find, report_from, report_linearize, report_many,
-    report_schedule, report_tree, report_words, status_of_run, status_of_unreadable_args,
-    status_of_usage, status_of_verdict,
+    Line, SharedLine, report, report_check, report_draw, report_file, report_find, report_from,
+    report_linearize, report_many, report_schedule, report_tree, report_words, status_of_run,
+    status_of_unreadable_args, status_of_usage, status_of_verdict,
 };
 use fs_draw::{DrawFault, draw_input};
+use fs_explain::{Topic, explanation};
 use fs_find::{Clause, FindFault, find_seed, read_what};
 use fs_outcomes::{Form, add_outcomes, run_outcomes};
 use fs_recorded::{linearize_history, linearize_many};

@@ -1,0 +1,252 @@
+//! What the command line asks for, read of what `clap` matched.
+
+ghost use Rattle.std.specs.Prelude.{◌≡◌, ◌≤◌, ℕ, Bool, List, true, false, Some, None, IfSome, codes};
+ghost use Rattle.std.specs.Option.{ForSome};
+ghost use Rattle.clap.specs.Matches.{first_value, found_of, one_text, subcommand_name_of};
+ghost use Rattle.fs_arguments.specs.Commands.{AsksBefore, AsksWho, IsFlagOf, IsFormOf, IsNumberOf, IsSearch, IsSearched, IsWithin, name_of};
+ghost use Rattle.fs_explain.specs.Topics.{word_of};
+
+use clap::ArgMatches;
+use fs_explain::{Topic, topic_of};
+use fs_find::SEARCH_LIMIT;
+use fs_outcomes::{Form, OUTCOME_LIMIT};
+use fs_recorded::CONFIGURATION_LIMIT;
+use fs_replay::Asked;
+use fs_sched::{RUN_LIMIT, SEED_LIMIT, Schedule};
+
+/// How many configurations `linearize` makes where no limit is given.
+pub const CONFIGURATIONS: u64 = 10_000_000;
+
+/// What is written of histories.
+#[derive(Clone, Copy, Debug, PartialEq, Eq)]
+pub enum Histories {
+    /// The journal that explains one, or the line that says why there is none.
+    Whole,
+    /// The same; with `none` the journal up to the return that nothing explains.
+    Front,
+    /// Of histories one after the other a line each, and counts.
+    Many,
+}
+
+/// What the command line asks for.
+#[derive(Clone, Copy, Debug, PartialEq, Eq)]
+pub enum Subcommand<'a> {
+    /// A run of a script by a schedule; and the file that has the tree at which it starts, where that is more than the root.
+    Run(Schedule, Option<&'a str>),
+    /// Runs of a script that are drawn from a number, the next one, and so on: the number, and how many.
+    Seeds(u64, u64),
+    /// The ends of such runs, how often each came, and what is written of them.
+    Outcomes(u64, u64, Form),
+    /// The same, added up from lines of pieces.
+    AddedOutcomes(Form),
+    /// The first of so many such runs that has what is said.
+    Find(&'a str, u64, u64),
+    /// What is asked of the trees of a journal, or of a script's run by a schedule.
+    Tree(Schedule, Asked<'a>),
+    /// The calls of a script on real threads.
+    Threads,
+    /// The verdict on a journal.
+    Check,
+    /// What is found of histories, where no more configurations are made than this.
+    Linearize(Histories, u64),
+    /// The events of a script's run by a schedule, in words; and whether each is told, or those alone that tell something new.
+    Trace(Schedule, bool),
+    /// A picture of a script's run by a schedule, or of a journal; and the number of the call around which is drawn.
+    Draw(Schedule, Option<u64>),
+    /// A script again, with the events of its run by a schedule as its words.
+    Schedule(Schedule),
+    /// What one word of a message means, or two.
+    Explain(Topic, Option<Topic>),
+}
+
+/// The number that the option with an identifier gives.
+fn number_given<'a>(matches: &ArgMatches<'a>, id: &str) -> Option<u64>
+    ensures given { (n : ℕ) → IsNumberOf (found_of matches.now) id.now n → result ≡ Some n }
+    ensures none { one_text (found_of matches.now) id.now ≡ None → result ≡ None }
+{
+    matches.get_one::<u64>(id)
+}
+
+/// Whether the flag with an identifier is given.
+fn flag_given<'a>(matches: &ArgMatches<'a>, id: &str) -> bool
+    ensures { (given : Bool) → IsFlagOf (found_of matches.now) id.now given → result ≡ given }
+{
+    matches.get_flag(id)
+}
+
+/// The schedule of a run.
+fn schedule_of<'a>(matches: &ArgMatches<'a>) -> Schedule
+    ensures robin { one_text (found_of matches.now) (codes "robin") ≡ Some (codes "true") → result ≡ Schedule.RoundRobin }
+    ensures given { one_text (found_of matches.now) (codes "robin") ≡ Some (codes "false") → one_text (found_of matches.now) (codes "seed") ≡ None → result ≡ Schedule.Given }
+    ensures seeded { (n : ℕ) → one_text (found_of matches.now) (codes "robin") ≡ Some (codes "false") → IsNumberOf (found_of matches.now) (codes "seed") n → result ≡ Schedule.Seeded n }
+{
+    if matches.get_flag("robin") {
+        return Schedule::RoundRobin;
+    }
+    match number_given(matches, "seed") {
+        Some(seed) => Schedule::Seeded(seed),
+        None => Schedule::Given,
+    }
+}
+
+/// The numbers of drawn runs. `clap` has read them within their ranges, and here they are looked at once more.
+fn seeds_of<'a>(matches: &ArgMatches<'a>) -> Option<Subcommand<'a>>
+    ensures within { ForSome result IsWithin }
+    ensures name { IfSome result (λ command. name_of command ≡ codes "seeds") }
+    ensures some { (seed runs : ℕ) → IsNumberOf (found_of matches.now) (codes "seed") seed → IsNumberOf (found_of matches.now) (codes "runs") runs
+        → IsWithin (Subcommand.Seeds seed runs) → result ≡ Some (Subcommand.Seeds seed runs) }
+{
+    let seed = number_given(matches, "seed")?;
+    let runs = number_given(matches, "runs")?;
+    if seed > SEED_LIMIT || runs < 1 || runs > RUN_LIMIT {
+        return None;
+    }
+    Some(Subcommand::Seeds(seed, runs))
+}
+
+/// What is written of the ends of runs.
+fn form_of<'a>(matches: &ArgMatches<'a>) -> Form
+    ensures all { one_text (found_of matches.now) (codes "all") ≡ Some (codes "true") → result.all ≡ true }
+    ensures few { one_text (found_of matches.now) (codes "all") ≡ Some (codes "false") → result.all ≡ false }
+    ensures trees { one_text (found_of matches.now) (codes "trees") ≡ Some (codes "true") → result.trees ≡ true }
+    ensures lines { one_text (found_of matches.now) (codes "trees") ≡ Some (codes "false") → result.trees ≡ false }
+{
+    Form {
+        all: matches.get_flag("all"),
+        trees: matches.get_flag("trees"),
+    }
+}
+
+/// The numbers of drawn runs whose ends are counted, or that lines are added up. `clap` has read the numbers within their
+/// ranges, and here they are looked at once more.
+fn outcomes_of<'a>(matches: &ArgMatches<'a>) -> Option<Subcommand<'a>>
+    ensures within { ForSome result IsWithin }
+    ensures name { IfSome result (λ command. name_of command ≡ codes "outcomes") }
+    ensures added { (form : Form) → IsFlagOf (found_of matches.now) (codes "add") true → IsFormOf (found_of matches.now) form
+        → result ≡ Some (Subcommand.AddedOutcomes form) }
+    ensures some { (seed runs : ℕ) (form : Form) → IsFlagOf (found_of matches.now) (codes "add") false → IsFormOf (found_of matches.now) form
+        → IsNumberOf (found_of matches.now) (codes "seed") seed → IsNumberOf (found_of matches.now) (codes "runs") runs
+        → IsWithin (Subcommand.Outcomes seed runs form) → result ≡ Some (Subcommand.Outcomes seed runs form) }
+{
+    let form = form_of(matches);
+    if flag_given(matches, "add") {
+        return Some(Subcommand::AddedOutcomes(form));
+    }
+    let seed = number_given(matches, "seed")?;
+    let runs = number_given(matches, "runs")?;
+    if seed > SEED_LIMIT || runs < 1 || runs > OUTCOME_LIMIT {
+        return None;
+    }
+    Some(Subcommand::Outcomes(seed, runs, form))
+}
+
+/// What is searched, in how many runs. `clap` has read the numbers within their ranges, and here they are looked at once more.
+fn find_of<'a>(matches: &ArgMatches<'a>) -> Option<Subcommand<'a>>
+    ensures within { ForSome result IsWithin }
+    ensures name { IfSome result (λ command. name_of command ≡ codes "find") }
+    ensures some { (text : List ℕ) (seed runs : ℕ) → first_value (found_of matches.now) (codes "where") ≡ Some text
+        → IsNumberOf (found_of matches.now) (codes "seed") seed → IsNumberOf (found_of matches.now) (codes "runs") runs
+        → seed ≤ SEED_LIMIT → 1 ≤ runs → runs ≤ SEARCH_LIMIT → IsSearch text seed runs result }
+{
+    let what = matches.get_str("where")?;
+    let seed = number_given(matches, "seed")?;
+    let runs = number_given(matches, "runs")?;
+    if seed > SEED_LIMIT || runs < 1 || runs > SEARCH_LIMIT {
+        return None;
+    }
+    Some(Subcommand::Find(what, seed, runs))
+}
+
+/// What is asked of trees.
+fn asked_of<'a>(matches: &ArgMatches<'a>) -> Asked<'a>
+    ensures at { (n : ℕ) → IsNumberOf (found_of matches.now) (codes "at") n → result ≡ Asked.At n }
+    ensures before { (text : List ℕ) → one_text (found_of matches.now) (codes "at") ≡ None → first_value (found_of matches.now) (codes "before") ≡ Some text
+        → AsksBefore text result }
+    ensures who { (text : List ℕ) → one_text (found_of matches.now) (codes "at") ≡ None → first_value (found_of matches.now) (codes "before") ≡ None
+        → first_value (found_of matches.now) (codes "who") ≡ Some text → AsksWho text result }
+    ensures whole { one_text (found_of matches.now) (codes "at") ≡ None → first_value (found_of matches.now) (codes "before") ≡ None
+        → first_value (found_of matches.now) (codes "who") ≡ None → result ≡ Asked.Whole }
+{
+    if let Some(commits) = number_given(matches, "at") {
+        return Asked::At(commits);
+    }
+    if let Some(call) = matches.get_str("before") {
+        return Asked::Before(call);
+    }
+    match matches.get_str("who") {
+        Some(path) => Asked::Who(path),
+        None => Asked::Whole,
+    }
+}
+
+/// What is written of histories.
+fn histories_of<'a>(matches: &ArgMatches<'a>) -> Histories
+    ensures many { one_text (found_of matches.now) (codes "many") ≡ Some (codes "true") → result ≡ Histories.Many }
+    ensures front { one_text (found_of matches.now) (codes "many") ≡ Some (codes "false") → one_text (found_of matches.now) (codes "front") ≡ Some (codes "true") → result ≡ Histories.Front }
+    ensures whole { one_text (found_of matches.now) (codes "many") ≡ Some (codes "false") → one_text (found_of matches.now) (codes "front") ≡ Some (codes "false") → result ≡ Histories.Whole }
+{
+    if matches.get_flag("many") {
+        return Histories::Many;
+    }
+    if matches.get_flag("front") {
+        return Histories::Front;
+    }
+    Histories::Whole
+}
+
+/// The limit of a search. `clap` has read it within its range, and here it is looked at once more.
+fn limit_of<'a>(matches: &ArgMatches<'a>) -> Option<Subcommand<'a>>
+    ensures within { ForSome result IsWithin }
+    ensures name { IfSome result (λ command. name_of command ≡ codes "linearize") }
+    ensures some { (limit : ℕ) → IsNumberOf (found_of matches.now) (codes "limit") limit → 1 ≤ limit → limit ≤ CONFIGURATION_LIMIT
+        → IsSearched limit result }
+    ensures none { one_text (found_of matches.now) (codes "limit") ≡ None → IsSearched CONFIGURATIONS result }
+{
+    let limit = match number_given(matches, "limit") {
+        Some(limit) => limit,
+        None => CONFIGURATIONS,
+    };
+    if limit < 1 || limit > CONFIGURATION_LIMIT {
+        return None;
+    }
+    Some(Subcommand::Linearize(histories_of(matches), limit))
+}
+
+/// The topic that the argument with an identifier names, if it is given.
+fn topic_given<'a>(matches: &ArgMatches<'a>, id: &str) -> Option<Topic>
+    ensures { IfSome result (λ topic. first_value (found_of matches.now) id.now ≡ Some (word_of topic)) }
+{
+    topic_of(matches.get_str(id)?)
+}
+
+/// What is to be explained.
+fn topics_of<'a>(matches: &ArgMatches<'a>) -> Option<Subcommand<'a>>
+    ensures within { ForSome result IsWithin }
+    ensures name { IfSome result (λ command. name_of command ≡ codes "explain") }
+{
+    let first = topic_given(matches, "kind")?;
+    Some(Subcommand::Explain(first, topic_given(matches, "second")))
+}
+
+/// What the command line asks for, if it is a subcommand.
+pub(crate) fn subcommand_of<'a>(matches: &ArgMatches<'a>) -> Option<Subcommand<'a>>
+    ensures within { ForSome result IsWithin }
+    ensures name { IfSome result (λ command. subcommand_name_of matches.now ≡ Some (name_of command)) }
+{
+    let (name, given) = matches.subcommand()?;
+    match name {
+        "run" => Some(Subcommand::Run(schedule_of(given), given.get_str("from"))),
+        "seeds" => seeds_of(given),
+        "outcomes" => outcomes_of(given),
+        "find" => find_of(given),
+        "tree" => Some(Subcommand::Tree(schedule_of(given), asked_of(given))),
+        "threads" => Some(Subcommand::Threads),
+        "check" => Some(Subcommand::Check),
+        "linearize" => limit_of(given),
+        "trace" => Some(Subcommand::Trace(schedule_of(given), given.get_flag("every"))),
+        "draw" => Some(Subcommand::Draw(schedule_of(given), given.get_one::<u64>("around"))),
+        "schedule" => Some(Subcommand::Schedule(schedule_of(given))),
+        "explain" => topics_of(given),
+        _ => None,
+    }
+}

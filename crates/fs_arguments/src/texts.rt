@@ -1,0 +1,181 @@
+//! What the help of each command says of its lines and exit statuses.
+
+pub(crate) const RUN_STATUSES: &str = "\
+Where standard error is a terminal, a command that takes longer than a quarter of a second shows there how far it is.
+
+Exit status:
+  0  every call of the script returned
+  1  the script ended with calls left: begun and not returned, or not begun; or a checkpoint found calls under way
+  2  usage error
+  3  the input is no script, or the file no tree: `atomfs explain` says what to write instead
+  4  out of memory, or no node number left
+  5  a read or a write failed
+
+Example:
+  atomfs run --seed 7 < examples/moved_ancestor.script";
+
+pub(crate) const SEEDS_STATUSES: &str = "\
+Where standard error is a terminal, a command that takes longer than a quarter of a second shows there how far it is.
+
+Exit status:
+  0  every run is lawful
+  1  a run has a fault
+  2  usage error
+  3  the input is no script: `atomfs explain` says what to write instead
+  4  out of memory, or no node number left
+  5  a read or a write failed
+
+Example:
+  atomfs seeds --seed 1 --runs 100 < examples/moved_ancestor.script";
+
+pub(crate) const OUTCOMES_STATUSES: &str = "\
+A line is `TIMES seed SEED tree DIGEST`, and the calls whose replies differ: ` | THREAD#N REPLY`, the N-th call of THREAD. The most frequent end comes first; SEED is the least number that has it, for `atomfs run --seed SEED`.
+Where standard error is a terminal, a command that takes longer than a quarter of a second shows there how far it is.
+
+Exit status:
+  0  success
+  2  usage error
+  3  the input is no script, or with --add no lines of `outcomes --all`: `atomfs explain` says what to write instead
+  4  out of memory
+  5  a read or a write failed
+
+Example:
+  atomfs outcomes --seed 1 --runs 1000 < examples/moved_ancestor.script";
+
+pub(crate) const FIND_STATUSES: &str = "\
+WHAT is one or several conditions with `and` between them, each also behind `not`:
+  reply CALL REPLY   the call returned this, as a journal has it, or `failed` for any error
+  tree LINE          at the end this is a line of the tree text, as `dir /b/d/x`
+  helped CALL        the step of another call committed this one
+  before CALL CALL   the first committed before the second
+CALL is `THREAD#N`, the N-th call of the thread's block. A name `and` is written `%61nd`.
+
+Exit status:
+  0  success: a run of what is written has it, and the seed is on standard error
+  1  no run has it
+  2  usage error, or the script has no such call
+  3  the input is no script: `atomfs explain` says what to write instead
+  4  out of memory, no node number left, or more events than a script gives
+  5  a read or a write failed
+
+Example:
+  atomfs find --where 'reply writer#2 failed' --seed 1 --runs 100 < examples/moved_ancestor.script";
+
+pub(crate) const TREE_STATUSES: &str = "\
+Of a script's run in pieces the last one is asked about, and of a journal that is not lawful the entries before its fault.
+CALL is THREAD#NUMBER: m#3 is the third call of the thread m, and of a journal 0#3 the third on seat 0.
+
+Exit status:
+  0  success
+  1  `nobody`: no commit changed what stands at PATH; or the journal has a fault; or a checkpoint found calls under way
+  2  usage error, or what is asked for is not there
+  3  the input is no script and no journal: `atomfs explain` says what to write instead
+  4  out of memory, or no node number left
+  5  a read or a write failed
+
+Example:
+  atomfs tree --at 3 < examples/moved_ancestor.script";
+
+pub(crate) const THREADS_STATUSES: &str = "\
+Where standard error is a terminal, a command that takes longer than a quarter of a second shows there how far it is.
+
+Exit status:
+  0  the timeline of the calls is lawful
+  1  it has a fault
+  2  usage error
+  3  the input is no script: `atomfs explain` says what to write instead
+  4  out of memory, no node number left, or no worker
+  5  a read or a write failed
+
+Example:
+  atomfs threads < examples/moved_ancestor.script";
+
+pub(crate) const CHECK_STATUSES: &str = "\
+Exit status:
+  0  the journal is lawful
+  1  the journal has a fault
+  2  usage error
+  3  the input is no journal: `atomfs explain` says what to write instead
+  4  out of memory
+  5  a read or a write failed
+
+Example:
+  atomfs run < examples/moved_ancestor.script | atomfs check";
+
+pub(crate) const LINEARIZE_STATUSES: &str = "\
+A history is a journal without its `commit` lines, up to the end or a line `tree`. Where a reply is not known, `return N failed ?` fits any error, and `return N stat dir ?` any size.
+
+Exit status:
+  0  the journal that is written explains the history: `atomfs check` says that it is lawful; with --many each history is lawful
+  1  `none PLACE CALL`: no journal explains the entries up to the return at PLACE, or with --front a journal up to there; or `fault PLACE KIND`: they are no history
+  2  usage error
+  3  the input is no history: `atomfs explain` says what to write instead
+  4  `unknown PLACE`: the limit was reached; or out of memory
+  5  a read or a write failed
+
+Example:
+  printf 'atomfs-journal 1\\nbegin 1 0 mkdir /a\\nreturn 1 ok\\n' | atomfs linearize";
+
+pub(crate) const TRACE_STATUSES: &str = "\
+Exit status:
+  0  every call of the script returned
+  1  the script ended with calls left: the lines `left` tell which; or a checkpoint found calls under way
+  2  usage error
+  3  the input is no script: `atomfs explain` says what to write instead
+  4  out of memory, or no node number left
+  5  a read or a write failed
+
+Example:
+  atomfs trace --seed 7 < examples/moved_ancestor.script";
+
+pub(crate) const DRAW_STATUSES: &str = "\
+Exit status:
+  0  every call of the script returned, or the journal is lawful
+  1  the script ended with calls left, or the journal has a fault; the picture shows it; or a checkpoint found calls under way
+  2  usage error, or no call has the number
+  3  the input is no script and no journal: `atomfs explain` says what to write instead
+  4  out of memory, or no node number left
+  5  a read or a write failed
+
+Example:
+  atomfs draw --seed 7 < examples/moved_ancestor.script > run.svg";
+
+pub(crate) const SCHEDULE_STATUSES: &str = "\
+Exit status:
+  0  success: a run of what is written has the text of this run
+  2  usage error
+  3  the input is no script: `atomfs explain` says what to write instead
+  4  out of memory, no node number left, or more events than a script gives
+  5  a read or a write failed
+
+Example:
+  atomfs schedule --seed 7 < examples/moved_ancestor.script";
+
+pub(crate) const EXPLAIN_STATUSES: &str = "\
+Exit status:
+  0  success
+  2  usage error
+  4  out of memory
+  5  a write failed
+
+Example:
+  atomfs explain BadPath TrailingSlash";
+
+pub(crate) const STATUSES: &str = "\
+Exit status:
+  0  success
+  1  a journal is not lawful, or a script ended with calls left
+  2  usage error
+  3  malformed input: `atomfs explain` says what to write instead
+  4  out of memory, no node number left, or no worker
+  5  a read or a write failed
+
+Example:
+  printf 'atomfs 1\\nthread t\\nmkdir /a\\nschedule\\nfinish\\n' | atomfs run";
+
+/// What is said where there is no subcommand.
+pub(crate) const FIRST: &str = "\
+no command is given
+
+Try first a script of one call:
+  printf 'atomfs 1\\nthread t\\nmkdir /a\\nschedule\\nfinish\\n' | atomfs run";
