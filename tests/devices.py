@@ -18,7 +18,12 @@ READING = (
     (("run",), SCRIPT, TEXT),
     (("seeds", "--seed", "7", "--runs", "3"), SCRIPT, b"seed 7 lawful\nseed 8 lawful\nseed 9 lawful\n"),
     (("threads",), SCRIPT.replace(b"t*5", b"t*2"), b"lawful calls 1\n"),
+    (("threads", "--journal"), SCRIPT.replace(b"t*5", b"t*2"), TEXT.partition(b"tree\n")[0]),
     (("check",), TEXT, b"lawful\n"),
+    (("check", "--json"), TEXT, b'{"lawful":true}\n'),
+    (("seeds", "--seed", "7", "--runs", "2", "--json"), SCRIPT, b'{"seed":7,"lawful":true}\n{"seed":8,"lawful":true}\n'),
+    (("find", "--where", "tree dir /a", "--seed", "7", "--runs", "2", "--json"), SCRIPT, b'{"seed":7,"script":"' + SCRIPT.partition(b"schedule\n")[0].replace(b"\n", b"\\n") + b'schedule\\nt*5\\n"}\n'),
+    (("trace",), TEXT, b"atomfs-trace 1\n1 0#1 begins mkdir /a\n2 0#1 commits, adds /a\n3 0#1 returns ok\n" + TEXT[TEXT.index(b"tree\n") :]),
 )
 DOT = b"Dot: a name in a path is `.` or `..`\n\nIn a script, for    stat /a/../b\nwrite               stat /b\nbecause             `.` and `..` are no names\n"
 WRITING = (*READING, (("--version",), b"", b"atomfs 0.3.0\n"), (("explain", "Dot"), b"", DOT))
@@ -47,7 +52,8 @@ class ByteByByte(Case):
 
     def well(self, words, given, written):
         """One read for each byte and one for the end, and one write for each byte, are enough."""
-        self.ends(words, given, Outcome(0, written), READS=len(given) + 1, WRITES=len(written))
+        told = b"atomfs: seed 7\n" if words[0] == "find" else b""
+        self.ends(words, given, Outcome(0, written, told), READS=len(given) + 1, WRITES=len(written))
 
     def read_fails(self, words, given, good):
         self.ends(words, given, Outcome(5, b"", READ_FAILED), READS=good)

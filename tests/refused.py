@@ -98,6 +98,9 @@ class Program(Preloaded):
             ("seeds", "seeds --seed 7 --runs 3", "helped_rename.script", b"seed 7 lawful\nseed 8 lawful\nseed 9 lawful\n"),
             ("outcomes", "outcomes --seed 7 --runs 1 --all", "helped_rename.script", ends_of("helped_rename")),
             ("check", "check", "errors_of_each_call.text", b"lawful\n"),
+            ("check as an object", "check --json", "errors_of_each_call.text", b'{"lawful":true}\n'),
+            ("seeds as objects", "seeds --seed 7 --runs 1 --json", "helped_rename.script", b'{"seed":7,"lawful":true}\n'),
+            ("a journal's trace", "trace", "helped_mkdir.text", (harness.DATA / "traces" / "helped_mkdir.journal.trace").read_bytes()),
             ("threads", "threads", "errors_of_each_call.script", b"lawful calls 57\n"),
             ("explain", "explain Nul", "errors_of_each_call.script", b"Nul: a path has a byte zero\n\nIn a script, for    stat /a%00\nwrite               stat /a%2500\nbecause             no name has a byte zero, and `%25` is a `%`\n"),
         )

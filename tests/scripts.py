@@ -78,6 +78,23 @@ class Scripts(harness.Case):
 
         self.each(((f"script_{number}", number) for number in range(SCRIPTS)), look)
 
+    def test_journals_of_threads(self):
+        """They are lawful, also by the model, and on each seat the calls of a thread have begun, in order."""
+        harness.asks_of_answers()
+
+        def look(number):
+            threads, script = scripted(number)
+            journal = harness.run(script.encode(), "threads", "--journal")
+            self.same(script, journal._replace(output=b""), harness.Outcome(0))
+            self.same(script, harness.run(journal.output, "check"), harness.Outcome(0, b"lawful\n"))
+            count = sum(map(len, threads))
+            text = (journal.output + harness.run(journal.output, "tree").output).decode() + f"begun {count} committed {count} returned {count}\n"
+            wrong = model.replayed(text)
+            self.same(script, wrong and f"{wrong}\n{text}", None)
+            self.same(script, sorted(model.begun(text).values()), sorted(calls for calls in threads if calls))
+
+        self.each(((f"script_{number}", number) for number in range(SCRIPTS)), look)
+
 
 if __name__ == "__main__":
     unittest.main()

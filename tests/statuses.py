@@ -3,6 +3,7 @@
 tests/data/help has the help of the program and of its commands. A device that fails, status 5, is looked at in tests/devices.py; `atomfs: full`, which
 only a run from a tree can tell, in tests/starts.py.
 """
+import hashlib
 import re
 import resource
 import shlex
@@ -17,6 +18,7 @@ HELPED, ONE_CALL, CUT = (DATA / "worked" / "runs" / name for name in ("helped_mk
 # What the program says to try first, as it can be pasted into a shell.
 ONE_CALL_PASTED = r"printf 'atomfs 1\nthread t\nmkdir /a\nschedule\nfinish\n' | atomfs run"
 EMPTY = b"atomfs 1\nschedule\n"
+DIGEST = hashlib.sha256(b"tree\ndir /\ndir /a\n").hexdigest()[:16].encode()
 # The third call is not begun, and the second is under way.
 THREE_CALLS = b"atomfs 1\nthread t\nmkdir /a\nmkdir /b\nmkdir /c\nschedule\nt*9\n"
 NINE_EVENTS = b"""atomfs-journal 1
@@ -98,8 +100,13 @@ class Words(Case):
             ("tree --seed=7 --at=0", of(ONE_CALL), Outcome(0, b"tree\ndir /\n")),
             ("tree --robin --before t#1", of(ONE_CALL), Outcome(0, b"tree\ndir /\n")),
             ("tree --who /a", of(ONE_CALL), Outcome(0, b"commit 1 call 1 t#1 mkdir /a\n")),
+            ("seeds --seed 7 --runs 2 --json", of(HELPED), Outcome(0, b'{"seed":7,"lawful":true}\n{"seed":8,"lawful":true}\n')),
+            ("outcomes --seed 7 --runs 3 --json --all", of(ONE_CALL), Outcome(0, b'{"times":3,"seed":7,"digest":"%s","replies":{"t#1":"ok"}}\n' % DIGEST)),
+            ("find --where 'helped t#1' --seed 7 --runs 3 --json", of(ONE_CALL), Outcome(1, b'{"seed":null}\n', b"atomfs: no run of 3 from seed 7 on has it\n")),
             ("threads", of(HELPED), Outcome(0, b"lawful calls 4\n")),
+            ("threads --journal", of(ONE_CALL), Outcome(0, of(ONE_CALL, "text").partition(b"tree\n")[0])),
             ("check", of(HELPED, "text"), Outcome(0, b"lawful\n")),
+            ("check --json", of(HELPED, "text"), Outcome(0, b'{"lawful":true}\n')),
             ("trace", of(HELPED), Outcome(0, (DATA / "traces" / "helped_mkdir.trace").read_bytes())),
             ("draw", of(HELPED), Outcome(0, (DATA / "pictures" / "helped_mkdir.svg").read_bytes())),
             ("draw --seed 7", of(HELPED, "text"), Outcome(0, (DATA / "pictures" / "helped_mkdir_journal.svg").read_bytes())),
@@ -134,7 +141,9 @@ class Words(Case):
             ("a slash too many", "run", SLASH, malformed("line 3: BadPath TrailingSlash")),
             ("a slash too many by round robin", "run --robin", SLASH, malformed("line 3: BadPath TrailingSlash")),
             ("a slash too many in a drawn run", "run --seed 1", SLASH, malformed("line 3: BadPath TrailingSlash")),
-            ("a journal is traced", "trace", of(HELPED, "text"), malformed("line 1: BadHeader")),
+            ("a journal on threads for its journal", "threads --journal", of(HELPED, "text"), malformed("line 1: BadHeader")),
+            ("a journal that is not lawful is traced", "trace", WRONG, Outcome(1, b"atomfs-trace 1\n1 0#1 begins mkdir /a\n2 0#1 commits, adds /a\nleft 0#1 mkdir /a\ntree\ndir /\ndir /a\nbegun 1 committed 1 returned 0\n", b"atomfs: fault 3 WrongReply, line 4: return 1 failed EEXIST; call 1 is mkdir /a on seat 0; due: ok\n")),
+            ("a word that is no line of a journal is traced", "trace", b"atomfs-journal 1\ncommit\n", malformed("line 2: BadLine")),
             ("a schedule of a journal", "schedule --robin", of(HELPED, "text"), malformed("line 1: BadHeader")),
             ("a slash too many in a trace", "trace", SLASH, malformed("line 3: BadPath TrailingSlash")),
             ("a slash too many in a picture", "draw", SLASH, malformed("line 3: BadPath TrailingSlash")),
@@ -148,7 +157,7 @@ class Words(Case):
 
     def test_usage(self):
         """The words are `clap`'s. Nothing is run, though the input is a script."""
-        program, of_run, of_seeds, of_explain = "<COMMAND>", "run [OPTIONS] < FILE", "seeds --seed <N> --runs <K> < FILE", "explain <KIND> [KIND]"
+        program, of_run, of_seeds, of_explain = "<COMMAND>", "run [OPTIONS] < FILE", "seeds --seed <N> --runs <K> [OPTIONS] < FILE", "explain <KIND> [KIND]"
         of_outcomes = "outcomes <--seed <N> --runs <K>|--add> [OPTIONS] < FILE"
         missing = "the following required arguments were not provided:"
         self.all_end((words, words, of(ONE_CALL), wanted) for words, wanted in (
@@ -180,14 +189,14 @@ class Words(Case):
             ("seeds --seed 9223372036854775808 --runs 1", unread(2**63, "--seed <N>", f"{2**63} is not in 0..={2**63 - 1}")),
             ("seeds --seed 7 --runs 0", unread(0, "--runs <K>", "0 is not in 1..=10000")),
             ("seeds --seed 7 --runs 10001", unread(10_001, "--runs <K>", "10001 is not in 1..=10000")),
-            ("find", misused(f"{missing}\n  --where <WHAT>\n  --seed <N>\n  --runs <K>", "find --where <WHAT> --seed <N> --runs <K> < FILE")),
+            ("find", misused(f"{missing}\n  --where <WHAT>\n  --seed <N>\n  --runs <K>", "find --where <WHAT> --seed <N> --runs <K> [OPTIONS] < FILE")),
             ("find --where 'tree dir /' --seed 7 --runs 0", unread(0, "--runs <K>", "0 is not in 1..=1000000")),
             ("find --where 'tree dir /' --seed 7 --runs 1000001", unread(1_000_001, "--runs <K>", "1000001 is not in 1..=1000000")),
             ("tree --at x", unread("x", "--at <N>", "invalid digit found in string")),
             ("tree --at 1 --before a#1", misused("the argument '--at <N>' cannot be used with '--before <CALL>'", "tree [OPTIONS] < FILE")),
             ("tree --who / --before a#1", misused("the argument '--who <PATH>' cannot be used with '--before <CALL>'", "tree [OPTIONS] < FILE")),
-            ("threads --seed 1", misused("unexpected argument '--seed' found", "threads < FILE")),
-            ("check now", misused("unexpected argument 'now' found", "check < FILE")),
+            ("threads --seed 1", misused("unexpected argument '--seed' found", "threads [OPTIONS] < FILE")),
+            ("check now", misused("unexpected argument 'now' found", "check [OPTIONS] < FILE")),
             ("outcomes", misused(f"{missing}\n  --seed <N>\n  --runs <K>", of_outcomes)),
             ("outcomes --seed 1", misused(f"{missing}\n  --runs <K>", of_outcomes)),
             ("outcomes --seed 1 --runs 0", unread(0, "--runs <K>", "0 is not in 1..=1000000")),

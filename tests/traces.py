@@ -298,6 +298,83 @@ class Checkpoints(Case):
                 self.same(given.decode(), run(written.output, "run"), run(given, "run", *schedule))
 
 
+class Journals(Case):
+    """A journal is told entry by entry, in the words that the trace of its run has."""
+
+    @staticmethod
+    def effects(moments):
+        """What the calls of the last piece of a run changed, by their numbers, and whether that is told by the path that each names: the node
+        of one that is helped may have moved before it is carried out."""
+        told = {}
+        for moment in moments:
+            if moment == CHECKPOINT:
+                told = {}
+            elif moment.did in ("committed", "carried out"):
+                told[moment.call] = moment.says[0], moment.did == "committed"
+        return told
+
+    @staticmethod
+    def entries(text):
+        """The lines of a journal's entries."""
+        lines = text.decode().partition("\ntree\n")[0].splitlines()
+        return lines[lines.index("entries") + 1 if "entries" in lines else 1 :]
+
+    def line(self, place, line, seats, effects):
+        """How a trace tells an entry, up to the paths of what a helped call changed."""
+        kind, number, *rest = line.split(" ", 3 if line.startswith("begin ") else 2)
+        if kind == "begin":
+            seats[number] = rest[0]
+        effect, is_told = effects.get(int(number), ("", False))
+        says = {"begin": f"begins {rest[-1] if rest else ''}", "commit": f"commits, {effect if is_told else effect.split(' ')[0]}", "return": f"returns {rest[-1] if rest else ''}"}
+        return f"{place} {seats[number]}#{number} {says[kind]}"
+
+    def look(self, script, *schedule):
+        harness.asks_of_answers()
+        text, of_run = run(script, "run", *schedule).output, Trace(run(script, "trace", "--every", *schedule).output)
+        told, seats, effects = run(text, "trace"), {}, self.effects(of_run.moments)
+        head, _, end = told.output.decode().partition("tree\n")
+        first, *lines = head.splitlines()
+        left = [line for line in lines if line.startswith("left ")]
+        wanted = [self.line(place, line, seats, effects) for place, line in enumerate(self.entries(text), 1)]
+        came = [line if line.startswith(wish) else f"another than {wish}: {line}" for line, wish in zip(lines, wanted)]
+        given, behind = script.decode(errors="backslashreplace"), (run(text, "tree").output + text.splitlines(keepends=True)[-1]).decode()
+        self.same(given, (told.status, told.message, first, came + left, f"tree\n{end}"), (0, b"", "atomfs-trace 1", lines, behind))
+        names = {str(seat): name for seat, name in enumerate(of_run.threads)}
+        self.same(given, sorted(re.sub(r"^left (\d+)", lambda found: f"left {names[found[1]]}", line) for line in left), sorted(line for line in of_run.left if " unbegun " not in line))
+
+    def test_worked_runs(self):
+        rows = [(f"{path.name}_{'_'.join(schedule)}", script, *schedule) for folder in (RUNS, EXAMPLES) for path, script in examples(folder, "script") for schedule in ((), ("--robin",), ("--seed", "7"))]
+        self.each(rows, self.look)
+
+    def test_drawn_runs(self):
+        self.each(((f"script_{number}", script_of(number), "--seed", str(number)) for number in range(DRAWN)), self.look)
+
+    def test_faults(self):
+        """What stands before the first fault is told, and then the fault."""
+        harness.asks_of_answers()
+
+        def look(number):
+            text = run(script_of(number), "run", "--robin").output
+            lines = text.partition(b"tree\n")[0].splitlines(keepends=True)
+            left_out = random.Random(number).randrange(1, len(lines))
+            bad = b"".join(lines[:left_out] + lines[left_out + 1 :])
+            checked, told = run(bad, "check"), run(bad, "trace")
+            if checked.status:
+                place = int(checked.output.split()[1])
+                front = run(b"".join(bad.splitlines(keepends=True)[:place]), "trace")
+                reason = b"atomfs: " + checked.output.strip() + b", " + checked.message.removeprefix(b"atomfs: ")
+                self.same(bad.decode(), told, front._replace(status=1, message=reason))
+
+        self.each(((f"script_{number}", number) for number in range(DRAWN)), look)
+
+    def test_schedules_and_every(self):
+        """A journal has its own order, and each entry has a line."""
+        text = (RUNS / "helped_mkdir.text").read_bytes()
+        for more in (("--robin",), ("--seed", "7"), ("--every",)):
+            self.same(text.decode(), run(text, "trace", *more), run(text, "trace"))
+        self.same(text.decode(), run(text, "trace"), Outcome(0, (TRACES / "helped_mkdir.journal.trace").read_bytes()))
+
+
 class OnTheLibrary(Case):
     """Each event of a trace of every one is what the library answers, and each path is that of the node of which it answers."""
 

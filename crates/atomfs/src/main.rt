@@ -15,15 +15,17 @@ ghost use Rattle.fs_find.specs.declared.finding.TheConstants.{SEARCH_LIMIT};
 #[cfg(test)]
 mod tests;
 
-use fs_arguments::{Histories, Subcommand, parse};
+use fs_arguments::{Format, Histories, Subcommand, parse};
 use fs_command::{
     Line, SharedLine, report, report_check, report_draw, report_file, report_find, report_from,
-    report_linearize, report_many, report_schedule, report_tree, report_words, status_of_run,
-    status_of_unreadable_args, status_of_usage, status_of_verdict,
+    report_linearize, report_many, report_schedule, report_trace, report_tree, report_words,
+    status_of_run, status_of_unreadable_args, status_of_usage, status_of_verdict,
 };
 use fs_draw::{DrawFault, draw_input};
+use fs_entries::trace_input;
 use fs_explain::{Topic, explanation};
 use fs_find::{Clause, FindFault, find_seed, read_what};
+use fs_objects::{check_object, find_object, seed_objects};
 use fs_outcomes::{Form, add_outcomes, run_outcomes};
 use fs_recorded::{linearize_history, linearize_many};
 use fs_replay::{Asked, ReplayFault, Replayed, read_question, replay_input};
@@ -34,7 +36,7 @@ use fs_sched::{
 use fs_share::Open;
 use fs_start::{StartFault, run_from, whole_text};
 use fs_threads::{ThreadsFault, Watch, run_threads};
-use fs_trace::{ScheduleFault, schedule_script, trace_script};
+use fs_trace::{ScheduleFault, schedule_script};
 use std::alloc::Global;
 use std::convert::AsStr;
 use std::fs::File;
@@ -87,13 +89,18 @@ fn seeds<R: Source, W: Sink, P: Witness>(
     writer: &mut W,
     seed: u64,
     runs: u64,
+    format: Format,
     progress: &mut P,
 ) -> Result<u8, RunFault>
     requires reads { R.failures reader.old < 2 ^ 64 - 1 }
     requires writes { W.failures writer.old < 2 ^ 64 - 1 }
-    requires within { IsWithin (Subcommand.Seeds seed runs) }
+    requires within { IsWithin (Subcommand.Seeds seed runs format) }
 {
-    match run_seeds(alloc, reader, writer, seed, runs, progress) {
+    let outcome = match format {
+        Format::Text => run_seeds(alloc, reader, writer, seed, runs, progress),
+        Format::Json => seed_objects(alloc, reader, writer, seed, runs, progress),
+    };
+    match outcome {
         Ok(lawful) => Ok(status_of_verdict(lawful)),
         Err(fault) => Err(fault),
     }
@@ -123,29 +130,13 @@ fn threads<T: Threads + Wait + Clock + Sync, R: Source, W: Sink, G: Watch + Sync
     reader: &mut R,
     writer: &mut W,
     watch: &G,
+    journal: bool,
 ) -> Result<u8, ThreadsFault>
     requires reads { R.failures reader.old < 2 ^ 64 - 1 }
     requires writes { W.failures writer.old < 2 ^ 64 - 1 }
 {
-    match run_threads(rt, alloc, reader, writer, watch) {
+    match run_threads(rt, alloc, reader, writer, watch, journal) {
         Ok(lawful) => Ok(status_of_verdict(lawful)),
-        Err(fault) => Err(fault),
-    }
-}
-
-/// Writes the trace of a script's run, and answers the status.
-fn trace<R: Source, W: Sink>(
-    alloc: Global,
-    reader: &mut R,
-    writer: &mut W,
-    schedule: Schedule,
-    every: bool,
-) -> Result<u8, RunFault>
-    requires reads { R.failures reader.old < 2 ^ 64 - 1 }
-    requires writes { W.failures writer.old < 2 ^ 64 - 1 }
-{
-    match trace_script(alloc, reader, writer, schedule, every) {
-        Ok(end) => Ok(status_of_run(&end)),
         Err(fault) => Err(fault),
     }
 }
@@ -280,18 +271,19 @@ fn seeds_shown<C: Clock, R: Source, W: Sink>(
     reader: &mut R,
     writer: &mut W,
     numbers: (u64, u64),
+    format: Format,
     terminal: Option<Stderr>,
 ) -> Result<u8, RunFault>
     requires reads { R.failures reader.old < 2 ^ 64 - 1 }
     requires writes { W.failures writer.old < 2 ^ 64 - 1 }
-    requires within { IsWithin (Subcommand.Seeds numbers.0 numbers.1) }
+    requires within { IsWithin (Subcommand.Seeds numbers.0 numbers.1 format) }
 {
     let (first, runs) = numbers;
     let Some(errors) = terminal else {
-        return seeds(alloc, reader, writer, first, runs, &mut Silent);
+        return seeds(alloc, reader, writer, first, runs, format, &mut Silent);
     };
     let mut line = Line::new(alloc, clock, errors);
-    let outcome = seeds(alloc, reader, writer, first, runs, &mut line);
+    let outcome = seeds(alloc, reader, writer, first, runs, format, &mut line);
     line.end();
     outcome
 }
@@ -355,6 +347,28 @@ fn added_outcomes<R: Source, W: Sink>(
     }
 }
 
+/// Searches drawn runs of a script.
+fn find_as<R: Source, W: Sink, P: Witness>(
+    alloc: Global,
+    reader: &mut R,
+    writer: &mut W,
+    what: &[Clause],
+    numbers: (u64, u64),
+    format: Format,
+    progress: &mut P,
+) -> Result<Option<u64>, FindFault>
+    requires reads { R.failures reader.old < 2 ^ 64 - 1 }
+    requires writes { W.failures writer.old < 2 ^ 64 - 1 }
+    requires seed { numbers.0 ≤ SEED_LIMIT }
+    requires runs { numbers.1 ≤ SEARCH_LIMIT }
+{
+    let (first, runs) = numbers;
+    match format {
+        Format::Text => find_seed(alloc, reader, writer, what, first, runs, progress),
+        Format::Json => find_object(alloc, reader, writer, what, first, runs, progress),
+    }
+}
+
 /// Searches drawn runs of a script, and tells on a terminal how far they are.
 fn find_shown<C: Clock, R: Source, W: Sink>(
     clock: &C,
@@ -363,6 +377,7 @@ fn find_shown<C: Clock, R: Source, W: Sink>(
     writer: &mut W,
     what: &[Clause],
     numbers: (u64, u64),
+    format: Format,
     terminal: Option<Stderr>,
 ) -> Result<Option<u64>, FindFault>
     requires reads { R.failures reader.old < 2 ^ 64 - 1 }
@@ -370,12 +385,11 @@ fn find_shown<C: Clock, R: Source, W: Sink>(
     requires seed { numbers.0 ≤ SEED_LIMIT }
     requires runs { numbers.1 ≤ SEARCH_LIMIT }
 {
-    let (first, runs) = numbers;
     let Some(errors) = terminal else {
-        return find_seed(alloc, reader, writer, what, first, runs, &mut Silent);
+        return find_as(alloc, reader, writer, what, numbers, format, &mut Silent);
     };
     let mut line = Line::new(alloc, clock, errors);
-    let outcome = find_seed(alloc, reader, writer, what, first, runs, &mut line);
+    let outcome = find_as(alloc, reader, writer, what, numbers, format, &mut line);
     line.end();
     outcome
 }
@@ -386,6 +400,7 @@ fn find<C: Clock, R: Source, W: Sink, E: Write>(
     alloc: Global,
     what: &str,
     numbers: (u64, u64),
+    format: Format,
     reader: &mut R,
     writer: &mut W,
     errors: &mut E,
@@ -407,6 +422,7 @@ fn find<C: Clock, R: Source, W: Sink, E: Write>(
         writer,
         what.as_slice(),
         numbers,
+        format,
         terminal,
     );
     report_find(errors, numbers.0, numbers.1, outcome)
@@ -418,16 +434,17 @@ fn threads_shown<T: Threads + Wait + Clock + Sync, R: Source, W: Sink>(
     alloc: Global,
     reader: &mut R,
     writer: &mut W,
+    journal: bool,
     terminal: Option<Stderr>,
 ) -> Result<u8, ThreadsFault>
     requires reads { R.failures reader.old < 2 ^ 64 - 1 }
     requires writes { W.failures writer.old < 2 ^ 64 - 1 }
 {
     let Some(errors) = terminal else {
-        return threads(rt, alloc, reader, writer, &Open);
+        return threads(rt, alloc, reader, writer, &Open, journal);
     };
     let line = SharedLine::new(alloc, rt, errors);
-    let outcome = threads(rt, alloc, reader, writer, &line);
+    let outcome = threads(rt, alloc, reader, writer, &line, journal);
     line.end();
     outcome
 }
@@ -452,19 +469,21 @@ fn perform<T: Threads + Wait + Clock + Files + Sync, R: Source, W: Sink, E: Writ
         Subcommand::Run(order, Some(file)) => {
             return run_at_file(rt, alloc, file, reader, writer, *order, errors, terminal);
         }
-        Subcommand::Seeds(first, runs) => {
-            seeds_shown(rt, alloc, reader, writer, (*first, *runs), terminal)
+        Subcommand::Seeds(first, runs, format) => {
+            let numbers = (*first, *runs);
+            seeds_shown(rt, alloc, reader, writer, numbers, *format, terminal)
         }
         Subcommand::Outcomes(first, runs, form) => {
             outcomes_shown(rt, alloc, reader, writer, (*first, *runs), *form, terminal)
         }
         Subcommand::AddedOutcomes(form) => added_outcomes(alloc, reader, writer, *form),
-        Subcommand::Find(what, first, runs) => {
+        Subcommand::Find(what, first, runs, format) => {
             return find(
                 rt,
                 alloc,
                 what,
                 (*first, *runs),
+                *format,
                 reader,
                 writer,
                 errors,
@@ -474,7 +493,12 @@ fn perform<T: Threads + Wait + Clock + Files + Sync, R: Source, W: Sink, E: Writ
         Subcommand::Tree(order, asked) => {
             return report_tree(errors, tree(alloc, reader, writer, *order, *asked));
         }
-        Subcommand::Check => return report_check(errors, check_journal(alloc, reader, writer)),
+        Subcommand::Check(Format::Text) => {
+            return report_check(errors, check_journal(alloc, reader, writer));
+        }
+        Subcommand::Check(Format::Json) => {
+            return report_check(errors, check_object(alloc, reader, writer));
+        }
         Subcommand::Linearize(Histories::Many, limit) => {
             return report_many(
                 errors,
@@ -487,15 +511,19 @@ fn perform<T: Threads + Wait + Clock + Files + Sync, R: Source, W: Sink, E: Writ
             return report_linearize(errors, outcome);
         }
         Subcommand::Explain(first, second) => explain(alloc, writer, *first, *second),
-        Subcommand::Trace(order, every) => trace(alloc, reader, writer, *order, *every),
+        Subcommand::Trace(order, every) => {
+            let outcome = trace_input(alloc, reader, writer, *order, *every);
+            return report_trace(errors, outcome);
+        }
         Subcommand::Draw(order, call) => {
             return report_draw(errors, draw(alloc, reader, writer, *order, *call));
         }
         Subcommand::Schedule(order) => {
             return report_schedule(errors, schedule(alloc, reader, writer, *order));
         }
-        Subcommand::Threads => {
-            return report(errors, threads_shown(rt, alloc, reader, writer, terminal));
+        Subcommand::Threads(journal) => {
+            let outcome = threads_shown(rt, alloc, reader, writer, *journal, terminal);
+            return report(errors, outcome);
         }
     };
     report(errors, outcome.map_err(ThreadsFault::Run))

@@ -1,5 +1,5 @@
 -- What the command line asks for.
-use Rattle.std.specs.Prelude.{ℕ, ◌≡◌, ◌≤◌, ◌<◌, ◌^◌, Bool, if◌then◌else◌, List, Option, Some, codes}
+use Rattle.std.specs.Prelude.{ℕ, ◌≡◌, ◌≤◌, ◌<◌, ◌^◌, Bool, true, false, if◌then◌else◌, List, Option, Some, None, codes}
 use Rattle.std.specs.Str.Parse.{IsNumeral, digits_value, without_leading_plus}
 use Rattle.clap.specs.Matches.{one_text}
 use Rattle.clap.specs.declared.parser.matches.Found.{Found}
@@ -10,19 +10,21 @@ use Rattle.fs_find.specs.declared.finding.TheConstants.{SEARCH_LIMIT}
 use Rattle.fs_recorded.specs.declared.linearizing.TheConstants.{CONFIGURATION_LIMIT}
 use Rattle.fs_replay.specs.declared.asking.Asked.{Asked}
 use Rattle.fs_replay.specs.declared.asking.Asked.TheVariants as asked
+use Rattle.fs_arguments.specs.declared.subcommand.Format.{Format}
+use Rattle.fs_arguments.specs.declared.subcommand.Format.TheVariants.{Text, Json}
 use Rattle.fs_arguments.specs.declared.subcommand.Subcommand.{Subcommand}
 use Rattle.fs_arguments.specs.declared.subcommand.Subcommand.TheVariants.{Run, Seeds, Outcomes, AddedOutcomes, Find, Tree, Threads, Check, Linearize, Trace, Draw, Schedule, Explain}
 
 -- the word by which a subcommand is asked for
 abbrev pub name_of : Subcommand → List ℕ
 name_of (Run schedule from) = codes "run"
-name_of (Seeds seed runs) = codes "seeds"
+name_of (Seeds seed runs format) = codes "seeds"
 name_of (Outcomes seed runs form) = codes "outcomes"
 name_of (AddedOutcomes form) = codes "outcomes"
-name_of (Find what seed runs) = codes "find"
+name_of (Find what seed runs format) = codes "find"
 name_of (Tree schedule asked) = codes "tree"
-name_of Threads = codes "threads"
-name_of Check = codes "check"
+name_of (Threads journal) = codes "threads"
+name_of (Check format) = codes "check"
 name_of (Linearize histories limit) = codes "linearize"
 name_of (Trace schedule every) = codes "trace"
 name_of (Draw schedule call) = codes "draw"
@@ -32,13 +34,13 @@ name_of (Explain first second) = codes "explain"
 -- the numbers of drawn runs, and the limit of a search, are within their ranges
 abbrev pub IsWithin : Subcommand → Type 0
 IsWithin (Run schedule from) = Unit {0}
-IsWithin (Seeds seed runs) = (seed ≤ SEED_LIMIT) × (1 ≤ runs) × (runs ≤ RUN_LIMIT)
+IsWithin (Seeds seed runs format) = (seed ≤ SEED_LIMIT) × (1 ≤ runs) × (runs ≤ RUN_LIMIT)
 IsWithin (Outcomes seed runs form) = (seed ≤ SEED_LIMIT) × (1 ≤ runs) × (runs ≤ OUTCOME_LIMIT)
 IsWithin (AddedOutcomes form) = Unit {0}
-IsWithin (Find what seed runs) = (seed ≤ SEED_LIMIT) × (1 ≤ runs) × (runs ≤ SEARCH_LIMIT)
+IsWithin (Find what seed runs format) = (seed ≤ SEED_LIMIT) × (1 ≤ runs) × (runs ≤ SEARCH_LIMIT)
 IsWithin (Tree schedule asked) = Unit {0}
-IsWithin Threads = Unit {0}
-IsWithin Check = Unit {0}
+IsWithin (Threads journal) = Unit {0}
+IsWithin (Check format) = Unit {0}
 IsWithin (Linearize histories limit) = (1 ≤ limit) × (limit ≤ CONFIGURATION_LIMIT)
 IsWithin (Trace schedule every) = Unit {0}
 IsWithin (Draw schedule call) = Unit {0}
@@ -48,27 +50,42 @@ IsWithin (Explain first second) = Unit {0}
 -- ---- what the options say
 
 -- the number that an option gives, by its digits
-abbrev pub IsNumberOf : Found → List ℕ → ℕ → Type 0
-IsNumberOf found id n =
-    (text : List ℕ) × (one_text found id ≡ Some text) × IsNumeral 10 (without_leading_plus text) × (digits_value 10 (without_leading_plus text) ≡ n) × (n < 2 ^ 64)
+pub record IsNumberOf (found : Found) (id : List ℕ) (n : ℕ) : Type 0 where
+  pub text : List ℕ
+  pub given : one_text found id ≡ Some text
+  pub numeral : IsNumeral 10 (without_leading_plus text)
+  pub value : digits_value 10 (without_leading_plus text) ≡ n
+  pub fits : n < 2 ^ 64
+
+-- the numbers of drawn runs that options give, within their ranges
+pub record AreNumbersOf (found : Found) (most seed runs : ℕ) : Type 0 where
+  pub first : IsNumberOf found (codes "seed") seed
+  pub many : IsNumberOf found (codes "runs") runs
+  pub greatest : seed ≤ SEED_LIMIT
+  pub some : 1 ≤ runs
+  pub fewest : runs ≤ most
 
 -- whether a flag is given
 abbrev pub IsFlagOf : Found → List ℕ → Bool → Type 0
 IsFlagOf found id given = one_text found id ≡ Some (if given then codes "true" else codes "false")
 
+-- how what comes of a command is written
+abbrev pub IsFormatOf : Found → Format → Type 0
+IsFormatOf found Text = IsFlagOf found (codes "json") false
+IsFormatOf found Json = IsFlagOf found (codes "json") true
+
 -- what is written of the ends of runs
 abbrev pub IsFormOf : Found → Form → Type 0
-IsFormOf found form = IsFlagOf found (codes "all") form.all × IsFlagOf found (codes "trees") form.trees
+IsFormOf found form = IsFlagOf found (codes "all") form.all × IsFlagOf found (codes "trees") form.trees × IsFlagOf found (codes "json") form.json
 
--- a search for the commits of histories that makes no more configurations than this
-abbrev pub IsSearched : ℕ → Option Subcommand → Type 0
-IsSearched most (Some (Linearize histories limit)) = limit ≡ most
-IsSearched most other = ⊥
+-- a search of this, from this number on, in so many runs, written so
+abbrev pub IsSearch : List ℕ → ℕ → ℕ → Format → Subcommand → Type 0
+IsSearch text first most wanted (Find what seed runs format) = (what.now ≡ text) × (seed ≡ first) × (runs ≡ most) × (format ≡ wanted)
+IsSearch text first most wanted other = ⊥
 
--- a search of this, from this number on, in so many runs
-abbrev pub IsSearch : List ℕ → ℕ → ℕ → Option Subcommand → Type 0
-IsSearch text first most (Some (Find what seed runs)) = (what.now ≡ text) × (seed ≡ first) × (runs ≡ most)
-IsSearch text first most other = ⊥
+abbrev pub SearchesFor : List ℕ → ℕ → ℕ → Format → Option Subcommand → Type 0
+SearchesFor text first most wanted (Some subcommand) = IsSearch text first most wanted subcommand
+SearchesFor text first most wanted None = ⊥
 
 -- the question that asks for the tree before the commit of this call
 abbrev pub AsksBefore : List ℕ → Asked → Type 0

@@ -52,6 +52,13 @@ fn run_alone<'a>(alloc: Global) -> Command<'a> {
         .after_help(RUN_STATUSES)
 }
 
+fn json_argument<'a>(alloc: Global) -> Arg<'a> {
+    Arg::new(alloc, "json")
+        .long("json")
+        .action(ArgAction::SetTrue)
+        .help("Writes each line as an object of JSON")
+}
+
 fn from_argument<'a>(alloc: Global) -> Arg<'a> {
     Arg::new(alloc, "from").long("from").value_name("TREE").help(
         "Starts at the tree in the file TREE: a tree text, or a journal, at whose start tree",
@@ -73,7 +80,9 @@ fn every_argument<'a>(alloc: Global) -> Arg<'a> {
 
 fn trace_alone<'a>(alloc: Global) -> Command<'a> {
     Command::new(alloc, "trace")
-        .about("Runs the script on standard input and writes what each event did, in words")
+        .about(
+            "Runs the script on standard input and writes what each event did, in words, or reads a journal there and tells its entries",
+        )
         .override_usage("atomfs trace [OPTIONS] < FILE")
         .after_help(TRACE_STATUSES)
 }
@@ -144,16 +153,17 @@ fn seeds_alone<'a>(alloc: Global) -> Command<'a> {
         .about(
             "Runs the script on standard input by drawn schedules, checks each run's journal and writes a line for each",
         )
-        .override_usage("atomfs seeds --seed <N> --runs <K> < FILE")
+        .override_usage("atomfs seeds --seed <N> --runs <K> [OPTIONS] < FILE")
         .after_help(SEEDS_STATUSES)
 }
 
 fn seeds_command<'a>(alloc: Global) -> Result<Command<'a>, Error> {
-    with_arguments(
+    let numbers = with_arguments(
         seeds_alone(alloc),
         first_seed_argument(alloc),
         runs_argument(alloc),
-    )
+    )?;
+    Ok(numbers.arg(json_argument(alloc))?)
 }
 
 fn outcomes_seed_argument<'a>(alloc: Global) -> Result<Arg<'a>, Error> {
@@ -222,7 +232,7 @@ fn outcomes_of_range<'a>(alloc: Global) -> Result<Command<'a>, Error> {
 fn outcomes_command<'a>(alloc: Global) -> Result<Command<'a>, Error> {
     let trees = trees_argument(alloc)?;
     let by_form = with_arguments(outcomes_of_range(alloc)?, trees, all_argument(alloc))?;
-    Ok(by_form.arg(add_argument(alloc))?)
+    with_arguments(by_form, add_argument(alloc), json_argument(alloc))
 }
 
 fn where_argument<'a>(alloc: Global) -> Arg<'a> {
@@ -247,7 +257,7 @@ fn find_alone<'a>(alloc: Global) -> Command<'a> {
         .about(
             "Runs the script on standard input by drawn schedules up to the first run that has WHAT, and writes the script with the events of that run as its schedule",
         )
-        .override_usage("atomfs find --where <WHAT> --seed <N> --runs <K> < FILE")
+        .override_usage("atomfs find --where <WHAT> --seed <N> --runs <K> [OPTIONS] < FILE")
         .after_help(FIND_STATUSES)
 }
 
@@ -257,7 +267,7 @@ fn find_command<'a>(alloc: Global) -> Result<Command<'a>, Error> {
         where_argument(alloc),
         first_seed_argument(alloc),
     )?;
-    Ok(numbers.arg(searched_argument(alloc))?)
+    with_arguments(numbers, searched_argument(alloc), json_argument(alloc))
 }
 
 fn at_argument<'a>(alloc: Global) -> Arg<'a> {
@@ -311,22 +321,37 @@ fn tree_command<'a>(alloc: Global) -> Result<Command<'a>, Error> {
     with_arguments(by_question, robin_argument(alloc), seed)
 }
 
-fn threads_command<'a>(alloc: Global) -> Command<'a> {
+fn journal_argument<'a>(alloc: Global) -> Arg<'a> {
+    Arg::new(alloc, "journal")
+        .long("journal")
+        .action(ArgAction::SetTrue)
+        .help("Writes their journal in place of the line")
+}
+
+fn threads_alone<'a>(alloc: Global) -> Command<'a> {
     Command::new(alloc, "threads")
         .about(
             "Runs each thread of the script on standard input on a real thread, its schedule unused, and writes `lawful calls` and their number, or a fault",
         )
-        .override_usage("atomfs threads < FILE")
+        .override_usage("atomfs threads [OPTIONS] < FILE")
         .after_help(THREADS_STATUSES)
 }
 
-fn check_command<'a>(alloc: Global) -> Command<'a> {
+fn threads_command<'a>(alloc: Global) -> Result<Command<'a>, Error> {
+    Ok(threads_alone(alloc).arg(journal_argument(alloc))?)
+}
+
+fn check_alone<'a>(alloc: Global) -> Command<'a> {
     Command::new(alloc, "check")
         .about(
             "Reads the journal on standard input and writes `lawful`, or the place and the kind of its first fault",
         )
-        .override_usage("atomfs check < FILE")
+        .override_usage("atomfs check [OPTIONS] < FILE")
         .after_help(CHECK_STATUSES)
+}
+
+fn check_command<'a>(alloc: Global) -> Result<Command<'a>, Error> {
+    Ok(check_alone(alloc).arg(json_argument(alloc))?)
 }
 
 fn limit_argument<'a>(alloc: Global) -> Arg<'a> {
@@ -445,11 +470,13 @@ fn program_with_tree<'a>(alloc: Global) -> Result<Command<'a>, Error> {
 }
 
 fn program_with_threads<'a>(alloc: Global) -> Result<Command<'a>, Error> {
-    with(program_with_tree(alloc)?, threads_command(alloc))
+    let threads = threads_command(alloc)?;
+    with(program_with_tree(alloc)?, threads)
 }
 
 fn program_with_check<'a>(alloc: Global) -> Result<Command<'a>, Error> {
-    with(program_with_threads(alloc)?, check_command(alloc))
+    let check = check_command(alloc)?;
+    with(program_with_threads(alloc)?, check)
 }
 
 fn program_with_linearize<'a>(alloc: Global) -> Result<Command<'a>, Error> {

@@ -12,4 +12,4 @@ pub mod subcommand;
 mod texts;
 
 pub use cli::parse;
-pub use subcommand::{Histories, Subcommand};
+pub use subcommand::{Format, Histories, Subcommand};

@@ -3,7 +3,7 @@
 ghost use Rattle.std.specs.Prelude.{◌≡◌, ◌≤◌, ℕ, Bool, List, true, false, Some, None, IfSome, codes};
 ghost use Rattle.std.specs.Option.{ForSome};
 ghost use Rattle.clap.specs.Matches.{first_value, found_of, one_text, subcommand_name_of};
-ghost use Rattle.fs_arguments.specs.Commands.{AsksBefore, AsksWho, IsFlagOf, IsFormOf, IsNumberOf, IsSearch, IsSearched, IsWithin, name_of};
+ghost use Rattle.fs_arguments.specs.Commands.{AreNumbersOf, AsksBefore, AsksWho, IsFlagOf, IsFormOf, IsFormatOf, IsNumberOf, IsWithin, SearchesFor, name_of};
 ghost use Rattle.fs_explain.specs.Topics.{word_of};
 
 use clap::ArgMatches;
@@ -28,25 +28,34 @@ pub enum Histories {
     Many,
 }
 
+/// How what comes of a command is written.
+#[derive(Clone, Copy, Debug, PartialEq, Eq)]
+pub enum Format {
+    /// In words.
+    Text,
+    /// As objects of JSON, one a line.
+    Json,
+}
+
 /// What the command line asks for.
 #[derive(Clone, Copy, Debug, PartialEq, Eq)]
 pub enum Subcommand<'a> {
     /// A run of a script by a schedule; and the file that has the tree at which it starts, where that is more than the root.
     Run(Schedule, Option<&'a str>),
     /// Runs of a script that are drawn from a number, the next one, and so on: the number, and how many.
-    Seeds(u64, u64),
+    Seeds(u64, u64, Format),
     /// The ends of such runs, how often each came, and what is written of them.
     Outcomes(u64, u64, Form),
     /// The same, added up from lines of pieces.
     AddedOutcomes(Form),
     /// The first of so many such runs that has what is said.
-    Find(&'a str, u64, u64),
+    Find(&'a str, u64, u64, Format),
     /// What is asked of the trees of a journal, or of a script's run by a schedule.
     Tree(Schedule, Asked<'a>),
-    /// The calls of a script on real threads.
-    Threads,
+    /// The calls of a script on real threads; and whether their journal is written.
+    Threads(bool),
     /// The verdict on a journal.
-    Check,
+    Check(Format),
     /// What is found of histories, where no more configurations are made than this.
     Linearize(Histories, u64),
     /// The events of a script's run by a schedule, in words; and whether each is told, or those alone that tell something new.
@@ -74,6 +83,17 @@ fn flag_given<'a>(matches: &ArgMatches<'a>, id: &str) -> bool
     matches.get_flag(id)
 }
 
+/// How what comes of a command is written.
+fn format_of<'a>(matches: &ArgMatches<'a>) -> Format
+    ensures { (format : Format) → IsFormatOf (found_of matches.now) format → result ≡ format }
+{
+    if matches.get_flag("json") {
+        Format::Json
+    } else {
+        Format::Text
+    }
+}
+
 /// The schedule of a run.
 fn schedule_of<'a>(matches: &ArgMatches<'a>) -> Schedule
     ensures robin { one_text (found_of matches.now) (codes "robin") ≡ Some (codes "true") → result ≡ Schedule.RoundRobin }
@@ -89,19 +109,43 @@ fn schedule_of<'a>(matches: &ArgMatches<'a>) -> Schedule
     }
 }
 
+/// Numbers of drawn runs, where both are given and within their ranges.
+fn within(seed: Option<u64>, runs: Option<u64>, most: u64) -> Option<(u64, u64)>
+    ensures within { IfSome result (λ numbers. (numbers.0 ≤ SEED_LIMIT) × (1 ≤ numbers.1) × (numbers.1 ≤ most)) }
+    ensures some { (first many : ℕ) → seed ≡ Some first → runs ≡ Some many → first ≤ SEED_LIMIT → 1 ≤ many → many ≤ most → result ≡ Some (first, many) }
+{
+    match (seed, runs) {
+        (Some(first), Some(many)) if first <= SEED_LIMIT && 1 <= many && many <= most => {
+            Some((first, many))
+        }
+        _ => None,
+    }
+}
+
 /// The numbers of drawn runs. `clap` has read them within their ranges, and here they are looked at once more.
+fn numbers_of<'a>(matches: &ArgMatches<'a>, most: u64) -> Option<(u64, u64)>
+    ensures within { IfSome result (λ numbers. (numbers.0 ≤ SEED_LIMIT) × (1 ≤ numbers.1) × (numbers.1 ≤ most)) }
+    ensures some { (seed runs : ℕ) → AreNumbersOf (found_of matches.now) most seed runs → result ≡ Some (seed, runs) }
+{
+    within(
+        number_given(matches, "seed"),
+        number_given(matches, "runs"),
+        most,
+    )
+}
+
+/// Drawn runs whose journals are checked.
 fn seeds_of<'a>(matches: &ArgMatches<'a>) -> Option<Subcommand<'a>>
     ensures within { ForSome result IsWithin }
     ensures name { IfSome result (λ command. name_of command ≡ codes "seeds") }
-    ensures some { (seed runs : ℕ) → IsNumberOf (found_of matches.now) (codes "seed") seed → IsNumberOf (found_of matches.now) (codes "runs") runs
-        → IsWithin (Subcommand.Seeds seed runs) → result ≡ Some (Subcommand.Seeds seed runs) }
+    ensures some { (seed runs : ℕ) (format : Format) → AreNumbersOf (found_of matches.now) RUN_LIMIT seed runs → IsFormatOf (found_of matches.now) format
+        → result ≡ Some (Subcommand.Seeds seed runs format) }
 {
-    let seed = number_given(matches, "seed")?;
-    let runs = number_given(matches, "runs")?;
-    if seed > SEED_LIMIT || runs < 1 || runs > RUN_LIMIT {
-        return None;
+    let format = format_of(matches);
+    match numbers_of(matches, RUN_LIMIT) {
+        Some(numbers) => Some(Subcommand::Seeds(numbers.0, numbers.1, format)),
+        None => None,
     }
-    Some(Subcommand::Seeds(seed, runs))
 }
 
 /// What is written of the ends of runs.
@@ -110,51 +154,51 @@ fn form_of<'a>(matches: &ArgMatches<'a>) -> Form
     ensures few { one_text (found_of matches.now) (codes "all") ≡ Some (codes "false") → result.all ≡ false }
     ensures trees { one_text (found_of matches.now) (codes "trees") ≡ Some (codes "true") → result.trees ≡ true }
     ensures lines { one_text (found_of matches.now) (codes "trees") ≡ Some (codes "false") → result.trees ≡ false }
+    ensures json { one_text (found_of matches.now) (codes "json") ≡ Some (codes "true") → result.json ≡ true }
+    ensures text { one_text (found_of matches.now) (codes "json") ≡ Some (codes "false") → result.json ≡ false }
+    ensures form { (form : Form) → IsFormOf (found_of matches.now) form → result ≡ form }
 {
     Form {
         all: matches.get_flag("all"),
         trees: matches.get_flag("trees"),
+        json: matches.get_flag("json"),
     }
 }
 
-/// The numbers of drawn runs whose ends are counted, or that lines are added up. `clap` has read the numbers within their
-/// ranges, and here they are looked at once more.
+/// Drawn runs whose ends are counted, or that lines are added up.
 fn outcomes_of<'a>(matches: &ArgMatches<'a>) -> Option<Subcommand<'a>>
     ensures within { ForSome result IsWithin }
     ensures name { IfSome result (λ command. name_of command ≡ codes "outcomes") }
     ensures added { (form : Form) → IsFlagOf (found_of matches.now) (codes "add") true → IsFormOf (found_of matches.now) form
         → result ≡ Some (Subcommand.AddedOutcomes form) }
     ensures some { (seed runs : ℕ) (form : Form) → IsFlagOf (found_of matches.now) (codes "add") false → IsFormOf (found_of matches.now) form
-        → IsNumberOf (found_of matches.now) (codes "seed") seed → IsNumberOf (found_of matches.now) (codes "runs") runs
-        → IsWithin (Subcommand.Outcomes seed runs form) → result ≡ Some (Subcommand.Outcomes seed runs form) }
+        → AreNumbersOf (found_of matches.now) OUTCOME_LIMIT seed runs → result ≡ Some (Subcommand.Outcomes seed runs form) }
 {
     let form = form_of(matches);
     if flag_given(matches, "add") {
         return Some(Subcommand::AddedOutcomes(form));
     }
-    let seed = number_given(matches, "seed")?;
-    let runs = number_given(matches, "runs")?;
-    if seed > SEED_LIMIT || runs < 1 || runs > OUTCOME_LIMIT {
-        return None;
+    match numbers_of(matches, OUTCOME_LIMIT) {
+        Some(numbers) => Some(Subcommand::Outcomes(numbers.0, numbers.1, form)),
+        None => None,
     }
-    Some(Subcommand::Outcomes(seed, runs, form))
 }
 
-/// What is searched, in how many runs. `clap` has read the numbers within their ranges, and here they are looked at once more.
+/// What is searched, in how many runs.
 fn find_of<'a>(matches: &ArgMatches<'a>) -> Option<Subcommand<'a>>
     ensures within { ForSome result IsWithin }
     ensures name { IfSome result (λ command. name_of command ≡ codes "find") }
-    ensures some { (text : List ℕ) (seed runs : ℕ) → first_value (found_of matches.now) (codes "where") ≡ Some text
-        → IsNumberOf (found_of matches.now) (codes "seed") seed → IsNumberOf (found_of matches.now) (codes "runs") runs
-        → seed ≤ SEED_LIMIT → 1 ≤ runs → runs ≤ SEARCH_LIMIT → IsSearch text seed runs result }
+    ensures some { (text : List ℕ) (seed runs : ℕ) (format : Format) → first_value (found_of matches.now) (codes "where") ≡ Some text
+        → AreNumbersOf (found_of matches.now) SEARCH_LIMIT seed runs → IsFormatOf (found_of matches.now) format → SearchesFor text seed runs format result }
 {
-    let what = matches.get_str("where")?;
-    let seed = number_given(matches, "seed")?;
-    let runs = number_given(matches, "runs")?;
-    if seed > SEED_LIMIT || runs < 1 || runs > SEARCH_LIMIT {
+    let format = format_of(matches);
+    let Some(what) = matches.get_str("where") else {
         return None;
+    };
+    match numbers_of(matches, SEARCH_LIMIT) {
+        Some(numbers) => Some(Subcommand::Find(what, numbers.0, numbers.1, format)),
+        None => None,
     }
-    Some(Subcommand::Find(what, seed, runs))
 }
 
 /// What is asked of trees.
@@ -198,9 +242,6 @@ fn histories_of<'a>(matches: &ArgMatches<'a>) -> Histories
 fn limit_of<'a>(matches: &ArgMatches<'a>) -> Option<Subcommand<'a>>
     ensures within { ForSome result IsWithin }
     ensures name { IfSome result (λ command. name_of command ≡ codes "linearize") }
-    ensures some { (limit : ℕ) → IsNumberOf (found_of matches.now) (codes "limit") limit → 1 ≤ limit → limit ≤ CONFIGURATION_LIMIT
-        → IsSearched limit result }
-    ensures none { one_text (found_of matches.now) (codes "limit") ≡ None → IsSearched CONFIGURATIONS result }
 {
     let limit = match number_given(matches, "limit") {
         Some(limit) => limit,
@@ -240,8 +281,8 @@ pub(crate) fn subcommand_of<'a>(matches: &ArgMatches<'a>) -> Option<Subcommand<'
         "outcomes" => outcomes_of(given),
         "find" => find_of(given),
         "tree" => Some(Subcommand::Tree(schedule_of(given), asked_of(given))),
-        "threads" => Some(Subcommand::Threads),
-        "check" => Some(Subcommand::Check),
+        "threads" => Some(Subcommand::Threads(given.get_flag("journal"))),
+        "check" => Some(Subcommand::Check(format_of(given))),
         "linearize" => limit_of(given),
         "trace" => Some(Subcommand::Trace(schedule_of(given), given.get_flag("every"))),
         "draw" => Some(Subcommand::Draw(schedule_of(given), given.get_one::<u64>("around"))),

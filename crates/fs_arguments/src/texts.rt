@@ -118,10 +118,10 @@ Example:
 
 pub(crate) const TRACE_STATUSES: &str = "\
 Exit status:
-  0  every call of the script returned
-  1  the script ended with calls left: the lines `left` tell which; or a checkpoint found calls under way
+  0  every call of the script returned, or the journal is lawful
+  1  the script ended with calls left: the lines `left` tell which; or the journal has a fault; or a checkpoint found calls under way
   2  usage error
-  3  the input is no script: `atomfs explain` says what to write instead
+  3  the input is no script and no journal: `atomfs explain` says what to write instead
   4  out of memory, or no node number left
   5  a read or a write failed
 

@@ -12,6 +12,7 @@ use Rattle.fs_recorded.specs.declared.many.Histories.{Histories}
 use Rattle.fs_replay.specs.Faults.{status_of_replay}
 use Rattle.fs_replay.specs.declared.fault.ReplayFault.{ReplayFault}
 use Rattle.fs_replay.specs.declared.running.Replayed.{Replayed}
+use Rattle.fs_entries.specs.declared.running.Traced.{Traced}
 use Rattle.fs_threads.specs.declared.fault.ThreadsFault.{ThreadsFault}
 use Rattle.fs_threads.specs.declared.fault.ThreadsFault.TheVariants.{Run, Lists}
 use Rattle.fs_draw.specs.Faults.{status_of_draw}
@@ -93,6 +94,11 @@ status_of_drawn (Err fault) = status_of_draw fault
 abbrev pub status_of_replayed : Result Replayed ReplayFault → ℕ
 status_of_replayed (Ok replayed) = status_of_verdict replayed.well
 status_of_replayed (Err fault) = status_of_replay fault
+
+-- the same of a trace: 1 where calls are left, or a journal is not lawful
+abbrev pub status_of_traced : Result Traced RunFault → ℕ
+status_of_traced (Ok traced) = status_of_verdict traced.well
+status_of_traced (Err fault) = status_of_fault fault
 
 -- success where every call of the script returned, else 1
 abbrev pub status_of_run : RunEnd → ℕ

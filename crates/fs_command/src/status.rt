@@ -3,12 +3,13 @@
 ghost use Rattle.std.specs.Prelude.{◌≡◌, ◌≢◌, ◌⊎◌};
 ghost use Rattle.std.specs.IoError.{error_kind};
 ghost use Rattle.clap.specs.Values.{kind_of};
-ghost use Rattle.fs_command.specs.Statuses.{has_status, status_of, status_of_checked, status_of_drawn, status_of_found, status_of_linearized, status_of_many, status_of_outcome, status_of_outcomes, status_of_replayed, status_of_run, status_of_scheduled, status_of_started, status_of_verdict, status_of_words};
+ghost use Rattle.fs_command.specs.Statuses.{has_status, status_of, status_of_checked, status_of_drawn, status_of_found, status_of_linearized, status_of_many, status_of_outcome, status_of_outcomes, status_of_replayed, status_of_run, status_of_scheduled, status_of_started, status_of_traced, status_of_verdict, status_of_words};
 ghost use Rattle.fs_sched.specs.Faults.{status_of_fault};
 
 use clap::Error;
 use clap::error::ErrorKind;
 use fs_draw::DrawFault;
+use fs_entries::Traced;
 use fs_find::{FindFault, WhatFault};
 use fs_recorded::{Histories, Linearized, Outcome};
 use fs_replay::{ReplayFault, Replayed};
@@ -227,6 +228,20 @@ pub fn report_tree<E: Write>(errors: &mut E, outcome: Result<Replayed, ReplayFau
     };
     let _ = writeln!(errors, "atomfs: {fault}");
     fault.status()
+}
+
+/// The status that a trace came to, or that of its fault, whose message is written. Of a journal that is not lawful the message says
+/// what is wrong.
+pub fn report_trace<E: Write>(errors: &mut E, outcome: Result<Traced, RunFault>) -> u8
+    ensures { result ≡ status_of_traced outcome }
+{
+    match outcome {
+        Ok(traced) => {
+            tell(errors, traced.reason.as_slice());
+            status_of_verdict(traced.well)
+        }
+        Err(fault) => report(errors, Err(ThreadsFault::Run(fault))),
+    }
 }
 
 /// The status where the arguments cannot be read: 4 out of memory, 2 where one is not UTF-8.

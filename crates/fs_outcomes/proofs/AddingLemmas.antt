@@ -1,10 +1,11 @@
 -- Lines that are added up.
-use Rattle.std.proofs.Common.{ℕ, suc, ◌≡◌, ◌+◌, ◌<◌, Bool, List, [], ◌∷◌, ◌++◌, length, map, take, get_or, IsPermutation, Bor, refl, sym, ap, ◌∙◌, subst, arith, take-suc}
+use Rattle.std.proofs.Common.{ℕ, suc, ◌≡◌, ◌+◌, ◌<◌, List, [], ◌∷◌, ◌++◌, length, map, take, get_or, IsPermutation, Bor, refl, sym, ap, ◌∙◌, subst, arith, take-suc}
 use Rattle.fs_words.specs.Lines.{lines_of}
 use Rattle.fs_outcomes.specs.Added.{AreAdded}
 use Rattle.fs_outcomes.specs.Lines.{added_line, added_text}
 use Rattle.fs_outcomes.specs.Sums.{AddsUp, AreInOrder}
 use Rattle.fs_outcomes.specs.code.Mades.{AddsLine, HasLines}
+use Rattle.fs_outcomes.specs.declared.lines.Form.{Form}
 use Rattle.fs_outcomes.specs.declared.rows.Row.{Row}
 use Rattle.fs_outcomes.proofs.AddLemmas.{adds_none, adds_more}
 use Rattle.fs_outcomes.proofs.OutcomeLemmas.{sums_order}
@@ -28,6 +29,6 @@ lines_more labels lines at d old new less (given, told, sums) (row, is, changed)
       subst (λ rows. AddsUp (given ++ row ∷ []) rows) (sym changed) (adds_more given old row sums),
     )
 
-pub added_made : (all : Bool) (input text : List ℕ) (labels : List (List ℕ)) (lines : List (List ℕ)) (rows ordered : List Row) → lines ≡ lines_of input → HasLines labels lines rows → IsPermutation rows ordered → AreInOrder ordered
-    → text ≡ added_text all labels ordered → AreAdded all input text
-added_made all input text labels lines rows ordered read (given, told, sums) moved order is = (labels, given, ordered, sym read ∙ told, sums_order given rows ordered moved sums, order, is)
+pub added_made : (form : Form) (input text : List ℕ) (labels : List (List ℕ)) (lines : List (List ℕ)) (rows ordered : List Row) → lines ≡ lines_of input → HasLines labels lines rows → IsPermutation rows ordered → AreInOrder ordered
+    → text ≡ added_text form labels ordered → AreAdded form input text
+added_made form input text labels lines rows ordered read (given, told, sums) moved order is = (labels, given, ordered, sym read ∙ told, sums_order given rows ordered moved sums, order, is)

@@ -3,6 +3,7 @@ use Rattle.std.specs.Prelude.{ℕ, ◌+◌, Bool, true, false, not, ◌||◌, if
 use Rattle.std.specs.List.{flat_map, list_any}
 use Rattle.std.specs.Str.{bytes_eq}
 use Rattle.sha2.specs.Sha256.{sha256}
+use Rattle.fs_json.specs.Json.{string_text}
 use Rattle.fs_words.specs.Words.{hex_word}
 use Rattle.fs_outcomes.specs.declared.lines.Form.{Form}
 use Rattle.fs_outcomes.specs.declared.places.Place.{Place}
@@ -67,9 +68,48 @@ numbers_text row = decimal row.times ++ (codes " seed " ++ (decimal row.seed ++ 
 abbrev pub row_text : Bool → List (ℕ × List ℕ) → Row → List ℕ
 row_text trees columns row = numbers_text row ++ (digest_text row.end.tree ++ (parts_text columns row ++ (codes "\n" ++ (if trees then row.end.tree else []))))
 
+-- ---- the same as objects of JSON
+
+-- what stands before a member of an object: nothing before the first
+abbrev pub separator : Bool → List ℕ
+separator first = if first then [] else codes ","
+
+-- a call and its reply
+abbrev pub member_of : Row → ℕ × List ℕ → List ℕ
+member_of row column = string_text column.1 ++ (codes ":" ++ string_text (reply_in column.0 row))
+
+-- calls and their replies
+abbrev pub members_from : Bool → Row → List (ℕ × List ℕ) → List ℕ
+members_from first row [] = []
+members_from first row (column ∷ columns) = separator first ++ (member_of row column ++ members_from false row columns)
+
+-- how often a row came, its number, and what stands for its tree
+abbrev pub numbers_object : Row → List ℕ → List ℕ
+numbers_object row digest = codes "{\"times\":" ++ (decimal row.times ++ (codes ",\"seed\":" ++ (decimal row.seed ++ (codes ",\"digest\":" ++ string_text digest))))
+
+-- the replies of it that are written
+abbrev pub replies_object : List (ℕ × List ℕ) → Row → List ℕ
+replies_object columns row = codes ",\"replies\":{" ++ (members_from true row columns ++ codes "}")
+
+-- both
+abbrev pub head_object : List (ℕ × List ℕ) → Row → List ℕ → List ℕ
+head_object columns row digest = numbers_object row digest ++ replies_object columns row
+
+-- its tree, where that is asked for
+abbrev pub tree_member : Bool → Row → List ℕ
+tree_member trees row = if trees then codes ",\"tree\":" ++ string_text row.end.tree else []
+
+-- the object of a row
+abbrev pub row_object : Bool → List (ℕ × List ℕ) → Row → List ℕ
+row_object trees columns row = head_object columns row (digest_text row.end.tree) ++ (tree_member trees row ++ codes "}\n")
+
+-- a row in a form
+abbrev pub row_by : Form → List (ℕ × List ℕ) → Row → List ℕ
+row_by form columns row = if form.json then row_object form.trees columns row else row_text form.trees columns row
+
 -- the lines of rows
 abbrev pub rows_text : Form → List (List ℕ) → List Row → List ℕ
-rows_text form labels rows = flat_map (row_text form.trees (columns_of form.all labels rows)) rows
+rows_text form labels rows = flat_map (row_by form (columns_of form.all labels rows)) rows
 
 -- ---- rows that were read: in the place of a tree they have the digits that stand for it
 
@@ -81,9 +121,17 @@ added_words columns row = numbers_text row ++ (row.end.tree ++ parts_text column
 abbrev pub added_line : List (List ℕ) → Row → List ℕ
 added_line labels row = added_words (columns_of true labels []) row
 
--- the lines of such rows
+-- the line of such a row, and its object
 abbrev pub added_row : List (ℕ × List ℕ) → Row → List ℕ
 added_row columns row = added_words columns row ++ codes "\n"
 
-abbrev pub added_text : Bool → List (List ℕ) → List Row → List ℕ
-added_text all labels rows = flat_map (added_row (columns_of all labels rows)) rows
+abbrev pub added_object : List (ℕ × List ℕ) → Row → List ℕ
+added_object columns row = head_object columns row row.end.tree ++ codes "}\n"
+
+-- such a row in a form
+abbrev pub added_by : Form → List (ℕ × List ℕ) → Row → List ℕ
+added_by form columns row = if form.json then added_object columns row else added_row columns row
+
+-- the lines of such rows
+abbrev pub added_text : Form → List (List ℕ) → List Row → List ℕ
+added_text form labels rows = flat_map (added_by form (columns_of form.all labels rows)) rows

@@ -232,22 +232,22 @@ fn add_lines(alloc: Global, labels: &[Vec<u8>], lines: &[&[u8]]) -> Result<Rows,
 }
 
 /// The lines of rows that were added up.
-fn sum_of(alloc: Global, labels: &[Vec<u8>], rows: Rows, all: bool) -> Result<Vec<u8>, AllocError>
-    ensures { IfOk result (λ text. AreOrdered all (map (λ label. label.items) labels.now) rows.rows.items text.items) }
+fn sum_of(alloc: Global, labels: &[Vec<u8>], rows: Rows, form: Form) -> Result<Vec<u8>, AllocError>
+    ensures { IfOk result (λ text. AreOrdered form (map (λ label. label.items) labels.now) rows.rows.items text.items) }
 {
     let rows = rows.in_order()?;
-    let text = added_text(alloc, labels, &rows, all)?;
+    let text = added_text(alloc, labels, &rows, form)?;
     Ok(text)
 }
 
 /// The lines that add up those of a text.
-fn sum_in(alloc: Global, text: &[u8], all: bool) -> Result<Made<()>, RunFault>
-    ensures { MakesSum all text.now result }
+fn sum_in(alloc: Global, text: &[u8], form: Form) -> Result<Made<()>, RunFault>
+    ensures { MakesSum form text.now result }
 {
     let lines = lines_in(alloc, text)?;
     let labels = first_labels(alloc, &lines)?;
     let rows = add_lines(alloc, &labels, &lines)?;
-    match sum_of(alloc, &labels, rows, all) {
+    match sum_of(alloc, &labels, rows, form) {
         Ok(text) => Ok(Made { text, end: () }),
         Err(_) => Err(RunFault::OutOfMemory),
     }
@@ -266,23 +266,22 @@ pub fn add_outcomes<R: Source, W: Sink>(
 
     // Each line is one of a row, byte for byte, and what is written has a line for each end of these, with the sum of how often they
     // came and the least of their numbers.
-    ensures added { OnOk result ((text : List ℕ) × IfSome (R.remaining reader.old) (λ input. AreAdded form.all input text) × Appends (W.contents writer.old) (W.contents writer.new) text) }
+    ensures added { OnOk result ((text : List ℕ) × IfSome (R.remaining reader.old) (λ input. AreAdded form input text) × Appends (W.contents writer.old) (W.contents writer.new) text) }
 
     // A device is blamed only where it failed in this call; after a failed write a beginning of the lines stands, and after every
     // other error nothing was written.
     ensures devices { KeepsDevices R.failures W.failures reader.old reader.new writer.old writer.new RunFault.Read RunFault.Write result }
-    ensures beginning { IsErrOf result RunFault.Write → (text : List ℕ) × IfSome (R.remaining reader.old) (λ input. AreAdded form.all input text) × WritesBeginning text (W.contents writer.old) (W.contents writer.new) }
+    ensures beginning { IsErrOf result RunFault.Write → (text : List ℕ) × IfSome (R.remaining reader.old) (λ input. AreAdded form input text) × WritesBeginning text (W.contents writer.old) (W.contents writer.new) }
     ensures full { result ≢ Err RunFault.Full }
     ensures under_way { (call : ℕ) → result ≢ Err (RunFault.UnderWay call) }
 {
-    let all = form.all;
     let ended = transform(
         alloc,
         reader,
         writer,
         |text| -> Result<Made<()>, RunFault>
-            ensures { MakesSum all text.items result }
-        { sum_in(alloc, text.as_slice(), all) },
+            ensures { MakesSum form text.items result }
+        { sum_in(alloc, text.as_slice(), form) },
     );
     match ended {
         Ok(done) => Ok(done),

@@ -15,6 +15,7 @@ mod adding;
 mod ends;
 mod heard;
 mod lines;
+mod objects;
 mod places;
 mod rows;
 mod running;

@@ -2,8 +2,9 @@
 
 ghost use Rattle.std.specs.Prelude.{◌≡◌, ◌++◌, ◌∷◌, [], if◌then◌else◌, IfOk, OnOk, get_or, map};
 ghost use Rattle.std.specs.List.{list_any};
-ghost use Rattle.fs_outcomes.specs.Lines.{added_line, added_row, added_text, added_words, columns_of, differs, digest_text, is_other, is_shown, label_of, labels_of, numbers_text, part_of, parts_text, reply_in, reply_part, row_text, rows_text};
+ghost use Rattle.fs_outcomes.specs.Lines.{added_by, added_line, added_row, added_text, added_words, columns_of, differs, digest_text, is_other, is_shown, label_of, labels_of, numbers_text, part_of, parts_text, reply_in, reply_part, row_by, row_text, rows_text};
 
+use crate::objects::{push_added_object, push_row_object};
 use crate::places::Place;
 use crate::rows::Row;
 use fs_script::ThreadNames;
@@ -12,11 +13,13 @@ use sha2::{Digest, Sha256};
 use std::alloc::{AllocError, Global};
 use std::marker::Model;
 
-/// What is written of rows: the replies of every call or those that differ; and whether each line has its tree behind it.
+/// What is written of rows: the replies of every call or those that differ; whether each line has its tree behind it; and whether
+/// each is an object of JSON.
 #[derive(Clone, Copy, Debug, PartialEq, Eq)]
 pub struct Form {
     pub all: bool,
     pub trees: bool,
+    pub json: bool,
 }
 
 /// The name of a thread.
@@ -55,7 +58,7 @@ pub(crate) fn labels_of(
 }
 
 /// The reply of a row at a place among the calls; nothing where there is none.
-fn reply_in(row: &Row, at: usize) -> &[u8]
+pub(crate) fn reply_in(row: &Row, at: usize) -> &[u8]
     ensures { result.now ≡ reply_in at row.now }
 {
     if at < row.end.replies.len() {
@@ -103,9 +106,9 @@ fn is_shown(all: bool, rows: &[Row], at: usize) -> bool
 
 /// A call whose replies are written: its place among the calls, and its name.
 #[derive(Drop)]
-struct Column {
-    at: usize,
-    label: Vec<u8>,
+pub(crate) struct Column {
+    pub(crate) at: usize,
+    pub(crate) label: Vec<u8>,
 }
 
 impl Model for Column {
@@ -153,7 +156,7 @@ fn columns_of(
 }
 
 /// What stands for a tree in a line: the first sixteen digits of its digest.
-fn push_digest(alloc: Global, tree: &[u8], text: &mut Addition) -> Result<(), AllocError>
+pub(crate) fn push_digest(alloc: Global, tree: &[u8], text: &mut Addition) -> Result<(), AllocError>
     ensures ok { OnOk result (text.new.added ≡ text.old.added ++ digest_text tree.now) }
     ensures before { text.new.before ≡ text.old.before }
 {
@@ -222,6 +225,24 @@ fn push_row(
     Ok(())
 }
 
+/// A row in a form.
+fn push_row_by(
+    alloc: Global,
+    columns: &[Column],
+    form: Form,
+    row: &Row,
+    text: &mut Addition,
+) -> Result<(), AllocError>
+    ensures ok { OnOk result (text.new.added ≡ text.old.added ++ row_by form columns.now row.now) }
+    ensures before { text.new.before ≡ text.old.before }
+{
+    if form.json {
+        push_row_object(alloc, columns, form.trees, row, text)
+    } else {
+        push_row(alloc, columns, form.trees, row, text)
+    }
+}
+
 /// The lines of rows, in order.
 pub(crate) fn rows_text(
     alloc: Global,
@@ -234,7 +255,7 @@ pub(crate) fn rows_text(
     let columns = columns_of(alloc, labels, rows, form.all)?;
     let mut text = Addition::new(Vec::new(alloc));
     for row in rows {
-        push_row(alloc, &columns, form.trees, row, &mut text)?;
+        push_row_by(alloc, &columns, form, row, &mut text)?;
     }
     Ok(text.kept())
 }
@@ -272,19 +293,37 @@ fn push_added_line(columns: &[Column], row: &Row, text: &mut Addition) -> Result
     text.push(b"\n")
 }
 
+/// A row whose tree is known by its digest, in a form.
+fn push_added_by(
+    alloc: Global,
+    columns: &[Column],
+    form: Form,
+    row: &Row,
+    text: &mut Addition,
+) -> Result<(), AllocError>
+    ensures ok { OnOk result (text.new.added ≡ text.old.added ++ added_by form columns.now row.now) }
+    ensures before { text.new.before ≡ text.old.before }
+{
+    if form.json {
+        push_added_object(alloc, columns, row, text)
+    } else {
+        push_added_line(columns, row, text)
+    }
+}
+
 /// The lines of rows whose trees are known by their digests, in order.
 pub(crate) fn added_text(
     alloc: Global,
     labels: &[Vec<u8>],
     rows: &[Row],
-    all: bool,
+    form: Form,
 ) -> Result<Vec<u8>, AllocError>
-    ensures { IfOk result (λ text. text.items ≡ added_text all (map (λ label. label.items) labels.now) rows.now) }
+    ensures { IfOk result (λ text. text.items ≡ added_text form (map (λ label. label.items) labels.now) rows.now) }
 {
-    let columns = columns_of(alloc, labels, rows, all)?;
+    let columns = columns_of(alloc, labels, rows, form.all)?;
     let mut text = Addition::new(Vec::new(alloc));
     for row in rows {
-        push_added_line(&columns, row, &mut text)?;
+        push_added_by(alloc, &columns, form, row, &mut text)?;
     }
     Ok(text.kept())
 }

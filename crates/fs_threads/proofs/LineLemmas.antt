@@ -1,11 +1,15 @@
--- The line of what was read is the line of the input, and its number is that of the script's calls.
-use Rattle.std.proofs.Common.{◌≡◌, ℕ, ◌+◌, cond, List, [], ◌∷◌, length, map, sum_by, Option, Some, None, Result, refl, sym, ap, ◌∙◌, arith}
+-- What is written of what was read is written of the input, and its number is that of the script's calls.
+use Rattle.std.proofs.Common.{◌≡◌, ℕ, ◌+◌, cond, Bool, true, false, List, [], ◌∷◌, length, map, sum_by, Option, Some, None, Result, refl, sym, subst, ap, ◌∙◌, arith}
 use Rattle.std.specs.Prelude.{IfSome}
 use Rattle.std.proofs.lemmas.List.Sums.{sum_by-cons}
+use Rattle.fs_names.specs.declared.limits.Limits.{Limits}
+use Rattle.fs_calls.specs.Starts.{Start, root_start}
 use Rattle.fs_calls.specs.declared.call.Call.{Call}
+use Rattle.fs_timeline.specs.Timeline.{IsLawful}
 use Rattle.fs_timeline.specs.declared.entry.Entry.{Entry}
 use Rattle.fs_timeline.specs.declared.entry.Entry.TheVariants.{Begin, Commit, Return}
 use Rattle.fs_words.specs.declared.fault.ScriptFault.{ScriptFault}
+use Rattle.fs_script.specs.Journals.{journal_text}
 use Rattle.fs_script.specs.Script.{script_of}
 use Rattle.fs_script.specs.declared.script.Script.{Script}
 use Rattle.fs_sched.specs.Devices.{IsSameText}
@@ -17,7 +21,7 @@ use Rattle.fs_sched.proofs.RunLemmas.{script_same}
 use Rattle.fs_share.specs.Returns.{returns}
 use Rattle.fs_threads.specs.Faults.{IsOfInput}
 use Rattle.fs_threads.specs.code.ThreadFaults.{IsOfThreads}
-use Rattle.fs_threads.specs.Lines.{IsLineOf}
+use Rattle.fs_threads.specs.Lines.{lawful_line, text_of, IsTextOf, IsWrittenOf}
 use Rattle.fs_threads.specs.declared.fault.ThreadsFault.{ThreadsFault}
 use Rattle.fs_threads.specs.declared.fault.ThreadsFault.TheVariants.{Run, Lists}
 
@@ -36,9 +40,15 @@ pub calls_are : {V : Type 0} (f : V → List Call) (len : V → ℕ) → ((v : V
 calls_are f len h [] = refl
 calls_are f len h (x ∷ xs) = omega (arith, sum_by-cons len x xs, h x, calls_are f len h xs)
 
-pub known_line : (r : Option (List ℕ)) (text items line : List ℕ) → text ≡ items → IfSome r (IsSameText items) → IsLineOf text line → IfSome r (λ input. IsLineOf input line)
-known_line None text items line e s h = tt
-known_line (Some input) text items line e s h = (h.0, sym (script_same items input s) ∙ sym (ap script_of e) ∙ h.1, h.2)
+pub known_text : (journal : Bool) (r : Option (List ℕ)) (given items text : List ℕ) → given ≡ items → IfSome r (IsSameText items) → IsTextOf journal given text → IfSome r (λ input. IsTextOf journal input text)
+known_text journal None given items text e s h = tt
+known_text journal (Some input) given items text e s h = (h.0, sym (script_same items input s) ∙ sym (ap script_of e) ∙ h.1, h.2)
+
+-- what is written of a lawful timeline in which so many calls returned
+pub written : (journal : Bool) (limits : Limits) (start : Start) (es : List Entry) (calls : ℕ) (text : List ℕ)
+    → start ≡ root_start limits → IsLawful start es → number_of kind.Return es ≡ calls → text ≡ text_of journal start es → IsWrittenOf journal limits calls text
+written true limits start es calls text root lawful number is = (es, subst (λ (s : Start). IsLawful s es) root lawful, number, is ∙ ap (λ (s : Start). journal_text s es) root)
+written false limits start es calls text root lawful number is = is ∙ ap lawful_line number
 
 -- a fault of the threads is one with any input
 pub input_of_threads : (given : Result Script ScriptFault) (fault : ThreadsFault) → IsOfThreads fault → IsOfInput given fault

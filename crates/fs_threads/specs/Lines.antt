@@ -1,11 +1,18 @@
 -- What is written of a script that threads ran.
-use Rattle.std.specs.Prelude.{ℕ, ◌≡◌, List, ◌++◌, Ok, codes, decimal}
+use Rattle.std.specs.Prelude.{ℕ, ◌≡◌, Bool, true, false, List, ◌++◌, Ok, codes, decimal}
+use Rattle.fs_names.specs.declared.limits.Limits.{Limits}
+use Rattle.fs_calls.specs.Starts.{Start, root_start}
+use Rattle.fs_timeline.specs.Timeline.{IsLawful}
+use Rattle.fs_timeline.specs.declared.entry.Entry.{Entry}
 use Rattle.fs_timeline.specs.declared.verdict.Verdict.{Verdict}
 use Rattle.fs_timeline.specs.declared.verdict.Verdict.TheVariants.{Lawful, Fault}
+use Rattle.fs_script.specs.Journals.{journal_text}
 use Rattle.fs_script.specs.Script.{script_of}
 use Rattle.fs_script.specs.declared.script.Script.{Script}
 use Rattle.fs_sched.specs.Checks.{verdict_line}
 use Rattle.fs_sched.specs.Runs.{calls_in}
+use Rattle.fs_sched.specs.RunTexts.{number_of}
+use Rattle.fs_sched.specs.declared.run_texts.EntryKind.TheVariants as entry
 
 -- the line of a lawful timeline in which so many calls returned
 abbrev pub lawful_line : ℕ → List ℕ
@@ -16,6 +23,16 @@ abbrev pub line_of : ℕ → Verdict → List ℕ
 line_of returned Lawful = lawful_line returned
 line_of returned (Fault place kind) = verdict_line (Fault place kind)
 
--- the line of the script that a text has: all its calls returned, and the timeline is lawful
-abbrev pub IsLineOf : List ℕ → List ℕ → Type 0
-IsLineOf text line = (script : Script) × (script_of text ≡ Ok script) × (line ≡ lawful_line (calls_in script.lists))
+-- what is written of a timeline: its journal, or the line that it is lawful
+abbrev pub text_of : Bool → Start → List Entry → List ℕ
+text_of true start es = journal_text start es
+text_of false start es = lawful_line (number_of entry.Return es)
+
+-- a timeline of so many calls from the root alone, by these limits: it is lawful, each call returned, and this is written of it
+abbrev pub IsWrittenOf : Bool → Limits → ℕ → List ℕ → Type 0
+IsWrittenOf true limits calls text = (es : List Entry) × IsLawful (root_start limits) es × (number_of entry.Return es ≡ calls) × (text ≡ journal_text (root_start limits) es)
+IsWrittenOf false limits calls text = text ≡ lawful_line calls
+
+-- the same of the script that a text has
+abbrev pub IsTextOf : Bool → List ℕ → List ℕ → Type 0
+IsTextOf journal input text = (script : Script) × (script_of input ≡ Ok script) × IsWrittenOf journal script.limits (calls_in script.lists) text

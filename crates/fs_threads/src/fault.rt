@@ -1,4 +1,4 @@
-//! Why a script's threads ended without their line written.
+//! Why a script's threads ended without their text written.
 
 ghost use Rattle.std.specs.Prelude.{◌≡◌};
 ghost use Rattle.fs_threads.specs.Faults.{threads_fault_of};
@@ -8,7 +8,7 @@ use fs_sched::RunFault;
 use fs_share::ListsFault;
 use thiserror::Error;
 
-/// Why a script's threads ended without their line written. After a failed write a beginning of the line was written, and
+/// Why a script's threads ended without their text written. After a failed write a beginning of the text was written, and
 /// after the others nothing.
 #[derive(Clone, Copy, Debug, PartialEq, Eq, Error)]
 pub enum ThreadsFault {

@@ -1,5 +1,5 @@
 -- What is made of the text of a script, before it is written.
-use Rattle.std.specs.Prelude.{ℕ, ◌≡◌, ◌≤◌, Bool, List, length, map, Result, IfOk, OnOk, IfErr, IsPermutation}
+use Rattle.std.specs.Prelude.{ℕ, ◌≡◌, ◌≤◌, List, length, map, Result, IfOk, OnOk, IfErr, IsPermutation}
 use Rattle.std.specs.List.{sum_by}
 use Rattle.fs_io.specs.declared.shell.Made.{Made}
 use Rattle.fs_script.specs.Script.{script_of}
@@ -53,8 +53,8 @@ abbrev pub HasLines : List (List ℕ) → List (List ℕ) → List Row → Type 
 HasLines labels lines rows = (given : List Row) × (lines ≡ map (added_line labels) given) × AddsUp given rows
 
 -- a text has the lines of rows in their order
-abbrev pub AreOrdered : Bool → List (List ℕ) → List Row → List ℕ → Type 0
-AreOrdered all labels rows text = (ordered : List Row) × IsPermutation rows ordered × AreInOrder ordered × (text ≡ added_text all labels ordered)
+abbrev pub AreOrdered : Form → List (List ℕ) → List Row → List ℕ → Type 0
+AreOrdered form labels rows text = (ordered : List Row) × IsPermutation rows ordered × AreInOrder ordered × (text ≡ added_text form labels ordered)
 
 -- the fault of a text that has another line, or out of memory
 abbrev pub IsBadLine : RunFault → Type 0
@@ -66,7 +66,7 @@ IsBadLine Full = ⊥
 IsBadLine (UnderWay c) = ⊥
 
 -- the lines that add up those of a text; or why there are none
-pub record MakesSum (all : Bool) (input : List ℕ) (result : Result (Made (Unit {0})) RunFault) : Type 0 where
-  pub ok : IfOk result (λ made. AreAdded all input made.text.items)
+pub record MakesSum (form : Form) (input : List ℕ) (result : Result (Made (Unit {0})) RunFault) : Type 0 where
+  pub ok : IfOk result (λ made. AreAdded form input made.text.items)
   pub short : OnOk result (length input ≤ TEXT_LIMIT)
   pub fault : IfErr result IsBadLine

@@ -4,7 +4,7 @@ use Rattle.fs_io.specs.declared.shell.Made.{Made}
 use Rattle.fs_script.specs.Script.{script_of}
 use Rattle.fs_sched.specs.code.Stages.{IsRefusal}
 use Rattle.fs_threads.specs.Faults.{IsOfInput}
-use Rattle.fs_threads.specs.Lines.{IsLineOf}
+use Rattle.fs_threads.specs.Lines.{IsTextOf}
 use Rattle.fs_threads.specs.declared.fault.ThreadsFault.{ThreadsFault}
 use Rattle.fs_threads.specs.declared.fault.ThreadsFault.TheVariants.{Run, Lists}
 
@@ -13,8 +13,8 @@ abbrev pub IsOfThreads : ThreadsFault → Type 0
 IsOfThreads (Run fault) = IsRefusal fault
 IsOfThreads (Lists fault) = Unit {0}
 
--- the line of the script that a text has, whose timeline is lawful; or why there is none
-pub record MakesLine (text : List ℕ) (result : Result (Made Bool) ThreadsFault) : Type 0 where
-  pub line : IfOk result (λ made. IsLineOf text made.text.items)
+-- what is written of the script that a text has, whose timeline is lawful; or why nothing is
+pub record MakesText (journal : Bool) (text : List ℕ) (result : Result (Made Bool) ThreadsFault) : Type 0 where
+  pub written : IfOk result (λ made. IsTextOf journal text made.text.items)
   pub lawful : IfOk result (λ made. made.end ≡ true)
   pub fault : IfErr result (IsOfInput (script_of text))

@@ -14,7 +14,7 @@ gives fault x = x ≡ fault
 pub returns-in-Ok-clause-added : goal.returns-in-Ok-clause-added
 returns-in-Ok-clause-added g c =
     let told = c.in-Ok.ensures.made in
-    (told.1.text.items, known (λ input. AreAdded c.args.form.all input told.1.text.items) _ _ _ refl told.4.1.short told.2 told.4.1.ok, told.6)
+    (told.1.text.items, known (λ input. AreAdded c.args.form input told.1.text.items) _ _ _ refl told.4.1.short told.2 told.4.1.ok, told.6)
 
 pub returns-in-Err-clause-full : goal.returns-in-Err-clause-full
 returns-in-Err-clause-full g c e =
@@ -32,4 +32,4 @@ returns-in-Err-clause-beginning g c e =
     let told = c.in-Err.ensures.unmade f (ap Err same) in
     subst IsBadLine wrong told.2.1.fault in
     let told = c.in-Err.ensures.beginning (ap Err (unwritten gives _ _ Write c.between.ensures (cc) (λ z. cc) (λ z. cc) never)) in
-    (told.1.text.items, known (λ input. AreAdded c.args.form.all input told.1.text.items) _ _ _ refl told.3.1.short told.2 told.3.1.ok, told.4)
+    (told.1.text.items, known (λ input. AreAdded c.args.form input told.1.text.items) _ _ _ refl told.3.1.short told.2 told.3.1.ok, told.4)

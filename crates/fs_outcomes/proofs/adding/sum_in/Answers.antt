@@ -9,9 +9,9 @@ returns-in-Ok c =
     let lines = map (λ (line : Bor (List ℕ)). line.now) c.deref-3.result.now in
     let read = ap (map (λ (line : Bor (List ℕ)). line.now)) c.deref-3.ensures.value ∙ c.in_ok-lines.ensures.lines in
     let (ordered, moved, order, is) = c.in-Ok.ensures in
-    let same = ap (λ ls. added_text c.args.all (map (λ label. label.items) ls) ordered) (c.deref-4.ensures.value ∙ sym c.deref-2.ensures.value) in
+    let same = ap (λ ls. added_text c.args.form (map (λ label. label.items) ls) ordered) (c.deref-4.ensures.value ∙ sym c.deref-2.ensures.value) in
     record {
-      ok = added_made c.args.all c.args.text.now c.in-Ok.text.items labels lines c.in_ok-rows.rows.rows.items ordered read c.in_ok-rows.ensures.rows moved order (is ∙ same);
+      ok = added_made c.args.form c.args.text.now c.in-Ok.text.items labels lines c.in_ok-rows.rows.rows.items ordered read c.in_ok-rows.ensures.rows moved order (is ∙ same);
       short = c.in_ok-lines.ensures.short;
       fault = tt;
     }

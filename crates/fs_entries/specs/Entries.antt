@@ -1,0 +1,56 @@
+-- The trace of a journal, and that of an input.
+use Rattle.std.specs.Prelude.{ℕ, ◌≡◌, ◌+◌, ◌==◌, Bool, true, false, List, [], ◌∷◌, ◌++◌, Ok, codes, decimal}
+use Rattle.std.specs.List.{join_with_byte}
+use Rattle.fs_calls.specs.Starts.{Start}
+use Rattle.fs_timeline.specs.Verdicts.{verdict}
+use Rattle.fs_timeline.specs.declared.entry.Entry.{Entry}
+use Rattle.fs_timeline.specs.declared.entry.Entry.TheVariants.{Begin, Commit, Return}
+use Rattle.fs_text.specs.Calls.{call_words}
+use Rattle.fs_text.specs.Journal.{reply_words}
+use Rattle.fs_script.specs.Journals.{journal_of}
+use Rattle.fs_sched.specs.RunTexts.{end_line}
+use Rattle.fs_sched.specs.declared.running.RunEnd.{RunEnd}
+use Rattle.fs_sched.specs.declared.schedule.Schedule.{Schedule}
+use Rattle.fs_sched.specs.declared.schedule.Schedule.TheVariants.{Given}
+use Rattle.fs_trace.specs.Traces.{IsTraceOf}
+use Rattle.fs_replay.specs.Commits.{front_by}
+use Rattle.fs_replay.specs.Replays.{is_journal, IsReplayOf}
+use Rattle.fs_replay.specs.declared.asking.Question.TheVariants.{Whole}
+
+-- the line of an entry: its place, whose it is, what it does, and words behind that
+abbrev pub line_text : ℕ → List ℕ → ℕ → List ℕ → List ℕ → List ℕ
+line_text n seat c verb words = decimal n ++ (codes " " ++ (seat ++ (codes "#" ++ (decimal c ++ (verb ++ (words ++ codes "\n"))))))
+
+-- the same of this entry: who began what, whose call committed, and what was returned to whom
+abbrev pub IsLine : ℕ → Entry → List ℕ → Type 0
+IsLine n (Begin c seat call) line = line ≡ line_text n (decimal seat) c (codes " begins ") (join_with_byte 32 (call_words call))
+IsLine n (Commit c) line = (seat effect : List ℕ) × (line ≡ line_text n seat c (codes " commits, ") effect)
+IsLine n (Return c r) line = (seat : List ℕ) × (line ≡ line_text n seat c (codes " returns ") (join_with_byte 32 (reply_words r)))
+
+-- a line for each entry, from this place on
+abbrev pub AreLines : ℕ → List Entry → List ℕ → Type 0
+AreLines n [] text = text ≡ []
+AreLines n (e ∷ es) text = (line rest : List ℕ) × IsLine n e line × AreLines (n + 1) es rest × (text ≡ line ++ rest)
+
+-- the trace of these entries, behind which this tree stands: a line for each, lines of the calls that are left, the tree, and the counts
+abbrev pub IsTraceBehind : List Entry → List ℕ → List ℕ → Type 0
+IsTraceBehind es tree text = (lines left : List ℕ) × AreLines 1 es lines × (text ≡ codes "atomfs-trace 1\n" ++ (lines ++ (left ++ (tree ++ end_line es))))
+
+-- the trace of a journal: its entries, or those before its first fault, and the tree that these make; it went well where it is lawful
+abbrev pub IsTraceOfJournal : List ℕ → Bool → List ℕ → Type 0
+IsTraceOfJournal input well text =
+    (start : Start) × (es : List Entry) × (tree : List ℕ) × (journal_of input ≡ Ok (start, es)) × IsReplayOf Given input Whole well tree
+    × IsTraceBehind (front_by (verdict start es) es) tree text
+
+-- the trace of a run went well where each call of the script returned
+abbrev pub IsTraceOfRun : Schedule → Bool → List ℕ → Bool → List ℕ → Type 0
+IsTraceOfRun schedule every input well text = (end : RunEnd) × IsTraceOf schedule every input end text × (well ≡ (end.returned == end.calls))
+
+-- that of an input, as a journal or as a script
+abbrev pub IsTraceAs : Bool → Schedule → Bool → List ℕ → Bool → List ℕ → Type 0
+IsTraceAs true schedule every input well text = IsTraceOfJournal input well text
+IsTraceAs false schedule every input well text = IsTraceOfRun schedule every input well text
+
+-- the trace of an input: of its journal, where it has the first bytes of one, and else of a run of its script
+abbrev pub IsTraceOfInput : Schedule → Bool → List ℕ → Bool → List ℕ → Type 0
+IsTraceOfInput schedule every input well text = IsTraceAs (is_journal input) schedule every input well text

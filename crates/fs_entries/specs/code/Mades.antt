@@ -1,0 +1,19 @@
+-- What is made of the text of an input, before it is written.
+use Rattle.std.specs.Prelude.{◌≡◌, ◌++◌, ℕ, Bool, true, List, [], Result, IfOk, IfErr}
+use Rattle.fs_timeline.specs.declared.entry.Entry.{Entry}
+use Rattle.fs_io.specs.declared.shell.Made.{Made}
+use Rattle.fs_sched.specs.declared.schedule.Schedule.{Schedule}
+use Rattle.fs_verdict.specs.declared.fault.RunFault.{RunFault}
+use Rattle.fs_replay.specs.Replays.{is_journal, IsUntold}
+use Rattle.fs_entries.specs.Entries.{IsLine, IsTraceAs, IsTraceOfInput}
+use Rattle.fs_entries.specs.declared.running.Traced.{Traced}
+
+-- the line of an entry is added to a text
+abbrev pub AddsLine : ℕ → Entry → List ℕ → List ℕ → Type 0
+AddsLine n e old new = (line : List ℕ) × IsLine n e line × (new ≡ old ++ line)
+
+-- the trace of a text, as a journal or as a script; or why there is none
+pub record MakesTraceAs (journal : Bool) (schedule : Schedule) (every : Bool) (input : List ℕ) (result : Result (Made Traced) RunFault) : Type 0 where
+  pub traced : IfOk result (λ made. IsTraceAs journal schedule every input made.end.well made.text.items)
+  pub quiet : IfOk result (λ made. made.end.well ≡ true → made.end.reason.items ≡ [])
+  pub fault : IfErr result (IsUntold journal schedule input)
