@@ -25,7 +25,7 @@ use Rattle.fs_embed.specs.Statuses.{IsReturned, IsRefusal, fault_status, begin_s
 use Rattle.fs_embed.specs.declared.status.TheConstants.{OK, UNTOLD, WAITS, CLOSED, ALREADY_OPEN, BAD_LIMIT, NO_MEMORY, FULL, BAD_VERSION, FAILED}
 -- what is asked for by a number, and what is told in a caller's memory
 pub use Rattle.fs_embed.specs.Numbered.{limits_of, to_keep}
-pub use Rattle.fs_embed.specs.Told.{IsTooLong, Tells, IsHanded, IsToldText, IsToldStat, IsToldNames, IsToldBytes, IsToldWrote, IsToldBehind, IsToldVerdict, IsReplied, done_status}
+pub use Rattle.fs_embed.specs.Told.{LeavesText, IsTooLong, Tells, IsHanded, IsToldText, IsToldStat, IsToldNames, IsToldBytes, IsToldWrote, IsToldBehind, IsToldVerdict, IsReplied, done_status}
 
 -- of what reading bytes as a path gives
 abbrev pub reading_status : Result Key PathFault → ℕ

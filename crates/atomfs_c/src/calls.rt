@@ -1,6 +1,6 @@
 //! The exports that begin calls and step them, and what runs a call behind a handle.
 
-ghost use Rattle.std.specs.Prelude.{◌≡◌, ◌≢◌, ◌≤◌, ◌<◌, ◌⊎◌, length};
+ghost use Rattle.std.specs.Prelude.{◌≡◌, ◌≢◌, ◌≤◌, ◌<◌, ◌⊎◌, IfErr, length};
 ghost use Rattle.fs_embed.specs.Requests.{asked, call_in};
 ghost use Rattle.fs_embed.specs.Numbered.{asked_by};
 ghost use Rattle.fs_embed.specs.Calls.{StepsAs};
@@ -10,7 +10,7 @@ ghost use Rattle.atomfs_c.specs.Exports.{Goes, ToldIfClosed, IsLawful, IsSpelled
 use crate::handles::{Handle, put, take};
 use fs_calls::Reply;
 use fs_embed::numbered::{request_of, to_keep};
-use fs_embed::status::{CLOSED, NO_SEAT, OK, begin_status};
+use fs_embed::status::{CLOSED, NO_SEAT, OK, WAITS, begin_status};
 use fs_embed::told::tell_why;
 use fs_embed::{Request, begin_kept, run_kept, step_any, step_seat};
 use fs_names::SeatNo;
@@ -164,6 +164,7 @@ pub fn run(
     number: &mut u64,
 ) -> Result<Reply, u8>
     ensures came { Comes (to_keep handle.old.most) (asked request.entry) seat result number.new handle.old.held.core handle.new.held.core }
+    ensures unnumbered { IfErr result (λ status. status ≢ WAITS → number.new ≡ number.old) }
     ensures lawful { IsLawful handle.new.held.core }
     ensures spelled { IsSpelled handle.new.held.core }
     ensures keeps { handle.new.most ≡ handle.old.most }

@@ -4,7 +4,7 @@ ghost use Rattle.std.specs.Prelude.{◌≡◌, ◌≢◌, ◌<◌, ◌⊎◌, Is
 ghost use Rattle.fs_core.specs.Checkpoints.{IsWhyNot};
 ghost use Rattle.fs_script.specs.Journals.{opening, journal_text};
 ghost use Rattle.fs_embed.specs.Keeping.{calls};
-ghost use Rattle.atomfs_c.specs.Exports.{Goes, ToldIfClosed, IsLawful, IsSpelled, IsTooLong, Tells, IsHanded};
+ghost use Rattle.atomfs_c.specs.Exports.{Goes, ToldIfClosed, LeavesText, IsLawful, IsSpelled, IsTooLong, Tells, IsHanded};
 ghost use Rattle.fs_embed.specs.Statuses.{IsOfText};
 
 use crate::handles::{Handle, put, take};
@@ -55,6 +55,8 @@ pub extern "C" fn atomfs_checkpoint(
     ensures same { result ≢ OK → handle.new.held.core ≡ handle.old.held.core }
     ensures too_small { result ≡ TOO_SMALL → IsSomeAnd handle.old.held.core (λ core. IsTooLong (journal_text core.start core.timeline) count.new out.old out.new) }
     ensures under_way { result ≡ UNDER_WAY → IsSomeAnd handle.old.held.core (λ core. IsWhyNot core (NoCheckpoint.UnderWay number.new)) }
+    ensures untouched { LeavesText result count.old count.new out.old out.new }
+    ensures unnumbered { result ≢ OK → result ≢ UNDER_WAY → number.new ≡ number.old }
     ensures closed { ToldIfClosed result handle.old.held.core handle.new.held.core }
     ensures lawful { IsLawful handle.new.held.core }
     ensures spelled { IsSpelled handle.new.held.core }

@@ -49,6 +49,7 @@ pub extern "C" fn atomfs_forget(alloc: Global, handle: &mut Handle, number: &mut
     ensures forgot { result ≡ OK → Goes (λ old new. IsForgotten old new × (number.new ≡ calls old)) handle.old.held.core handle.new.held.core }
     ensures same { result ≢ OK → handle.new.held.core ≡ handle.old.held.core }
     ensures under_way { result ≡ UNDER_WAY → IsSomeAnd handle.old.held.core (λ core. IsWhyNot core (NoCheckpoint.UnderWay number.new)) }
+    ensures unnumbered { result ≢ OK → result ≢ UNDER_WAY → number.new ≡ number.old }
     ensures closed { ToldIfClosed result handle.old.held.core handle.new.held.core }
     ensures lawful { IsLawful handle.new.held.core }
     ensures spelled { IsSpelled handle.new.held.core }

@@ -1,15 +1,15 @@
 //! The exports that tell the reply of a call that has returned.
 
-ghost use Rattle.std.specs.Prelude.{◌≡◌, ◌⊎◌};
+ghost use Rattle.std.specs.Prelude.{◌≡◌, ◌≢◌, ◌⊎◌};
 ghost use Rattle.fs_embed.specs.Statuses.{IsOfReply};
-ghost use Rattle.atomfs_c.specs.Exports.{ToldIfClosed, IsReplied, IsToldText, IsToldStat, IsToldBytes, IsToldWrote, IsToldBehind, done_status};
+ghost use Rattle.atomfs_c.specs.Exports.{ToldIfClosed, LeavesText, IsReplied, IsToldText, IsToldStat, IsToldBytes, IsToldWrote, IsToldBehind, done_status};
 
 use crate::handles::{Handle, put, take};
 use fs_embed::replies::{
     tell_reply, tell_reply_bytes, tell_reply_done, tell_reply_names, tell_reply_stat,
     tell_reply_wrote,
 };
-use fs_embed::status::{CLOSED, NO_MEMORY};
+use fs_embed::status::{CLOSED, NO_MEMORY, OK};
 use fs_embed::told::Stat;
 use std::alloc::Global;
 
@@ -24,6 +24,7 @@ pub extern "C" fn atomfs_reply(
 ) -> u8
     ensures replied { IsReplied handle.old.held.core (λ reply. IsToldText reply result count.new out.old out.new) number result }
     ensures only { IsOfReply result ⊎ (result ≡ NO_MEMORY) }
+    ensures untouched { LeavesText result count.old count.new out.old out.new }
     ensures same { handle.new.held.core ≡ handle.old.held.core }
     ensures closed { ToldIfClosed result handle.old.held.core handle.new.held.core }
     ensures keeps { handle.new.most ≡ handle.old.most }
@@ -63,6 +64,7 @@ pub extern "C" fn atomfs_reply_stat(
 ) -> u8
     ensures replied { IsReplied handle.old.held.core (λ reply. IsToldStat reply result stat.new) number result }
     ensures only { IsOfReply result }
+    ensures untouched { result ≢ OK → stat.new ≡ stat.old }
     ensures same { handle.new.held.core ≡ handle.old.held.core }
     ensures closed { ToldIfClosed result handle.old.held.core handle.new.held.core }
     ensures keeps { handle.new.most ≡ handle.old.most }
@@ -87,6 +89,7 @@ pub extern "C" fn atomfs_reply_names(
 ) -> u8
     ensures replied { IsReplied handle.old.held.core (λ reply. IsToldBehind reply after.now result count.new out.old out.new) number result }
     ensures only { IsOfReply result }
+    ensures untouched { LeavesText result count.old count.new out.old out.new }
     ensures same { handle.new.held.core ≡ handle.old.held.core }
     ensures closed { ToldIfClosed result handle.old.held.core handle.new.held.core }
     ensures keeps { handle.new.most ≡ handle.old.most }
@@ -110,6 +113,7 @@ pub extern "C" fn atomfs_reply_bytes(
 ) -> u8
     ensures replied { IsReplied handle.old.held.core (λ reply. IsToldBytes reply result count.new out.old out.new) number result }
     ensures only { IsOfReply result }
+    ensures untouched { LeavesText result count.old count.new out.old out.new }
     ensures same { handle.new.held.core ≡ handle.old.held.core }
     ensures closed { ToldIfClosed result handle.old.held.core handle.new.held.core }
     ensures keeps { handle.new.most ≡ handle.old.most }
@@ -132,6 +136,7 @@ pub extern "C" fn atomfs_reply_wrote(
 ) -> u8
     ensures replied { IsReplied handle.old.held.core (λ reply. IsToldWrote reply result wrote.new) number result }
     ensures only { IsOfReply result }
+    ensures untouched { result ≢ OK → wrote.new ≡ wrote.old }
     ensures same { handle.new.held.core ≡ handle.old.held.core }
     ensures closed { ToldIfClosed result handle.old.held.core handle.new.held.core }
     ensures keeps { handle.new.most ≡ handle.old.most }

@@ -2,20 +2,22 @@
 //!
 //! Where a call waits for one of another seat it stays under way, and `atomfs_step` goes on with it.
 
-ghost use Rattle.std.specs.Prelude.{◌≡◌, length};
+ghost use Rattle.std.specs.Prelude.{◌≡◌, ◌≢◌, ◌<◌, ◌≤◌, length};
 ghost use Rattle.fs_calls.specs.declared.call.Call.TheVariants as calls;
 ghost use Rattle.fs_embed.specs.Requests.{asked, call_in, on_path, on_both};
-ghost use Rattle.atomfs_c.specs.Exports.{IsLawful, IsSpelled, IsCalled, IsToldText, IsToldStat, IsToldNames, IsToldBytes, IsToldWrote, done_status, to_keep};
+ghost use Rattle.atomfs_c.specs.Exports.{IsLawful, IsSpelled, IsCalled, LeavesText, IsToldText, IsToldStat, IsToldNames, IsToldBytes, IsToldWrote, done_status, to_keep};
 
 use crate::calls::run;
 use crate::handles::Handle;
 use fs_embed::Request;
+use fs_embed::status::{CLOSED, FAILED, OK};
 use fs_embed::told::{Stat, tell_bytes, tell_done, tell_names, tell_stat, tell_text, tell_wrote};
 use std::alloc::Global;
 
 /// Runs a call that answers no more than that it is done.
 fn run_done(alloc: Global, handle: &mut Handle, seat: u64, request: Request, number: &mut u64) -> u8
     ensures called { IsCalled (to_keep handle.old.most) (asked request.entry) seat (λ reply. result ≡ done_status reply) result number.new handle.old.held.core handle.new.held.core }
+    ensures unnumbered { CLOSED ≤ result → result < FAILED → number.new ≡ number.old }
     ensures lawful { IsLawful handle.new.held.core }
     ensures spelled { IsSpelled handle.new.held.core }
     ensures keeps { handle.new.most ≡ handle.old.most }
@@ -36,6 +38,7 @@ pub extern "C" fn atomfs_mkdir(
     number: &mut u64,
 ) -> u8
     ensures called { IsCalled (to_keep handle.old.most) (on_path calls.Mkdir path.now) seat (λ reply. result ≡ done_status reply) result number.new handle.old.held.core handle.new.held.core }
+    ensures unnumbered { CLOSED ≤ result → result < FAILED → number.new ≡ number.old }
     ensures lawful { IsLawful handle.new.held.core }
     ensures spelled { IsSpelled handle.new.held.core }
     ensures keeps { handle.new.most ≡ handle.old.most }
@@ -53,6 +56,7 @@ pub extern "C" fn atomfs_mknod(
     number: &mut u64,
 ) -> u8
     ensures called { IsCalled (to_keep handle.old.most) (on_path calls.Mknod path.now) seat (λ reply. result ≡ done_status reply) result number.new handle.old.held.core handle.new.held.core }
+    ensures unnumbered { CLOSED ≤ result → result < FAILED → number.new ≡ number.old }
     ensures lawful { IsLawful handle.new.held.core }
     ensures spelled { IsSpelled handle.new.held.core }
     ensures keeps { handle.new.most ≡ handle.old.most }
@@ -70,6 +74,7 @@ pub extern "C" fn atomfs_unlink(
     number: &mut u64,
 ) -> u8
     ensures called { IsCalled (to_keep handle.old.most) (on_path calls.Unlink path.now) seat (λ reply. result ≡ done_status reply) result number.new handle.old.held.core handle.new.held.core }
+    ensures unnumbered { CLOSED ≤ result → result < FAILED → number.new ≡ number.old }
     ensures lawful { IsLawful handle.new.held.core }
     ensures spelled { IsSpelled handle.new.held.core }
     ensures keeps { handle.new.most ≡ handle.old.most }
@@ -87,6 +92,7 @@ pub extern "C" fn atomfs_rmdir(
     number: &mut u64,
 ) -> u8
     ensures called { IsCalled (to_keep handle.old.most) (on_path calls.Rmdir path.now) seat (λ reply. result ≡ done_status reply) result number.new handle.old.held.core handle.new.held.core }
+    ensures unnumbered { CLOSED ≤ result → result < FAILED → number.new ≡ number.old }
     ensures lawful { IsLawful handle.new.held.core }
     ensures spelled { IsSpelled handle.new.held.core }
     ensures keeps { handle.new.most ≡ handle.old.most }
@@ -105,6 +111,7 @@ pub extern "C" fn atomfs_rename(
     number: &mut u64,
 ) -> u8
     ensures called { IsCalled (to_keep handle.old.most) (on_both calls.Rename path.now other.now) seat (λ reply. result ≡ done_status reply) result number.new handle.old.held.core handle.new.held.core }
+    ensures unnumbered { CLOSED ≤ result → result < FAILED → number.new ≡ number.old }
     ensures lawful { IsLawful handle.new.held.core }
     ensures spelled { IsSpelled handle.new.held.core }
     ensures keeps { handle.new.most ≡ handle.old.most }
@@ -123,6 +130,7 @@ pub extern "C" fn atomfs_exchange(
     number: &mut u64,
 ) -> u8
     ensures called { IsCalled (to_keep handle.old.most) (on_both calls.Exchange path.now other.now) seat (λ reply. result ≡ done_status reply) result number.new handle.old.held.core handle.new.held.core }
+    ensures unnumbered { CLOSED ≤ result → result < FAILED → number.new ≡ number.old }
     ensures lawful { IsLawful handle.new.held.core }
     ensures spelled { IsSpelled handle.new.held.core }
     ensures keeps { handle.new.most ≡ handle.old.most }
@@ -141,6 +149,7 @@ pub extern "C" fn atomfs_truncate(
     number: &mut u64,
 ) -> u8
     ensures called { IsCalled (to_keep handle.old.most) (on_path (λ p. calls.Truncate p size) path.now) seat (λ reply. result ≡ done_status reply) result number.new handle.old.held.core handle.new.held.core }
+    ensures unnumbered { CLOSED ≤ result → result < FAILED → number.new ≡ number.old }
     ensures lawful { IsLawful handle.new.held.core }
     ensures spelled { IsSpelled handle.new.held.core }
     ensures keeps { handle.new.most ≡ handle.old.most }
@@ -159,6 +168,8 @@ pub extern "C" fn atomfs_stat(
     number: &mut u64,
 ) -> u8
     ensures called { IsCalled (to_keep handle.old.most) (on_path calls.Stat path.now) seat (λ reply. IsToldStat reply result stat.new) result number.new handle.old.held.core handle.new.held.core }
+    ensures untouched { result ≢ OK → stat.new ≡ stat.old }
+    ensures unnumbered { CLOSED ≤ result → result < FAILED → number.new ≡ number.old }
     ensures lawful { IsLawful handle.new.held.core }
     ensures spelled { IsSpelled handle.new.held.core }
     ensures keeps { handle.new.most ≡ handle.old.most }
@@ -181,6 +192,8 @@ pub extern "C" fn atomfs_readdir(
     number: &mut u64,
 ) -> u8
     ensures called { IsCalled (to_keep handle.old.most) (on_path calls.Readdir path.now) seat (λ reply. IsToldNames reply result count.new out.old out.new) result number.new handle.old.held.core handle.new.held.core }
+    ensures untouched { LeavesText result count.old count.new out.old out.new }
+    ensures unnumbered { CLOSED ≤ result → result < FAILED → number.new ≡ number.old }
     ensures lawful { IsLawful handle.new.held.core }
     ensures spelled { IsSpelled handle.new.held.core }
     ensures keeps { handle.new.most ≡ handle.old.most }
@@ -204,6 +217,8 @@ pub extern "C" fn atomfs_read(
     number: &mut u64,
 ) -> u8
     ensures called { IsCalled (to_keep handle.old.most) (on_path (λ p. calls.Read p off (length out.old)) path.now) seat (λ reply. IsToldBytes reply result count.new out.old out.new) result number.new handle.old.held.core handle.new.held.core }
+    ensures untouched { LeavesText result count.old count.new out.old out.new }
+    ensures unnumbered { CLOSED ≤ result → result < FAILED → number.new ≡ number.old }
     ensures lawful { IsLawful handle.new.held.core }
     ensures spelled { IsSpelled handle.new.held.core }
     ensures keeps { handle.new.most ≡ handle.old.most }
@@ -233,6 +248,8 @@ pub extern "C" fn atomfs_write(
     number: &mut u64,
 ) -> u8
     ensures called { IsCalled (to_keep handle.old.most) (on_path (λ p. calls.Write p off bytes.now) path.now) seat (λ reply. IsToldWrote reply result wrote.new) result number.new handle.old.held.core handle.new.held.core }
+    ensures untouched { result ≢ OK → wrote.new ≡ wrote.old }
+    ensures unnumbered { CLOSED ≤ result → result < FAILED → number.new ≡ number.old }
     ensures lawful { IsLawful handle.new.held.core }
     ensures spelled { IsSpelled handle.new.held.core }
     ensures keeps { handle.new.most ≡ handle.old.most }
@@ -261,6 +278,8 @@ pub extern "C" fn atomfs_call(
     number: &mut u64,
 ) -> u8
     ensures called { IsCalled (to_keep handle.old.most) (call_in line.now) seat (λ reply. IsToldText reply result count.new out.old out.new) result number.new handle.old.held.core handle.new.held.core }
+    ensures untouched { LeavesText result count.old count.new out.old out.new }
+    ensures unnumbered { CLOSED ≤ result → result < FAILED → number.new ≡ number.old }
     ensures lawful { IsLawful handle.new.held.core }
     ensures spelled { IsSpelled handle.new.held.core }
     ensures keeps { handle.new.most ≡ handle.old.most }

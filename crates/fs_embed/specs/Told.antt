@@ -1,5 +1,5 @@
 -- What is told in a caller's memory, and by which status.
-use Rattle.std.specs.Prelude.{◌≡◌, ◌<◌, ◌≤◌, ℕ, List, Option, IsSomeAnd, length}
+use Rattle.std.specs.Prelude.{◌≡◌, ◌≢◌, ◌<◌, ◌≤◌, ℕ, List, Option, IsSomeAnd, length}
 use Rattle.fs_names.specs.declared.kind.Kind.{Kind}
 use Rattle.fs_names.specs.declared.kind.Kind.TheVariants.{Dir, File}
 use Rattle.fs_calls.specs.declared.reply.Reply.{Reply}
@@ -28,6 +28,11 @@ IsTooLong text count old new = (count ≡ length text) × (length old < length t
 -- what a status below UNTOLD says of a text
 abbrev pub Tells : ℕ → List ℕ → ℕ → List ℕ → List ℕ → Type 0
 Tells status text count old new = (status ≡ OK → IsFilled text count old new) × (status ≡ TOO_SMALL → IsTooLong text count old new)
+
+-- a caller's places for a text: its bytes are as before but by OK, and its length but by that and TOO_SMALL
+pub record LeavesText (status : ℕ) (first last : ℕ) (old new : List ℕ) : Type 0 where
+  pub out : status ≢ OK → new ≡ old
+  pub count : status ≢ OK → status ≢ TOO_SMALL → last ≡ first
 
 -- the journal was handed out, from its start tree, and begins again at the tree as it stands
 pub record IsHanded (old new : CoreValue) (count : ℕ) (before after : List ℕ) : Type 0 where

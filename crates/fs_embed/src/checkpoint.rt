@@ -5,7 +5,7 @@ ghost use Rattle.fs_core.specs.Checkpoints.{IsWhyNot};
 ghost use Rattle.fs_script.specs.Journals.{journal_text};
 ghost use Rattle.fs_embed.specs.Keeping.{IsForgotten, calls};
 ghost use Rattle.fs_embed.specs.Statuses.{IsOfText, IsToldWhyNot};
-ghost use Rattle.fs_embed.specs.Told.{IsTooLong, IsHanded};
+ghost use Rattle.fs_embed.specs.Told.{LeavesText, IsTooLong, IsHanded};
 
 use crate::pieces::whole_journal;
 use crate::status::{CLOSED, NO_MEMORY, OK, TOO_SMALL, UNDER_WAY};
@@ -15,7 +15,8 @@ use std::alloc::Global;
 
 /// Tells why a journal did not begin again, and the least number of a call under way.
 pub fn tell_why_not(why: &NoCheckpoint, number: &mut u64) -> u8
-    ensures { IsToldWhyNot why.now result number.new }
+    ensures told { IsToldWhyNot why.now result number.new }
+    ensures unnumbered { result ≢ UNDER_WAY → number.new ≡ number.old }
 {
     match why {
         NoCheckpoint::UnderWay(call) => {
@@ -34,6 +35,7 @@ pub fn again(alloc: Global, core: &mut Core, number: &mut u64) -> u8
     ensures same { result ≢ OK → core.new ≡ core.old }
     ensures under_way { result ≡ UNDER_WAY → IsWhyNot core.old (NoCheckpoint.UnderWay number.new) }
     ensures only { (result ≡ OK) ⊎ (result ≡ UNDER_WAY) ⊎ (result ≡ NO_MEMORY) }
+    ensures unnumbered { result ≢ OK → result ≢ UNDER_WAY → number.new ≡ number.old }
 {
     match core.forget(alloc) {
         Ok(calls) => {
@@ -59,6 +61,8 @@ pub fn hand_out(
     ensures under_way { result ≡ UNDER_WAY → IsWhyNot core.old (NoCheckpoint.UnderWay number.new) }
     ensures only { IsOfText result ⊎ (result ≡ UNDER_WAY) }
     ensures other { result ≢ CLOSED }
+    ensures untouched { LeavesText result count.old count.new out.old out.new }
+    ensures unnumbered { result ≢ OK → result ≢ UNDER_WAY → number.new ≡ number.old }
 {
     let Ok(text) = whole_journal(alloc, core) else {
         return NO_MEMORY;

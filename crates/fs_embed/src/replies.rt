@@ -3,9 +3,9 @@
 ghost use Rattle.std.specs.Prelude.{◌≡◌, ◌≢◌, ◌⊎◌, Some, MatchOption};
 ghost use Rattle.fs_embed.specs.Texts.{IsReply, HasNoReply};
 ghost use Rattle.fs_embed.specs.Statuses.{IsOfReply};
-ghost use Rattle.fs_embed.specs.Told.{IsReplied, IsToldText, IsToldStat, IsToldBytes, IsToldWrote, IsToldBehind, done_status};
+ghost use Rattle.fs_embed.specs.Told.{IsReplied, LeavesText, IsToldText, IsToldStat, IsToldBytes, IsToldWrote, IsToldBehind, done_status};
 
-use crate::status::{CLOSED, NO_MEMORY, NO_REPLY};
+use crate::status::{CLOSED, NO_MEMORY, NO_REPLY, OK};
 use crate::texts::{find_reply, reply_text};
 use crate::told::{Stat, tell, tell_behind, tell_bytes, tell_done, tell_stat, tell_wrote};
 use fs_calls::Reply;
@@ -25,6 +25,7 @@ pub fn tell_reply(alloc: Global, core: &Core, number: u64, out: &mut [u8], count
     ensures replied { IsReplied (Some core.now) (λ reply. IsToldText reply result count.new out.old out.new) number result }
     ensures only { IsOfReply result ⊎ (result ≡ NO_MEMORY) }
     ensures other { result ≢ CLOSED }
+    ensures untouched { LeavesText result count.old count.new out.old out.new }
 {
     match reply_of(core, number) {
         Some(reply) => match reply_text(alloc, reply) {
@@ -52,6 +53,7 @@ pub fn tell_reply_stat(core: &Core, number: u64, stat: &mut Stat) -> u8
     ensures replied { IsReplied (Some core.now) (λ reply. IsToldStat reply result stat.new) number result }
     ensures only { IsOfReply result }
     ensures other { result ≢ CLOSED }
+    ensures untouched { result ≢ OK → stat.new ≡ stat.old }
 {
     match reply_of(core, number) {
         Some(reply) => tell_stat(reply, stat),
@@ -71,6 +73,7 @@ pub fn tell_reply_names(
     ensures replied { IsReplied (Some core.now) (λ reply. IsToldBehind reply after.now result count.new out.old out.new) number result }
     ensures only { IsOfReply result }
     ensures other { result ≢ CLOSED }
+    ensures untouched { LeavesText result count.old count.new out.old out.new }
 {
     match reply_of(core, number) {
         Some(reply) => tell_behind(alloc, reply, after, out, count),
@@ -83,6 +86,7 @@ pub fn tell_reply_bytes(core: &Core, number: u64, out: &mut [u8], count: &mut us
     ensures replied { IsReplied (Some core.now) (λ reply. IsToldBytes reply result count.new out.old out.new) number result }
     ensures only { IsOfReply result }
     ensures other { result ≢ CLOSED }
+    ensures untouched { LeavesText result count.old count.new out.old out.new }
 {
     match reply_of(core, number) {
         Some(reply) => tell_bytes(reply, out, count),
@@ -95,6 +99,7 @@ pub fn tell_reply_wrote(core: &Core, number: u64, wrote: &mut u64) -> u8
     ensures replied { IsReplied (Some core.now) (λ reply. IsToldWrote reply result wrote.new) number result }
     ensures only { IsOfReply result }
     ensures other { result ≢ CLOSED }
+    ensures untouched { result ≢ OK → wrote.new ≡ wrote.old }
 {
     match reply_of(core, number) {
         Some(reply) => tell_wrote(reply, wrote),

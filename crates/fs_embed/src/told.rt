@@ -1,8 +1,8 @@
 //! What tells replies, verdicts and faults in a caller's memory.
 
-ghost use Rattle.std.specs.Prelude.{◌≡◌, ◌<◌, length};
+ghost use Rattle.std.specs.Prelude.{◌≡◌, ◌≢◌, ◌<◌, length};
 ghost use Rattle.fs_embed.specs.Statuses.{IsReturned, IsRefusal, IsToldFault, IsToldWhy};
-ghost use Rattle.fs_embed.specs.Told.{Tells, IsToldText, IsToldStat, IsToldNames, IsToldBytes, IsToldWrote, IsToldBehind, IsToldVerdict, done_status, is_dir, kind_number};
+ghost use Rattle.fs_embed.specs.Told.{Tells, LeavesText, IsToldText, IsToldStat, IsToldNames, IsToldBytes, IsToldWrote, IsToldBehind, IsToldVerdict, done_status, is_dir, kind_number};
 
 use crate::calls::NotReturned;
 use crate::names::{names_behind, names_text};
@@ -28,6 +28,7 @@ pub struct Stat {
 pub fn tell(text: &[u8], out: &mut [u8], count: &mut usize) -> u8
     ensures tells { Tells result text.now count.new out.old out.new }
     ensures either { result < UNTOLD }
+    ensures untouched { LeavesText result count.old count.new out.old out.new }
 {
     *count = text.len();
     if copy_out(text, out) { OK } else { TOO_SMALL }
@@ -37,6 +38,7 @@ pub fn tell(text: &[u8], out: &mut [u8], count: &mut usize) -> u8
 pub fn tell_text(alloc: Global, reply: &Reply, out: &mut [u8], count: &mut usize) -> u8
     ensures told { IsToldText reply.now result count.new out.old out.new }
     ensures returned { IsReturned result }
+    ensures untouched { LeavesText result count.old count.new out.old out.new }
 {
     match reply_text(alloc, reply) {
         Ok(text) => tell(text.as_slice(), out, count),
@@ -69,6 +71,7 @@ fn is_dir(kind: Kind) -> u8
 pub fn tell_stat(reply: &Reply, stat: &mut Stat) -> u8
     ensures told { IsToldStat reply.now result stat.new }
     ensures returned { IsReturned result }
+    ensures untouched { result ≢ OK → stat.new ≡ stat.old }
 {
     match reply {
         Reply::Stat(kind, size) => {
@@ -87,6 +90,7 @@ pub fn tell_stat(reply: &Reply, stat: &mut Stat) -> u8
 pub fn tell_names(alloc: Global, reply: &Reply, out: &mut [u8], count: &mut usize) -> u8
     ensures told { IsToldNames reply.now result count.new out.old out.new }
     ensures returned { IsReturned result }
+    ensures untouched { LeavesText result count.old count.new out.old out.new }
 {
     match reply {
         Reply::Names(names) => match names_text(alloc, names.as_slice()) {
@@ -102,6 +106,7 @@ pub fn tell_names(alloc: Global, reply: &Reply, out: &mut [u8], count: &mut usiz
 pub fn tell_bytes(reply: &Reply, out: &mut [u8], count: &mut usize) -> u8
     ensures told { IsToldBytes reply.now result count.new out.old out.new }
     ensures returned { IsReturned result }
+    ensures untouched { LeavesText result count.old count.new out.old out.new }
 {
     match reply {
         Reply::Bytes(bytes) => tell(bytes.as_slice(), out, count),
@@ -114,6 +119,7 @@ pub fn tell_bytes(reply: &Reply, out: &mut [u8], count: &mut usize) -> u8
 pub fn tell_wrote(reply: &Reply, wrote: &mut u64) -> u8
     ensures told { IsToldWrote reply.now result wrote.new }
     ensures returned { IsReturned result }
+    ensures untouched { result ≢ OK → wrote.new ≡ wrote.old }
 {
     match reply {
         Reply::Wrote(bytes) => {
@@ -135,6 +141,7 @@ pub fn tell_behind(
 ) -> u8
     ensures told { IsToldBehind reply.now after.now result count.new out.old out.new }
     ensures returned { IsReturned result }
+    ensures untouched { LeavesText result count.old count.new out.old out.new }
 {
     match reply {
         Reply::Names(names) => {
@@ -176,7 +183,8 @@ pub fn tell_verdict(verdict: &Verdict, place: &mut u64, kind: &mut u8)
 
 /// Tells why a call did not return, and the number of one that is under way.
 pub fn tell_why(why: &NotReturned, number: &mut u64) -> u8
-    ensures { IsToldWhy why.now result number.new }
+    ensures told { IsToldWhy why.now result number.new }
+    ensures unnumbered { result ≢ WAITS → number.new ≡ number.old }
 {
     match why {
         NotReturned::Waits(call, _) => {

@@ -21,4 +21,4 @@ returns-in-Err-clause-came c =
     let is_new : c.put.new.handle.held.core ≡ Some c.run_kept-ran.new.core = search rules in
     let is_most : c.to_keep-most.result ≡ to_keep c.args.handle.now.most = search rules in
     comes_not (to_keep c.args.handle.now.most) (asked c.args.request) c.args.seat c.tell_why.new.number c.args.handle.now.held.core c.put.new.handle.held.core
-    c.deref_mut.result.now c.run_kept-ran.new.core is_old is_new c.in-Err.why c.tell_why.result (rw (c.new.ensures, is_most) at c.in-Err.ensures.unreturned) c.tell_why.ensures
+    c.deref_mut.result.now c.run_kept-ran.new.core is_old is_new c.in-Err.why c.tell_why.result (rw (c.new.ensures, is_most) at c.in-Err.ensures.unreturned) c.tell_why.ensures.told
