@@ -10,27 +10,20 @@ use Rattle.fs_calls.specs.Sights.{tree_shapes, bytes_of, is_same}
 use Rattle.fs_calls.specs.Rows.{Edit, Keep, Add, Remove, edit_of, new_bytes, written, resized}
 use Rattle.fs_calls.specs.Forms.{Form, form, new_shape, AtNode, AtEntry, AtPair}
 use Rattle.fs_calls.specs.Forms as forms
-use Rattle.fs_calls.specs.Outcomes.{fault, after, change, change_of, if_sound, filled, edited, node_of}
+use Rattle.fs_calls.specs.Outcomes.{fault, reply, reply_of, replied, success, after, change, change_of, if_sound, filled, edited, node_of}
 use Rattle.fs_calls.specs.declared.call.Call.{Call}
 use Rattle.fs_calls.specs.declared.call.Call.TheVariants as calls
 use Rattle.fs_calls.specs.declared.errno.Errno.{Errno}
+use Rattle.fs_calls.specs.declared.reply.Reply.{Reply}
 use Rattle.fs_calls.specs.declared.target.PairCall.TheVariants.{Rename, Exchange}
 use Rattle.fs_calls.proofs.LookLemmas.{sorted-inserted, sorted-removed, sorted-from_list}
 use Rattle.fs_seq.specs.Rows.{node_of_kind}
-use Rattle.fs_flat.specs.code.Cells.{without_key, moved_cell, swapped_cell}
+use Rattle.fs_flat.specs.code.Cells.{without_key, moved_cell, swapped_cell, is_failed}
 
 -- to insert is to put
 pub inserted_is : (t new : Tree) (k p : Key) (n : Node) → k ≡ p → new ≡ put key_cmp k n t → new ≡ inserted t p n
 unfolding inserted
 inserted_is t new k p n same e = e ∙ ap (λ z. put key_cmp z n t) same
-
--- entries without a key, one by one
-pub without_next : (k : Key) (cell : Key × Node) (t : Tree) → without_key k (cell ∷ t) ≡ without_key k (cell ∷ []) ++ without_key k t
-without_next k cell t = by_key (same_key k cell.0)
-  where
-    by_key : (b : Bool) → cond {A = Tree} (not b) (cell ∷ without_key k t) (without_key k t) ≡ cond {A = Tree} (not b) (cell ∷ []) [] ++ without_key k t
-    by_key true = refl
-    by_key false = refl
 
 pub removed_is : (t new : Tree) (k p : Key) → k ≡ p → new ≡ without_key k t → new ≡ removed t p
 unfolding removed
@@ -57,6 +50,10 @@ renamed_is t left moved new p q k l one two went came e =
     e ∙ ap from_list (came ∙ ap (map (moved_cell k l)) went)
     ∙ (λ i. from_list (map (moved_cell (one i) (two i)) (without_key (two i) t)))
 
+-- the same of the entries before the new path and behind it
+pub woven_renamed : (t before behind new : Tree) (p q k l : Key) → k ≡ p → l ≡ q → before ++ behind ≡ without_key l t → new ≡ from_list (map (moved_cell k l) (before ++ behind)) → new ≡ renamed t p q
+woven_renamed t before behind new p q k l one two parts e = renamed_is t (before ++ behind) (map (moved_cell k l) (before ++ behind)) new p q k l one two parts refl e
+
 pub exchanged_is : (t swapped new : Tree) (p q k l : Key) → k ≡ p → l ≡ q → swapped ≡ map (swapped_cell k l) t → new ≡ from_list swapped → new ≡ exchanged t p q
 unfolding exchanged
 exchanged_is t swapped new p q k l one two came e =
@@ -81,9 +78,24 @@ cut_to size old content t new k p same was is e =
 
 -- ---- calls
 
-pub stays : (most : ℕ) (t new : Tree) (call : Call) (e : Errno) → Some e ≡ fault most t call → new ≡ t → new ≡ after most t call
-unfolding after
-stays most t new call e h is = is ∙ ap (λ o. if_sound o t (change most t call)) h
+-- a call that has no error and still replies one leaves the tree as it is
+lookup_stays : (t : Tree) (f : Form) → is_failed (reply_of t f) ≡ true → t ≡ change_of t f
+lookup_stays t (AtNode forms.Stat p) h = refl
+lookup_stays t (AtNode forms.Readdir p) h = absurd (cc)
+lookup_stays t (AtNode (forms.Read m off count) p) h = absurd (cc)
+lookup_stays t (AtNode (forms.Write m off bytes) p) h = absurd (cc)
+lookup_stays t (AtNode (forms.Truncate m size) p) h = absurd (cc)
+lookup_stays t (AtEntry c p) h = absurd (cc)
+lookup_stays t (AtPair Rename p q) h = absurd (cc)
+lookup_stays t (AtPair Exchange p q) h = absurd (cc)
+
+pub stays : (most : ℕ) (t new : Tree) (call : Call) (r : Reply) → r ≡ reply most t call → is_failed r ≡ true → new ≡ t → new ≡ after most t call
+unfolding reply after
+stays most t new call r is failed e = e ∙ by (fault most t call) (ap is_failed (sym is) ∙ failed)
+  where
+    by : (o : Option Errno) → is_failed (replied o (success most t call)) ≡ true → t ≡ if_sound o t (change most t call)
+    by None h = lookup_stays t (form most call) h
+    by (Some e) h = refl
 
 -- no limit of files changes what a call without an error makes
 change_any : (most : ℕ) (t : Tree) (call : Call) → change 0 t call ≡ change most t call
@@ -99,9 +111,13 @@ change_any most t (calls.Read p off count) = refl
 change_any most t (calls.Write p off bytes) = refl
 change_any most t (calls.Truncate p size) = refl
 
-pub changes : (most : ℕ) (t new : Tree) (call : Call) → None ≡ fault most t call → new ≡ change 0 t call → new ≡ after most t call
-unfolding after
-changes most t new call h is = is ∙ change_any most t call ∙ ap (λ o. if_sound o t (change most t call)) h
+pub changes : (most : ℕ) (t new : Tree) (call : Call) (r : Reply) → r ≡ reply most t call → is_failed r ≡ false → new ≡ change 0 t call → new ≡ after most t call
+unfolding reply after
+changes most t new call r is fine e = e ∙ change_any most t call ∙ by (fault most t call) (ap is_failed (sym is) ∙ fine)
+  where
+    by : (o : Option Errno) → is_failed (replied o (success most t call)) ≡ false → change most t call ≡ if_sound o t (change most t call)
+    by None h = refl
+    by (Some e) h = absurd (cc)
 
 -- each change keeps the order
 filled_rises : (t : Tree) (p : Key) (o : Option (List ℕ)) → T (is_sorted key_cmp t) → T (is_sorted key_cmp (filled t p o))

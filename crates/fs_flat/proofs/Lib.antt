@@ -4,3 +4,6 @@ pub mod SeenLemmas
 pub mod FaultLemmas
 pub mod ChangeLemmas
 mod RowLemmas
+pub mod RangeLemmas
+pub mod RiseLemmas
+pub mod WovenLemmas

@@ -1,5 +1,5 @@
 -- What a binary search finds among entries whose keys rise.
-use Rattle.std.proofs.Common.{◌≡◌, ℕ, zero, suc, ◌+◌, ◌-◌, ◌<◌, ◌≤◌, Bool, true, false, cond, ◌&&◌, [], ◌∷◌, length, drop, get_or, Some, Option, Result, Ok, Err, refl, sym, ap, subst, ◌∙◌, arith, T, Ordering, Less, Equal, Greater}
+use Rattle.std.proofs.Common.{◌≡◌, ℕ, zero, suc, ◌+◌, ◌-◌, ◌<◌, ◌≤◌, Bool, true, false, cond, not, ◌&&◌, [], ◌∷◌, ◌++◌, length, take, drop, get_or, Some, Option, Result, Ok, Err, refl, sym, ap, subst, ◌∙◌, arith, T, Ordering, Less, Equal, Greater}
 use Rattle.std.specs.Prelude.{nat_eq}
 use Rattle.std.proofs.lemmas.Bool.Decides.{nat_tests}
 use Rattle.std.specs.Ordering.{is_eq, is_lt, ordering_index, ordering_reverse}
@@ -10,7 +10,7 @@ use Rattle.std.proofs.lemmas.Cmp.{tied_itself}
 use Rattle.fs_names.specs.Keys.{Key, key_cmp, same_key}
 use Rattle.fs_names.proofs.Lemmas.{key_total, key_exact}
 use Rattle.fs_calls.specs.Tree.{Node, Tree}
-use Rattle.fs_flat.specs.code.Cells.{IsAt, BelongsAt, Searches}
+use Rattle.fs_flat.specs.code.Cells.{IsAt, BelongsAt, Searches, without_key}
 use Rattle.fs_flat.proofs.KeyLemmas.{drop_next}
 
 -- an entry of a tree
@@ -18,28 +18,28 @@ abbrev Cell : Type 0
 Cell = Key × Node
 
 -- the first of two
-both_first : (a b : Bool) → T (a && b) → T a
+pub both_first : (a b : Bool) → T (a && b) → T a
 both_first true b p = tt
 both_first false b p = p
 
 -- the second of two
-both_second : (a b : Bool) → T (a && b) → T b
+pub both_second : (a b : Bool) → T (a && b) → T b
 both_second true b p = p
 both_second false b p = absurd p
 
 -- both of two
-both : (a b : Bool) → T a → T b → T (a && b)
+pub both : (a b : Bool) → T a → T b → T (a && b)
 both true b p q = q
 both false b p q = p
 
 -- what is below is less
-is_less : (o : Ordering) → T (is_lt o) → o ≡ Less
+pub is_less : (o : Ordering) → T (is_lt o) → o ≡ Less
 is_less Less h = refl
 is_less Equal h = absurd h
 is_less Greater h = absurd h
 
 -- a key below all is below each
-below_each : (x : Key) (t : Tree) (i : ℕ) (d : Cell) → T (below_all key_cmp x t) → i < length t → key_cmp x (get_or t i d).0 ≡ Less
+pub below_each : (x : Key) (t : Tree) (i : ℕ) (d : Cell) → T (below_all key_cmp x t) → i < length t → key_cmp x (get_or t i d).0 ≡ Less
 below_each x [] i d below h = absurd (omega arith)
 below_each x (l ∷ t) zero d below h = is_less _ (both_first _ _ below)
 below_each x (l ∷ t) (suc i) d below h = below_each x t i d (both_second _ _ below) (omega arith)
@@ -92,13 +92,23 @@ pub put_front : (cell first : Cell) (t : Tree) → 0 < length t → first ≡ ge
 put_front cell first [] h here less = absurd (omega arith)
 put_front cell first (l ∷ t) h here less = put_by cell.0 cell.1 l t Less (ap (λ z. key_cmp cell.0 z.0) (sym here) ∙ less)
 
+-- an entry of another key is kept
+kept_first : (x : Key) (e : Cell) (t : Tree) → same_key x e.0 ≡ false → without_key x (e ∷ t) ≡ e ∷ without_key x t
+kept_first x e t h = ap (λ b. cond {A = Tree} (not b) (e ∷ without_key x t) (without_key x t)) h
+
+-- a key below all is none of them
+kept_below : (x : Key) (t : Tree) → T (below_all key_cmp x t) → without_key x t ≡ t
+kept_below x [] h = refl
+kept_below x (e ∷ t) h =
+    kept_first x e t (ap is_eq (is_less _ (both_first _ _ h))) ∙ ap (λ z. e ∷ z) (kept_below x t (both_second _ _ h))
+
 -- what is not the first is found behind it
 find_later : (x : Key) (e : Cell) (es : Tree) → same_key x e.0 ≡ false → find key_cmp x (e ∷ es) ≡ find key_cmp x es
 find_later x e es h = ap (λ b. cond {A = Option Node} b (Some e.1) (find key_cmp x es)) h
 
 -- the key is not there, and is put at the place
 parted : (x : Key) (t : Tree) (i : ℕ) → Parts x t i → BelongsAt t x i
-parted x [] zero parts = record { within = omega arith; absent = refl; placed = λ n. refl }
+parted x [] zero parts = record { within = omega arith; absent = refl; placed = λ n. refl; without = refl }
 parted x [] (suc i) parts = absurd (let h = parts.within in omega arith)
 parted x (l ∷ t) zero parts =
     let above : key_cmp x l.0 ≡ Less = turned x l.0 Greater (parts.higher 0 l (omega arith) (omega arith)) in
@@ -111,6 +121,7 @@ parted x (l ∷ t) zero parts =
       within = omega arith;
       absent = find_later x l t (ap is_eq above) ∙ rest.absent;
       placed = λ n. put_by x n l t Less above;
+      without = kept_first x l t (ap is_eq above) ∙ ap (λ z. l ∷ z) rest.without;
     }
 parted x (l ∷ t) (suc i) parts =
     let below : key_cmp x l.0 ≡ Greater = turned x l.0 Less (parts.lower 0 l (omega arith)) in
@@ -125,6 +136,7 @@ parted x (l ∷ t) (suc i) parts =
       within = omega arith;
       absent = find_later x l t (ap is_eq below) ∙ rest.absent;
       placed = λ n. put_by x n l t Greater below ∙ ap (λ es. l ∷ es) (rest.placed n);
+      without = kept_first x l t (ap is_eq below) ∙ ap (λ z. l ∷ z) rest.without;
     }
 
 -- where a key is found, it stands
@@ -137,6 +149,7 @@ in_place x (l ∷ t) zero sorted h at =
       within = omega arith;
       found = λ d. ap (λ b. cond {A = Option Node} b (Some l.1) (find key_cmp x t)) (ap is_eq tied);
       set = λ n. put_by x n l t Equal tied ∙ ap (λ z. (z, n) ∷ t) same;
+      without = ap (λ b. cond {A = Tree} (not b) (l ∷ without_key x t) (without_key x t)) (ap is_eq tied) ∙ kept_below x t (subst (λ z. T (below_all key_cmp z t)) same (both_first _ _ sorted));
     }
 in_place x (l ∷ t) (suc i) sorted h at =
     let same : (get_or t i l).0 ≡ x = key_exact _ x (at l) in
@@ -149,14 +162,15 @@ in_place x (l ∷ t) (suc i) sorted h at =
       within = omega arith;
       found = λ d. find_later x l t (ap is_eq above) ∙ rest.found d;
       set = λ n. put_by x n l t Greater above ∙ ap (λ es. l ∷ es) (rest.set n);
+      without = kept_first x l t (ap is_eq above) ∙ ap (λ z. l ∷ z) rest.without ∙ (let s : suc (i + 1) ≡ suc i + 1 = omega arith in ap (λ m. l ∷ (take i t ++ drop m (l ∷ t))) s);
     }
 
 -- what is true holds
-true_T : (b : Bool) → b ≡ true → T b
+pub true_T : (b : Bool) → b ≡ true → T b
 true_T b e = subst T (sym e) tt
 
 -- what holds is true
-T_true : (b : Bool) → T b → b ≡ true
+pub T_true : (b : Bool) → T b → b ≡ true
 T_true true h = refl
 T_true false h = absurd h
 
@@ -170,7 +184,7 @@ searched x t (Err i) sorted range at =
 -- ---- keys that rise, from the end on
 
 -- what is below the first of rising keys is below all
-below_rising : (x y : Key) (t : Tree) → key_cmp x y ≡ Less → T (below_all key_cmp y t) → T (below_all key_cmp x t)
+pub below_rising : (x y : Key) (t : Tree) → key_cmp x y ≡ Less → T (below_all key_cmp y t) → T (below_all key_cmp x t)
 below_rising x y [] less h = tt
 below_rising x y (l ∷ t) less h = both _ _ (subst (λ o. T (is_lt o)) (sym (key_total.trans x y l.0 less (is_less _ (both_first _ _ h)))) tt) (below_rising x y t less (both_second _ _ h))
 

@@ -1,13 +1,14 @@
 -- What is seen at a key, by the entry that was found there.
-use Rattle.std.proofs.Common.{◌≡◌, ℕ, zero, suc, ◌+◌, ◌<◌, ◌≤◌, Bool, true, false, List, [], ◌∷◌, ◌++◌, length, take, drop, get_or, Some, None, Option, refl, sym, ap, ◌∙◌, arith, append_assoc, append-nil, length-append}
+use Rattle.std.proofs.Common.{◌≡◌, ℕ, zero, suc, ◌+◌, ◌<◌, ◌≤◌, Bool, true, false, cond, is_some, List, [], ◌∷◌, ◌++◌, length, take, drop, get_or, Some, None, Option, refl, sym, ap, ◌∙◌, arith, append_assoc, append-nil, length-append}
 use Rattle.std.specs.Prelude.{nat_le}
 use Rattle.std.specs.FinMap.{find}
+use Rattle.std.proofs.lemmas.Bool.Decides.{nat_tests}
 use Rattle.fs_names.specs.Names.{Name}
 use Rattle.fs_names.specs.Shapes as shapes
-use Rattle.fs_names.specs.Keys.{Key, key_cmp}
+use Rattle.fs_names.specs.Keys.{Key, key_cmp, after_prefix}
 use Rattle.fs_names.specs.Failures.{or_else}
 use Rattle.fs_names.specs.declared.kind.Kind.TheVariants as kinds
-use Rattle.fs_calls.specs.Tree.{Tree, Node, Dir, File, names_in, name_in, with_name}
+use Rattle.fs_calls.specs.Tree.{Tree, Node, Dir, File, names_in, name_in, with_name, only_name}
 use Rattle.fs_calls.specs.Sights.{tree_shapes, shape_of, has_any, bytes_of, is_full, resolve, resolve_next, resolve_dir}
 use Rattle.fs_calls.specs.Rows.{as_dir, status, node_reply}
 use Rattle.fs_calls.specs.Forms as forms
@@ -18,7 +19,7 @@ use Rattle.fs_calls.specs.declared.errno.Errno.TheVariants.{Enoent, Enotdir}
 use Rattle.fs_calls.specs.declared.reply.Reply.TheVariants as answer
 use Rattle.fs_calls.proofs.LookLemmas.{look-find}
 use Rattle.fs_flat.proofs.KeyLemmas.{drop_next}
-use Rattle.fs_flat.specs.code.Cells.{kind_of, bytes_at, node_in, IsAt, BelongsAt, GoesOn, IsReached, ReachesOn}
+use Rattle.fs_flat.specs.code.Cells.{kind_of, bytes_at, node_in, below_key, IsAt, BelongsAt, GoesOn, IsReached, ReachesOn}
 
 -- what is seen at a key is the shape of what is found there
 seen_by : (t : Tree) (k : Key) (o : Option Node) → find key_cmp k t ≡ o → tree_shapes t k ≡ shape_of t k o
@@ -74,9 +75,6 @@ module _ (t : Tree) (k : Key) where
 
   pub file_full : (n : Node) → tree_shapes t k ≡ shape_of t k (Some n) → kinds.File ≡ kind_of n → false ≡ is_full (tree_shapes t k)
   file_full n is file = sym (ap is_full (file_seen n is file))
-
-  pub dir_full : (n : Node) (count : ℕ) (r : Bool) → tree_shapes t k ≡ shape_of t k (Some n) → kinds.Dir ≡ kind_of n → count ≡ length (names_in t k) → r ≡ nat_le 256 count → r ≡ is_full (tree_shapes t k)
-  dir_full n count r is dir counted e = e ∙ ap (nat_le 256) counted ∙ sym (ap is_full (dir_seen n is dir))
 
   pub bytes_there : (n : Node) (bytes : List ℕ) → tree_shapes t k ≡ shape_of t k (Some n) → bytes ≡ bytes_at n → bytes ≡ bytes_of (tree_shapes t k)
   bytes_there n bytes is e = e ∙ by_node n ∙ sym (ap bytes_of is)
@@ -136,6 +134,33 @@ names_next cell t d = by_name (name_in d cell.0)
     by_name : (o : Option Name) → with_name o (names_in t d) ≡ with_name o [] ++ names_in t d
     by_name None = refl
     by_name (Some x) = refl
+
+-- the names of a directory are those of what stands at its key and below it
+below_names : (d : Key) (t : Tree) → names_in (below_key d t) d ≡ names_in t d
+below_names d [] = refl
+below_names d (cell ∷ t) =
+    elim (after_prefix d cell.0) as (λ o. after_prefix d cell.0 ≡ o → names_in (cond {A = Tree} (is_some o) (cell ∷ below_key d t) (below_key d t)) d ≡ names_in (cell ∷ t) d) [
+      | None ↦ λ e. below_names d t ∙ sym (ap (λ o. with_name (only_name o) (names_in t d)) e)
+      | Some r ↦ λ e. ap (with_name (name_in d cell.0)) (below_names d t)
+    ] refl
+
+pub names_below : (d : Key) (t u : Tree) → u ≡ below_key d t → names_in u d ≡ names_in t d
+names_below d t u is = ap (λ z. names_in z d) is ∙ below_names d t
+
+-- no more names than entries
+few_names : (t : Tree) (d : Key) → length (names_in t d) ≤ length t
+few_names [] d = omega arith
+few_names (e ∷ t) d = by (name_in d e.0) (few_names t d)
+  where
+    by : (o : Option Name) → length (names_in t d) ≤ length t → length (with_name o (names_in t d)) ≤ length (e ∷ t)
+    by None h = omega arith
+    by (Some x) h = omega arith
+
+pub few_there : (t : Tree) (d : Key) → nat_le 256 (length t) ≡ false → false ≡ nat_le 256 (length (names_in t d))
+few_there t d h = let few : length (names_in t d) ≤ length t = few_names t d in grind (arith, nat_tests)
+
+pub dir_crowded : (t u : Tree) (k : Key) (n : Node) (r : Bool) → tree_shapes t k ≡ shape_of t k (Some n) → kinds.Dir ≡ kind_of n → u ≡ below_key k t → r ≡ nat_le 256 (length (names_in u k)) → r ≡ is_full (tree_shapes t k)
+dir_crowded t u k n r is dir below e = e ∙ ap (λ z. nat_le 256 (length z)) (names_below k t u below) ∙ sym (ap is_full (dir_seen t k n is dir))
 
 -- ---- the entries of a directory, one by one
 

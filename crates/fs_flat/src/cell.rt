@@ -1,11 +1,12 @@
 //! Entries of a tree, which copies share.
 
 ghost use Rattle.std.specs.Prelude.{◌≡◌, true, IfOk};
-ghost use Rattle.fs_calls.specs.Replies.{same_kind, same_names};
+ghost use Rattle.fs_calls.specs.Replies.{same_kind};
 ghost use Rattle.fs_names.specs.Names.{same_bytes};
 ghost use Rattle.fs_seq.specs.Rows.{row_of};
 ghost use Rattle.fs_flat.specs.code.Cells.{kind_of, bytes_at};
 
+use crate::keys::same_key;
 use fs_names::{Kind, Name};
 use fs_seq::Row;
 use std::alloc::{AllocError, Global};
@@ -35,12 +36,6 @@ fn same_kinds(kind: Kind, other: Kind) -> bool
     kind == other
 }
 
-fn same_keys(key: &[Name], other: &[Name]) -> bool
-    ensures { result ≡ same_names key.now other.now }
-{
-    key == other
-}
-
 fn same_contents(bytes: &[u8], others: &[u8]) -> bool
     ensures { result ≡ same_bytes bytes.now others.now }
 {
@@ -51,7 +46,7 @@ fn same_contents(bytes: &[u8], others: &[u8]) -> bool
 fn same_row(row: &Row, other: &Row) -> bool
     ensures { result ≡ true → row_of row.now ≡ row_of other.now }
 {
-    if !same_keys(&row.key, &other.key) {
+    if !same_key(&row.key, &other.key) {
         return false;
     }
     if !same_kinds(row.kind, other.kind) {

@@ -1,6 +1,6 @@
 //! The entries after a call without an error.
 
-ghost use Rattle.std.specs.Prelude.{◌≡◌, ◌++◌, ◌∷◌, [], IsTrue, true, IfOk, OnOk, map, if◌then◌else◌};
+ghost use Rattle.std.specs.Prelude.{◌≡◌, ◌++◌, ◌∷◌, [], IsTrue, true, IfOk, IfSome, OnOk, map, if◌then◌else◌};
 ghost use Rattle.std.specs.FinMap.{is_sorted, put};
 ghost use Rattle.fs_names.specs.Keys.{key_cmp};
 ghost use Rattle.fs_calls.specs.Tree.{File, from_list, inserted, removed, renamed, exchanged};
@@ -9,25 +9,33 @@ ghost use Rattle.fs_calls.specs.Rows.{written, resized, new_bytes};
 ghost use Rattle.fs_calls.specs.Sights.{tree_shapes, bytes_of, is_same};
 ghost use Rattle.fs_calls.specs.Outcomes.{change, filled};
 ghost use Rattle.fs_seq.specs.Rows.{node_of_kind};
-ghost use Rattle.fs_flat.specs.code.Cells.{without_key, moved_cell, swapped_cell};
+ghost use Rattle.fs_flat.specs.code.Cells.{without_key, below_key, beside_key, moved_cell, swapped_cell};
 
 use crate::cell::Cell;
-use crate::keys::{behind, joined, names_of, same_key};
-use crate::searching::{is_below, search};
+use crate::keys::{behind, joined, names_of};
+use crate::searching::{below, is_below, parts, range_below, rises, search};
 use crate::seeing::bytes_of;
 use fs_calls::Call;
 use fs_names::{Kind, Name, Path};
 use fs_seq::Row;
 use std::alloc::{AllocError, Global};
 
+/// Adds the same entries again.
+fn push_copies(new: &mut Vec<Cell>, cells: &[Cell]) -> Result<(), AllocError>
+    ensures { OnOk result (new.new.items ≡ new.old.items ++ cells.now) }
+{
+    for cell in cells {
+        new.push(cell.copy()?)?;
+    }
+    Ok(())
+}
+
 /// The same entries again.
 pub(crate) fn copied(alloc: Global, cells: &[Cell]) -> Result<Vec<Cell>, AllocError>
     ensures { IfOk result (λ copy. copy.items ≡ cells.now) }
 {
     let mut copy = Vec::with_capacity(alloc, cells.len() + 1)?;
-    for cell in cells {
-        copy.push(cell.copy()?)?;
-    }
+    push_copies(&mut copy, cells)?;
     Ok(copy)
 }
 
@@ -81,25 +89,15 @@ fn with_node(
     Ok(new)
 }
 
-/// Adds an entry, unless it has a key.
-fn push_other(new: &mut Vec<Cell>, cell: &Cell, key: &[Name]) -> Result<(), AllocError>
-    ensures { OnOk result (new.new.items ≡ new.old.items ++ without_key key.now (cell.now ∷ [])) }
-{
-    if !same_key(key, cell.key()) {
-        new.push(cell.copy()?)?;
-    }
-    Ok(())
-}
-
 /// The entries without that of a key.
-#[tactic(auto, using(crate::proofs::ChangeLemmas::without_next))]
 fn without(alloc: Global, cells: &[Cell], key: &[Name]) -> Result<Vec<Cell>, AllocError>
+    requires { IsTrue (is_sorted key_cmp cells.now) }
     ensures { IfOk result (λ new. new.items ≡ without_key key.now cells.now) }
 {
+    let (before, behind) = parts(cells, key);
     let mut new = Vec::with_capacity(alloc, cells.len())?;
-    for cell in cells {
-        push_other(&mut new, cell, key)?;
-    }
+    push_copies(&mut new, before)?;
+    push_copies(&mut new, behind)?;
     Ok(new)
 }
 
@@ -177,13 +175,102 @@ fn all_swapped(
     Ok(new)
 }
 
+/// The entries that are not at a key, nor below it.
+fn beside(alloc: Global, cells: &[Cell], key: &[Name]) -> Result<Vec<Cell>, AllocError>
+    requires { IsTrue (is_sorted key_cmp cells.now) }
+    ensures { IfOk result (λ new. new.items ≡ beside_key key.now cells.now) }
+{
+    let (from, to) = range_below(cells, key);
+    let mut new = Vec::with_capacity(alloc, cells.len())?;
+    push_copies(&mut new, &cells[..from])?;
+    push_copies(&mut new, &cells[to..])?;
+    Ok(new)
+}
+
+/// Whether entries were found to end below the first of others.
+#[tactic(auto, using(crate::proofs::RiseLemmas::empty_joins, crate::proofs::RiseLemmas::joins_empty, crate::proofs::RiseLemmas::joins_rise))]
+fn joins(cells: &[Cell], others: &[Cell]) -> bool
+    requires before { IsTrue (is_sorted key_cmp cells.now) }
+    requires behind { IsTrue (is_sorted key_cmp others.now) }
+    ensures { result ≡ true → is_sorted key_cmp (cells.now ++ others.now) ≡ true }
+{
+    if cells.is_empty() || others.is_empty() {
+        return true;
+    }
+    is_below(&cells[cells.len() - 1], &others[0])
+}
+
+/// Entries and others behind them, if they were found to rise.
+fn joined_rising(cells: Vec<Cell>, others: Vec<Cell>) -> Result<Option<Vec<Cell>>, AllocError>
+    requires before { IsTrue (is_sorted key_cmp cells.items) }
+    requires behind { IsTrue (is_sorted key_cmp others.items) }
+    ensures all { IfOk result (λ o. IfSome o (λ all. all.items ≡ cells.items ++ others.items)) }
+    ensures rises { IfOk result (λ o. IfSome o (λ all. is_sorted key_cmp all.items ≡ true)) }
+{
+    if !joins(&cells, &others) {
+        return Ok(None);
+    }
+    let mut all = cells;
+    let mut rest = others;
+    all.append(&mut rest)?;
+    Ok(Some(all))
+}
+
+/// The moved ones of entries before a place and behind it, in order.
+fn moved_below(
+    alloc: Global,
+    before: &[Cell],
+    behind: &[Cell],
+    one: &[Name],
+    other: &[Name],
+) -> Result<Vec<Cell>, AllocError>
+    requires before { IsTrue (is_sorted key_cmp before.now) }
+    requires behind { IsTrue (is_sorted key_cmp behind.now) }
+    ensures { IfOk result (λ new. new.items ≡ map (moved_cell one.now other.now) (below_key one.now before.now) ++ map (moved_cell one.now other.now) (below_key one.now behind.now)) }
+{
+    let mut moved = all_moved(alloc, below(before, one), one, other)?;
+    let mut later = all_moved(alloc, below(behind, one), one, other)?;
+    moved.append(&mut later)?;
+    Ok(moved)
+}
+
+/// Entries before a place and behind it, where those at a key and below it move into that place, if they were found to rise.
+#[tactic(auto, using(crate::proofs::RangeLemmas::beside_rises, crate::proofs::WovenLemmas::woven))]
+fn woven(
+    alloc: Global,
+    before: &[Cell],
+    behind: &[Cell],
+    one: &[Name],
+    other: &[Name],
+) -> Result<Option<Vec<Cell>>, AllocError>
+    requires before { IsTrue (is_sorted key_cmp before.now) }
+    requires behind { IsTrue (is_sorted key_cmp behind.now) }
+    ensures { IfOk result (λ o. IfSome o (λ new. new.items ≡ from_list (map (moved_cell one.now other.now) (before.now ++ behind.now)))) }
+{
+    let moved = moved_below(alloc, before, behind, one, other)?;
+    if !rises(&moved) {
+        return Ok(None);
+    }
+    let front = beside(alloc, before, one)?;
+    let back = beside(alloc, behind, one)?;
+    let Some(rest) = joined_rising(moved, back)? else {
+        return Ok(None);
+    };
+    Ok(joined_rising(front, rest)?)
+}
+
 /// The entries after a rename of one path to another.
-#[tactic(auto, using(crate::proofs::ChangeLemmas::renamed_is))]
+#[tactic(auto, using(crate::proofs::ChangeLemmas::renamed_is, crate::proofs::ChangeLemmas::woven_renamed))]
 fn renamed(alloc: Global, cells: &[Cell], from: &Path, to: &Path) -> Result<Vec<Cell>, AllocError>
+    requires { IsTrue (is_sorted key_cmp cells.now) }
     ensures { IfOk result (λ new. new.items ≡ renamed cells.now from.now to.now) }
 {
     let one = names_of(alloc, from)?;
     let other = names_of(alloc, to)?;
+    let (before, behind) = parts(cells, &other);
+    if let Some(new) = woven(alloc, before, behind, &one, &other)? {
+        return Ok(new);
+    }
     let left = without(alloc, cells, &other)?;
     Ok(ordered(alloc, all_moved(alloc, &left, &one, &other)?)?)
 }
@@ -195,6 +282,7 @@ fn after_rename(
     from: &Path,
     to: &Path,
 ) -> Result<Vec<Cell>, AllocError>
+    requires { IsTrue (is_sorted key_cmp cells.now) }
     ensures { IfOk result (λ new. new.items ≡ (if is_same from.now to.now then cells.now else renamed cells.now from.now to.now)) }
 {
     if from.same(to) {
@@ -296,6 +384,7 @@ fn after_truncate(
 /// The entries after the removal of an entry.
 #[tactic(auto, using(crate::proofs::ChangeLemmas::removed_is))]
 fn after_removal(alloc: Global, cells: &[Cell], path: &Path) -> Result<Vec<Cell>, AllocError>
+    requires { IsTrue (is_sorted key_cmp cells.now) }
     ensures { IfOk result (λ new. new.items ≡ removed cells.now path.now) }
 {
     let key = names_of(alloc, path)?;

@@ -4,6 +4,7 @@ ghost use Rattle.std.specs.Prelude.{◌≡◌, true, IfOk, IsTrue};
 ghost use Rattle.std.specs.FinMap.{is_sorted};
 ghost use Rattle.fs_names.specs.Keys.{key_cmp};
 ghost use Rattle.fs_calls.specs.Outcomes.{after, called, reply, reply_at};
+ghost use Rattle.fs_flat.specs.code.Cells.{is_failed};
 
 use crate::cell::Cell;
 use crate::changes::{change, copied};
@@ -48,21 +49,30 @@ fn reply_on(alloc: Global, cells: &[Cell], most: usize, call: &Call) -> Result<R
     }
 }
 
-/// The entries after a call, where a file has at most so many bytes.
+/// Whether a reply is an error.
+fn is_error(answer: &Reply) -> bool
+    ensures { result ≡ is_failed answer.now }
+{
+    matches!(answer, Reply::Failed(_))
+}
+
+/// The entries after a call that gets this reply, where a file has at most so many bytes.
 #[tactic(auto, using(crate::proofs::ChangeLemmas::stays, crate::proofs::ChangeLemmas::changes))]
 fn cells_after(
     alloc: Global,
     cells: &[Cell],
     most: usize,
     call: &Call,
+    answer: &Reply,
 ) -> Result<Vec<Cell>, AllocError>
-    requires { IsTrue (is_sorted key_cmp cells.now) }
+    requires sorted { IsTrue (is_sorted key_cmp cells.now) }
+    requires answer { answer.now ≡ reply most cells.now call.now }
     ensures { IfOk result (λ new. new.items ≡ after most cells.now call.now) }
 {
-    match error(alloc, cells, most, call)? {
-        Some(_) => Ok(copied(alloc, cells)?),
-        None => Ok(change(alloc, cells, call)?),
+    if is_error(answer) {
+        return Ok(copied(alloc, cells)?);
     }
+    Ok(change(alloc, cells, call)?)
 }
 
 /// The entries of a tree.
@@ -131,13 +141,14 @@ impl FlatTree {
         Ok(reply_on(alloc, &self.cells, self.limits.file(), call)?)
     }
 
-    /// The tree that a call leaves. This one stays as it is.
+    /// The tree that a call leaves that gets this reply. This one stays as it is.
     #[tactic(auto, using(crate::proofs::ChangeLemmas::after_sorted))]
-    pub fn after(&self, alloc: Global, call: &Call) -> Result<FlatTree, AllocError>
+    pub fn after(&self, alloc: Global, call: &Call, answer: &Reply) -> Result<FlatTree, AllocError>
+        requires { answer.now ≡ reply_at self.now call.now }
         ensures { IfOk result (λ tree. tree ≡ called self.now call.now) }
     {
         Ok(FlatTree {
-            cells: cells_after(alloc, &self.cells, self.limits.file(), call)?,
+            cells: cells_after(alloc, &self.cells, self.limits.file(), call, answer)?,
             limits: self.limits,
         })
     }

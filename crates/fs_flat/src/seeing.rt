@@ -1,6 +1,6 @@
 //! What stands at keys.
 
-ghost use Rattle.std.specs.Prelude.{◌≡◌, ◌<◌, ◌≤◌, ◌++◌, ◌∷◌, [], length, IsTrue, option_copied, IfOk, OnOk};
+ghost use Rattle.std.specs.Prelude.{◌≡◌, ◌<◌, ◌≤◌, ◌++◌, ◌∷◌, [], length, nat_le, IsTrue, option_copied, IfOk, OnOk};
 ghost use Rattle.std.specs.FinMap.{is_sorted};
 ghost use Rattle.fs_names.specs.Keys.{key_cmp};
 ghost use Rattle.fs_calls.specs.Tree.{names_in};
@@ -10,7 +10,7 @@ ghost use Rattle.fs_flat.specs.code.Cells.{GoesOn, ReachesOn};
 
 use crate::cell::Cell;
 use crate::keys::name_in;
-use crate::searching::find;
+use crate::searching::{below, find};
 use fs_calls::rows::step_error;
 use fs_calls::{Errno, Sight, ranges};
 use fs_names::{Kind, Name};
@@ -27,9 +27,9 @@ fn is_entry(dir: &[Name], cell: &Cell) -> bool
     }
 }
 
-/// Whether a directory has an entry.
+/// Whether one of these is an entry of a directory.
 #[tactic(auto, using(crate::proofs::SeenLemmas::has_here, crate::proofs::SeenLemmas::has_later, crate::proofs::SeenLemmas::has_none))]
-fn has_entries(cells: &[Cell], dir: &[Name]) -> bool
+fn has_any(cells: &[Cell], dir: &[Name]) -> bool
     ensures { result ≡ has_any (names_in cells.now dir.now) }
 {
     for cell in cells {
@@ -38,6 +38,15 @@ fn has_entries(cells: &[Cell], dir: &[Name]) -> bool
         }
     }
     false
+}
+
+/// Whether a directory has an entry.
+#[tactic(auto, using(crate::proofs::SeenLemmas::names_below))]
+fn has_entries(cells: &[Cell], dir: &[Name]) -> bool
+    requires { IsTrue (is_sorted key_cmp cells.now) }
+    ensures { result ≡ has_any (names_in cells.now dir.now) }
+{
+    has_any(below(cells, dir), dir)
 }
 
 /// One for an entry of a directory, and for any other none.
@@ -52,9 +61,9 @@ fn tally(dir: &[Name], cell: &Cell) -> usize
     }
 }
 
-/// How many entries a directory has.
+/// How many of these are entries of a directory.
 #[tactic(auto, using(crate::proofs::SeenLemmas::count_more, crate::proofs::SeenLemmas::count_end))]
-pub(crate) fn count(cells: &[Cell], dir: &[Name]) -> usize
+fn count_in(cells: &[Cell], dir: &[Name]) -> usize
     ensures { result ≡ length (names_in cells.now dir.now) }
 {
     let mut count = 0;
@@ -62,6 +71,15 @@ pub(crate) fn count(cells: &[Cell], dir: &[Name]) -> usize
         count += tally(dir, cell);
     }
     count
+}
+
+/// How many entries a directory has.
+#[tactic(auto, using(crate::proofs::SeenLemmas::names_below))]
+pub(crate) fn count(cells: &[Cell], dir: &[Name]) -> usize
+    requires { IsTrue (is_sorted key_cmp cells.now) }
+    ensures { result ≡ length (names_in cells.now dir.now) }
+{
+    count_in(below(cells, dir), dir)
 }
 
 /// Adds the name of an entry, if it is one of a directory.
@@ -74,9 +92,9 @@ fn push_name(names: &mut Vec<Name>, dir: &[Name], cell: &Cell) -> Result<(), All
     Ok(())
 }
 
-/// Their names, in order.
+/// The names of those of these that are entries of a directory, in order.
 #[tactic(auto, using(crate::proofs::SeenLemmas::names_next))]
-pub(crate) fn names(alloc: Global, cells: &[Cell], dir: &[Name]) -> Result<Vec<Name>, AllocError>
+fn names_among(alloc: Global, cells: &[Cell], dir: &[Name]) -> Result<Vec<Name>, AllocError>
     ensures { IfOk result (λ names. names.items ≡ names_in cells.now dir.now) }
 {
     let mut names = Vec::new(alloc);
@@ -84,6 +102,15 @@ pub(crate) fn names(alloc: Global, cells: &[Cell], dir: &[Name]) -> Result<Vec<N
         push_name(&mut names, dir, cell)?;
     }
     Ok(names)
+}
+
+/// The names of a directory, in order.
+#[tactic(auto, using(crate::proofs::SeenLemmas::names_below))]
+pub(crate) fn names(alloc: Global, cells: &[Cell], dir: &[Name]) -> Result<Vec<Name>, AllocError>
+    requires { IsTrue (is_sorted key_cmp cells.now) }
+    ensures { IfOk result (λ names. names.items ≡ names_in cells.now dir.now) }
+{
+    Ok(names_among(alloc, below(cells, dir), dir)?)
 }
 
 /// What the rows of errors see at a key.
@@ -107,8 +134,19 @@ pub(crate) fn sight(cells: &[Cell], key: &[Name]) -> Sight
     }
 }
 
+/// Whether as many of these are entries of a directory as it can have.
+#[tactic(auto, using(crate::proofs::SeenLemmas::few_there))]
+fn is_crowded(cells: &[Cell], dir: &[Name]) -> bool
+    ensures { result ≡ nat_le 256 (length (names_in cells.now dir.now)) }
+{
+    if !ranges::is_full(cells.len()) {
+        return false;
+    }
+    ranges::is_full(count_in(cells, dir))
+}
+
 /// Whether a directory has as many entries as it can have.
-#[tactic(auto, using(crate::proofs::SeenLemmas::nothing_full, crate::proofs::SeenLemmas::file_full, crate::proofs::SeenLemmas::dir_full))]
+#[tactic(auto, using(crate::proofs::SeenLemmas::nothing_full, crate::proofs::SeenLemmas::file_full, crate::proofs::SeenLemmas::dir_crowded))]
 pub(crate) fn is_full(cells: &[Cell], key: &[Name]) -> bool
     requires { IsTrue (is_sorted key_cmp cells.now) }
     ensures { result ≡ is_full (tree_shapes cells.now key.now) }
@@ -118,7 +156,7 @@ pub(crate) fn is_full(cells: &[Cell], key: &[Name]) -> bool
     };
     match cell.kind() {
         Kind::File => false,
-        Kind::Dir => ranges::is_full(count(cells, key)),
+        Kind::Dir => is_crowded(below(cells, key), key),
     }
 }
 

@@ -40,7 +40,7 @@ pub(crate) fn commit(
     if !fits(call.known, &reply) {
         return Ok(None);
     }
-    let tree = x.tree.after(alloc, call.call)?;
+    let tree = x.tree.after(alloc, call.call, &reply)?;
     let held = numbers::with(alloc, &x.held, call.number)?;
     Ok(Some(Configuration {
         at: x.at,

@@ -7,7 +7,7 @@ ghost use Rattle.fs_script.specs.Script.{script_of};
 ghost use Rattle.fs_sched.specs.Devices.{KeepsDevices, WritesBeginning};
 ghost use Rattle.fs_sched.specs.declared.seeding.TheConstants.{SEED_LIMIT};
 ghost use Rattle.fs_trace.specs.declared.fault.ScheduleFault.TheVariants as schedule;
-ghost use Rattle.fs_find.specs.Faults.{IsFaultOfFind};
+ghost use Rattle.fs_find.specs.Faults.{LacksRoom, IsFaultOfFind};
 ghost use Rattle.fs_find.specs.Finds.{IsSearchOf, LacksCall};
 ghost use Rattle.fs_find.specs.declared.finding.TheConstants.{SEARCH_LIMIT};
 ghost use Rattle.fs_objects.specs.Objects.{found_text, IsFoundOf};
@@ -23,7 +23,7 @@ use std::alloc::{AllocError, Global};
 
 /// The fault where memory ran out.
 fn out_of_memory() -> FindFault
-    ensures { (what : List Clause) (input : List ℕ) → IsFaultOfFind what input result }
+    ensures { (what : List Clause) (first most : ℕ) (input : List ℕ) → IsFaultOfFind what first most input result }
 {
     FindFault::Schedule(ScheduleFault::Run(RunFault::OutOfMemory))
 }
@@ -40,7 +40,7 @@ fn search<Listener: Witness>(
     requires seed { seed ≤ SEED_LIMIT }
     requires runs { runs ≤ SEARCH_LIMIT }
     ensures found { IfOk result (λ made. IsSearchOf what.now seed runs text.now made.end made.text.items) }
-    ensures fault { IfErr result (IsFaultOfFind what.now text.now) }
+    ensures fault { IfErr result (IsFaultOfFind what.now seed runs text.now) }
 {
     let mut reader = Device::new(text);
     let mut writer = Device::new(Vec::new(alloc));
@@ -153,6 +153,10 @@ pub fn find_object<R: Source, W: Sink, Listener: Witness>(
     ensures no_call { result ≡ Err FindFault.NoCall → IfSome (R.remaining reader.old) (LacksCall what.now) }
     ensures full { result ≢ Err (FindFault.Schedule (schedule.Run RunFault.Full)) }
     ensures under_way { (call : ℕ) → result ≢ Err (FindFault.Schedule (schedule.Run (RunFault.UnderWay call))) }
+    ensures too_many { result ≡ Err (FindFault.Schedule schedule.TooManyEvents)
+        → IfSome (R.remaining reader.old) (λ input. LacksRoom what.now seed runs input schedule.TooManyEvents) }
+    ensures too_long { result ≡ Err (FindFault.Schedule schedule.TooLong)
+        → IfSome (R.remaining reader.old) (λ input. LacksRoom what.now seed runs input schedule.TooLong) }
 
     // A device is blamed only where it failed in this call; after a failed write a beginning of the object stands, and after every
     // other error nothing was written.

@@ -5,14 +5,13 @@ use Rattle.fs_verdict.specs.declared.fault.RunFault.{RunFault}
 use Rattle.fs_verdict.specs.declared.fault.RunFault.TheVariants as run
 use Rattle.fs_sched.proofs.Reasons.{known}
 use Rattle.fs_sched.proofs.RunLemmas.{known_script, script_short}
-use Rattle.fs_trace.specs.declared.fault.ScheduleFault.TheVariants.{Run}
+use Rattle.fs_trace.specs.declared.fault.ScheduleFault.TheVariants.{Run, TooManyEvents, TooLong}
 use Rattle.fs_verdict.proofs.Unmade.{unmade, unwritten}
-use Rattle.fs_find.specs.Faults.{IsFaultOfFind}
+use Rattle.fs_find.specs.Faults.{LacksRoom, IsFaultOfFind}
 use Rattle.fs_find.specs.Finds.{LacksCall}
 use Rattle.fs_objects.specs.Objects.{IsFoundOf}
 use Rattle.fs_find.specs.declared.fault.FindFault.{FindFault}
 use Rattle.fs_find.specs.declared.fault.FindFault.TheVariants.{Schedule, NoCall}
-use Rattle.fs_find.proofs.Founds.{no_stop}
 use Rattle.fs_objects.proofs.finding.find_object.Goals as goal
 
 abbrev gives : RunFault → FindFault → Type 0
@@ -45,13 +44,23 @@ returns-in-Err-clause-full g c e =
 pub returns-in-Err-clause-under_way : goal.returns-in-Err-clause-under_way
 returns-in-Err-clause-under_way g c call e =
     let told = c.in-Err.ensures.unmade (Schedule (Run (run.UnderWay call))) (ap Err (unmade gives _ _ (Schedule (Run (run.UnderWay call))) c.between.ensures (cc) (λ z. cc) (λ z. cc) (λ z. cc))) in
-    no_stop _ _ _ told.2.1.fault
+    absurd told.2.1.fault
+
+pub returns-in-Err-clause-too_many : goal.returns-in-Err-clause-too_many
+returns-in-Err-clause-too_many g c e =
+    let told = c.in-Err.ensures.unmade (Schedule TooManyEvents) (ap Err (unmade gives _ _ (Schedule TooManyEvents) c.between.ensures (cc) (λ z. cc) (λ z. cc) (λ z. cc))) in
+    known (λ input. LacksRoom c.args.what.now c.args.seed c.args.runs input TooManyEvents) _ _ _ refl (script_short _ _ _ refl told.2.1.fault.1) told.1 told.2.1.fault
+
+pub returns-in-Err-clause-too_long : goal.returns-in-Err-clause-too_long
+returns-in-Err-clause-too_long g c e =
+    let told = c.in-Err.ensures.unmade (Schedule TooLong) (ap Err (unmade gives _ _ (Schedule TooLong) c.between.ensures (cc) (λ z. cc) (λ z. cc) (λ z. cc))) in
+    known (λ input. LacksRoom c.args.what.now c.args.seed c.args.runs input TooLong) _ _ _ refl (script_short _ _ _ refl told.2.1.fault.1) told.1 told.2.1.fault
 
 pub returns-in-Err-clause-beginning : goal.returns-in-Err-clause-beginning
 returns-in-Err-clause-beginning g c e =
     let never : (f : FindFault) → c.in-Err.failure ≡ failure.Unmade f → f ≢ Schedule (Run run.Write) = λ f same wrong.
     let told = c.in-Err.ensures.unmade f (ap Err same) in
-    subst (IsFaultOfFind c.args.what.now told.0.items) wrong told.2.1.fault in
+    subst (IsFaultOfFind c.args.what.now c.args.seed c.args.runs told.0.items) wrong told.2.1.fault in
     let told = c.in-Err.ensures.beginning (ap Err (unwritten gives _ _ (Schedule (Run run.Write)) c.between.ensures (cc) (λ z. cc) (λ z. cc) never)) in
     let made = told.3.1.found in
     (told.1.end, told.1.text.items, known (λ input. IsFoundOf c.args.what.now c.args.seed c.args.runs input told.1.end told.1.text.items) _ _ _ refl (script_short _ _ _ refl made.1.1) told.2 made, told.4)
