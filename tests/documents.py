@@ -119,6 +119,8 @@ PACKAGES = {language: ROOT / "bindings" / language / "README.md" for language in
 
 def example_for(command):
     """The worked example as a command reads it: its script, the journal of its run, or that without commits."""
+    if command.startswith("shrink"):
+        return BY_ROBIN
     if command not in ("check", "linearize"):
         return HELPED.with_suffix(".script").read_bytes()
     lines = HELPED.with_suffix(".text").read_bytes().splitlines(keepends=True)
@@ -491,6 +493,7 @@ class Commands(Page):
             "seeds --seed 7 --runs 3": b"seed 7 lawful\nseed 8 lawful\nseed 9 lawful\n",
             "outcomes --seed 7 --runs 3": b"3 seed 7 tree 84901e4addb59faf\n",
             "find --where 'not helped m#3' --seed 7 --runs 3": run(HELPED.with_suffix(".script").read_bytes(), "schedule", "--seed", "7").output,
+            "shrink --where 'not helped m#3'": b"atomfs 1\nthread m\nmkdir /a/d/x\nthread r\nschedule\n",
             "tree": text[text.index(b"tree\n") :].rpartition(b"begun ")[0],
             "threads": b"lawful calls 4\n",
             "check": b"lawful\n",
@@ -520,7 +523,8 @@ class Commands(Page):
         self.agrees("the commands of README", sorted(named), sorted({words.split(" ")[0] for words in shown if words[0] != "-"} - {"help"}))
 
     def look(self, words):
-        said = b"atomfs: seed 7\n" if words.startswith("find ") else b""
+        told = {"find": b"atomfs: seed 7\n", "shrink": b"atomfs: calls 1, words 0, where not helped m#1\n"}
+        said = told.get(words.split(" ")[0], b"")
         self.same(f"atomfs {words}", run(example_for(words), *shlex.split(words)), Outcome(0, self.due().get(words, b"no such command"), said))
 
     def test_of_examples(self):
@@ -659,8 +663,8 @@ class EachCommand(Page):
         if not words or (ROOT / words[0]).exists():
             return self.same("the scripts that are not there", [word for word in words if not (ROOT / word).exists()], [])
         outcome = run((ROOT / given).read_bytes() if given not in self.INPUTS else example_for(words[0]), *words)
-        # A check tells what is wrong beside the verdict, and a search the seed that it found.
-        is_told = self.IN_PART.match(outcome.message) or outcome.output.startswith(b"fault ") or words[0] == "find"
+        # A check tells what is wrong beside the verdict, a search the seed that it found, and `shrink` what is left.
+        is_told = self.IN_PART.match(outcome.message) or outcome.output.startswith(b"fault ") or words[0] in ("find", "shrink")
         message = b"" if is_told else outcome.message
         self.same("what it tells", message, b"")
 

@@ -192,6 +192,8 @@ class Words(Case):
             ("find", misused(f"{missing}\n  --where <WHAT>\n  --seed <N>\n  --runs <K>", "find --where <WHAT> --seed <N> --runs <K> [OPTIONS] < FILE")),
             ("find --where 'tree dir /' --seed 7 --runs 0", unread(0, "--runs <K>", "0 is not in 1..=1000000")),
             ("find --where 'tree dir /' --seed 7 --runs 1000001", unread(1_000_001, "--runs <K>", "1000001 is not in 1..=1000000")),
+            ("shrink", misused(f"{missing}\n  --where <WHAT>", "shrink --where <WHAT> < FILE")),
+            ("shrink --where 'tree dir /' --seed 7", misused("unexpected argument '--seed' found", "shrink --where <WHAT> < FILE")),
             ("tree --at x", unread("x", "--at <N>", "invalid digit found in string")),
             ("tree --at 1 --before a#1", misused("the argument '--at <N>' cannot be used with '--before <CALL>'", "tree [OPTIONS] < FILE")),
             ("tree --who / --before a#1", misused("the argument '--who <PATH>' cannot be used with '--before <CALL>'", "tree [OPTIONS] < FILE")),
@@ -221,7 +223,7 @@ class Words(Case):
 
     def test_help(self):
         rows = [(words, "atomfs") for words in ("help", "--help", "-h")]
-        rows += [(words, name) for name in ("run", "seeds", "outcomes", "find", "tree", "threads", "check", "linearize", "trace", "draw", "schedule", "explain") for words in (f"help {name}", f"{name} --help", f"{name} -h")]
+        rows += [(words, name) for name in ("run", "seeds", "outcomes", "find", "shrink", "tree", "threads", "check", "linearize", "trace", "draw", "schedule", "explain") for words in (f"help {name}", f"{name} --help", f"{name} -h")]
         self.all_end((words, words, b"", Outcome(0, (HELP / name).read_bytes())) for words, name in rows)
 
     def pasted(self, line):
@@ -238,7 +240,7 @@ class Words(Case):
         words, given = self.pasted(line)
         came = run(given, *shlex.split(words)[1:])
         # A search tells the seed that it found.
-        self.same(line, (came.status, re.sub(rb"^atomfs: seed \d+\n$", b"", came.message)), (0, b""))
+        self.same(line, (came.status, re.sub(rb"^atomfs: (seed \d+|calls .*)\n$", b"", came.message)), (0, b""))
 
     def test_examples_of_the_help(self):
         self.each(((path.name, path.name) for path in sorted(HELP.iterdir())), self.do_the_example)

@@ -208,7 +208,7 @@ def without_comments(text):
 class Tour(Case):
     """examples/tour/: each command that its files show, what it writes, and what its page says to look for."""
 
-    STEPS = "1_one_call.script", "2_race.script", "3_helping_rename.script", "4_both_won.journal", "5_kept_seed.script", "6_race.py", "7_what_can_happen.script"
+    STEPS = "1_one_call.script", "2_race.script", "3_helping_rename.script", "4_both_won.journal", "5_kept_seed.script", "6_race.py", "7_what_can_happen.script", "8_smallest.script"
     # Stored elsewhere: what comes of the calls of the third step.
     HELPED = {"trace": DATA / "traces" / "helped_mkdir.trace", "draw": ROOT / "docs" / "helped_mkdir.svg"}
     # What the sixth step writes, and the commands behind it read.
@@ -288,9 +288,9 @@ class Tour(Case):
         self.same(self.STEPS[2], without_comments((TOUR / self.STEPS[2]).read_text()), helped.splitlines())
 
     def test_kept_seeds(self):
-        """The fifth step is what its first command writes of the second, and the seventh what its second writes of the third, with other comments."""
-        kept = [(step, command) for _, step, command in self.commands() if command.words[0] in ("schedule", "find")]
-        self.same("what is kept", [step for step, _ in kept], [self.STEPS[4], self.STEPS[6]])
+        """The fifth step is what its first command writes of the second, the seventh what its second writes of the third, and the eighth what its first writes of the seventh, with other comments."""
+        kept = [(step, command) for _, step, command in self.commands() if command.words[0] in ("schedule", "find", "shrink")]
+        self.same("what is kept", [step for step, _ in kept], [self.STEPS[4], self.STEPS[6], self.STEPS[7]])
         for step, command in kept:
             written = self.stored(command).read_text()
             self.same(step, without_comments((TOUR / step).read_text()), without_comments(written))

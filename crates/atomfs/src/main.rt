@@ -1,6 +1,6 @@
 //! The program `atomfs`. `atomfs run` runs the script on standard input, from the tree in a file if one is named, `atomfs seeds`
-//! runs it by drawn schedules, `atomfs outcomes` counts how these end, `atomfs find` searches them, `atomfs threads` runs its
-//! threads on real ones, `atomfs check` reads a journal there, `atomfs tree` a journal or a script, and `atomfs linearize` a
+//! runs it by drawn schedules, `atomfs outcomes` counts how these end, `atomfs find` searches them, `atomfs shrink` leaves of it
+//! what its run needs, `atomfs threads` runs its threads on real ones, `atomfs check` reads a journal there, `atomfs tree` a journal or a script, and `atomfs linearize` a
 //! history; each writes what came of it. `atomfs explain` writes what the words of a message mean.
 //!
 //! `fs_arguments` reads the command line, and `fs_command` has the exit statuses. Each part is proved to mean what its clauses say. The
@@ -18,8 +18,8 @@ mod tests;
 use fs_arguments::{Format, Histories, Subcommand, parse};
 use fs_command::{
     Line, SharedLine, report, report_check, report_draw, report_file, report_find, report_from,
-    report_linearize, report_many, report_schedule, report_trace, report_tree, report_words,
-    status_of_run, status_of_unreadable_args, status_of_usage, status_of_verdict,
+    report_linearize, report_many, report_schedule, report_shrink, report_trace, report_tree,
+    report_words, status_of_run, status_of_unreadable_args, status_of_usage, status_of_verdict,
 };
 use fs_draw::{DrawFault, draw_input};
 use fs_entries::trace_input;
@@ -34,6 +34,7 @@ use fs_sched::{
     run_seeds, write_text,
 };
 use fs_share::Open;
+use fs_shrink::shrink_script;
 use fs_start::{StartFault, run_from, whole_text};
 use fs_threads::{ThreadsFault, Watch, run_threads};
 use fs_trace::{ScheduleFault, schedule_script};
@@ -428,6 +429,27 @@ fn find<C: Clock, R: Source, W: Sink, E: Write>(
     report_find(errors, numbers.0, numbers.1, outcome)
 }
 
+/// Shrinks a script to what its run needs for what a text says, which is read first, and answers the exit status.
+fn shrink<R: Source, W: Sink, E: Write>(
+    alloc: Global,
+    what: &str,
+    reader: &mut R,
+    writer: &mut W,
+    errors: &mut E,
+) -> u8
+    requires reads { R.failures reader.old < 2 ^ 64 - 1 }
+    requires writes { W.failures writer.old < 2 ^ 64 - 1 }
+{
+    let what = match read_what(alloc, what.as_bytes()) {
+        Ok(what) => what,
+        Err(fault) => return report_words(errors, fault),
+    };
+    report_shrink(
+        errors,
+        shrink_script(alloc, reader, writer, what.as_slice()),
+    )
+}
+
 /// Runs the threads of a script on real ones, and tells on a terminal how far they are.
 fn threads_shown<T: Threads + Wait + Clock + Sync, R: Source, W: Sink>(
     rt: &T,
@@ -490,6 +512,7 @@ fn perform<T: Threads + Wait + Clock + Files + Sync, R: Source, W: Sink, E: Writ
                 terminal,
             );
         }
+        Subcommand::Shrink(what) => return shrink(alloc, what, reader, writer, errors),
         Subcommand::Tree(order, asked) => {
             return report_tree(errors, tree(alloc, reader, writer, *order, *asked));
         }

@@ -13,7 +13,7 @@ use Rattle.fs_replay.specs.declared.asking.Asked.TheVariants as asked
 use Rattle.fs_arguments.specs.declared.subcommand.Format.{Format}
 use Rattle.fs_arguments.specs.declared.subcommand.Format.TheVariants.{Text, Json}
 use Rattle.fs_arguments.specs.declared.subcommand.Subcommand.{Subcommand}
-use Rattle.fs_arguments.specs.declared.subcommand.Subcommand.TheVariants.{Run, Seeds, Outcomes, AddedOutcomes, Find, Tree, Threads, Check, Linearize, Trace, Draw, Schedule, Explain}
+use Rattle.fs_arguments.specs.declared.subcommand.Subcommand.TheVariants.{Run, Seeds, Outcomes, AddedOutcomes, Find, Shrink, Tree, Threads, Check, Linearize, Trace, Draw, Schedule, Explain}
 
 -- the word by which a subcommand is asked for
 abbrev pub name_of : Subcommand → List ℕ
@@ -22,6 +22,7 @@ name_of (Seeds seed runs format) = codes "seeds"
 name_of (Outcomes seed runs form) = codes "outcomes"
 name_of (AddedOutcomes form) = codes "outcomes"
 name_of (Find what seed runs format) = codes "find"
+name_of (Shrink what) = codes "shrink"
 name_of (Tree schedule asked) = codes "tree"
 name_of (Threads journal) = codes "threads"
 name_of (Check format) = codes "check"
@@ -38,6 +39,7 @@ IsWithin (Seeds seed runs format) = (seed ≤ SEED_LIMIT) × (1 ≤ runs) × (ru
 IsWithin (Outcomes seed runs form) = (seed ≤ SEED_LIMIT) × (1 ≤ runs) × (runs ≤ OUTCOME_LIMIT)
 IsWithin (AddedOutcomes form) = Unit {0}
 IsWithin (Find what seed runs format) = (seed ≤ SEED_LIMIT) × (1 ≤ runs) × (runs ≤ SEARCH_LIMIT)
+IsWithin (Shrink what) = Unit {0}
 IsWithin (Tree schedule asked) = Unit {0}
 IsWithin (Threads journal) = Unit {0}
 IsWithin (Check format) = Unit {0}
@@ -86,6 +88,15 @@ IsSearch text first most wanted other = ⊥
 abbrev pub SearchesFor : List ℕ → ℕ → ℕ → Format → Option Subcommand → Type 0
 SearchesFor text first most wanted (Some subcommand) = IsSearch text first most wanted subcommand
 SearchesFor text first most wanted None = ⊥
+
+-- a script is to shrink to what has this
+abbrev pub IsShrink : List ℕ → Subcommand → Type 0
+IsShrink text (Shrink what) = what.now ≡ text
+IsShrink text other = ⊥
+
+abbrev pub ShrinksFor : List ℕ → Option Subcommand → Type 0
+ShrinksFor text (Some subcommand) = IsShrink text subcommand
+ShrinksFor text None = ⊥
 
 -- the question that asks for the tree before the commit of this call
 abbrev pub AsksBefore : List ℕ → Asked → Type 0

@@ -270,6 +270,19 @@ fn find_command<'a>(alloc: Global) -> Result<Command<'a>, Error> {
     with_arguments(numbers, searched_argument(alloc), json_argument(alloc))
 }
 
+fn shrink_alone<'a>(alloc: Global) -> Command<'a> {
+    Command::new(alloc, "shrink")
+        .about(
+            "Cuts calls and words of the script on standard input while its run still has WHAT, and writes what is left",
+        )
+        .override_usage("atomfs shrink --where <WHAT> < FILE")
+        .after_help(SHRINK_STATUSES)
+}
+
+fn shrink_command<'a>(alloc: Global) -> Result<Command<'a>, Error> {
+    Ok(shrink_alone(alloc).arg(where_argument(alloc))?)
+}
+
 fn at_argument<'a>(alloc: Global) -> Arg<'a> {
     Arg::new(alloc, "at")
         .long("at")
@@ -464,9 +477,14 @@ fn program_with_find<'a>(alloc: Global) -> Result<Command<'a>, Error> {
     with(program_with_outcomes(alloc)?, find)
 }
 
+fn program_with_shrink<'a>(alloc: Global) -> Result<Command<'a>, Error> {
+    let shrink = shrink_command(alloc)?;
+    with(program_with_find(alloc)?, shrink)
+}
+
 fn program_with_tree<'a>(alloc: Global) -> Result<Command<'a>, Error> {
     let tree = tree_command(alloc)?;
-    with(program_with_find(alloc)?, tree)
+    with(program_with_shrink(alloc)?, tree)
 }
 
 fn program_with_threads<'a>(alloc: Global) -> Result<Command<'a>, Error> {

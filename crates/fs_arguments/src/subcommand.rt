@@ -3,7 +3,7 @@
 ghost use Rattle.std.specs.Prelude.{◌≡◌, ◌≤◌, ℕ, Bool, List, true, false, Some, None, IfSome, codes};
 ghost use Rattle.std.specs.Option.{ForSome};
 ghost use Rattle.clap.specs.Matches.{first_value, found_of, one_text, subcommand_name_of};
-ghost use Rattle.fs_arguments.specs.Commands.{AreNumbersOf, AsksBefore, AsksWho, IsFlagOf, IsFormOf, IsFormatOf, IsNumberOf, IsWithin, SearchesFor, name_of};
+ghost use Rattle.fs_arguments.specs.Commands.{AreNumbersOf, AsksBefore, AsksWho, IsFlagOf, IsFormOf, IsFormatOf, IsNumberOf, IsWithin, SearchesFor, ShrinksFor, name_of};
 ghost use Rattle.fs_explain.specs.Topics.{word_of};
 
 use clap::ArgMatches;
@@ -50,6 +50,8 @@ pub enum Subcommand<'a> {
     AddedOutcomes(Form),
     /// The first of so many such runs that has what is said.
     Find(&'a str, u64, u64, Format),
+    /// A script without what its run does not need for what is said.
+    Shrink(&'a str),
     /// What is asked of the trees of a journal, or of a script's run by a schedule.
     Tree(Schedule, Asked<'a>),
     /// The calls of a script on real threads; and whether their journal is written.
@@ -201,6 +203,18 @@ fn find_of<'a>(matches: &ArgMatches<'a>) -> Option<Subcommand<'a>>
     }
 }
 
+/// What is to be left of a script.
+fn shrink_of<'a>(matches: &ArgMatches<'a>) -> Option<Subcommand<'a>>
+    ensures within { ForSome result IsWithin }
+    ensures name { IfSome result (λ command. name_of command ≡ codes "shrink") }
+    ensures some { (text : List ℕ) → first_value (found_of matches.now) (codes "where") ≡ Some text → ShrinksFor text result }
+{
+    match matches.get_str("where") {
+        Some(what) => Some(Subcommand::Shrink(what)),
+        None => None,
+    }
+}
+
 /// What is asked of trees.
 fn asked_of<'a>(matches: &ArgMatches<'a>) -> Asked<'a>
     ensures at { (n : ℕ) → IsNumberOf (found_of matches.now) (codes "at") n → result ≡ Asked.At n }
@@ -280,6 +294,7 @@ pub(crate) fn subcommand_of<'a>(matches: &ArgMatches<'a>) -> Option<Subcommand<'
         "seeds" => seeds_of(given),
         "outcomes" => outcomes_of(given),
         "find" => find_of(given),
+        "shrink" => shrink_of(given),
         "tree" => Some(Subcommand::Tree(schedule_of(given), asked_of(given))),
         "threads" => Some(Subcommand::Threads(given.get_flag("journal"))),
         "check" => Some(Subcommand::Check(format_of(given))),

@@ -61,6 +61,20 @@ Exit status:
 Example:
   atomfs find --where 'reply writer#2 failed' --seed 1 --runs 100 < examples/moved_ancestor.script";
 
+pub(crate) const SHRINK_STATUSES: &str = "\
+WHAT is as for `atomfs find`. Calls that it names stay, and standard error says how it names them in what is written; a call that it does not name, or a word, is left only where the run needs it. 100000 runs are the most, and where more were wanted standard error says so.
+
+Exit status:
+  0  success: the run of what is written has WHAT
+  1  the script's run has it not; or a checkpoint found calls under way
+  2  usage error, or the script has no such call
+  3  the input is no script: `atomfs explain` says what to write instead
+  4  out of memory, or no node number left
+  5  a read or a write failed
+
+Example:
+  atomfs shrink --where 'tree file /done/first/notes 6e6f746573' < examples/moved_ancestor.script";
+
 pub(crate) const TREE_STATUSES: &str = "\
 Of a script's run in pieces the last one is asked about, and of a journal that is not lawful the entries before its fault.
 CALL is THREAD#NUMBER: m#3 is the third call of the thread m, and of a journal 0#3 the third on seat 0.

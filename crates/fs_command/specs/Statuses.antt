@@ -23,6 +23,7 @@ use Rattle.fs_find.specs.Faults.{status_of_find}
 use Rattle.fs_find.specs.declared.fault.FindFault.{FindFault}
 use Rattle.fs_find.specs.declared.reading.WhatFault.{WhatFault}
 use Rattle.fs_find.specs.declared.reading.WhatFault.TheVariants as words
+use Rattle.fs_shrink.specs.declared.shrinking.Shrunk.{Shrunk}
 use Rattle.fs_trace.specs.Faults.{status_of_schedule}
 use Rattle.fs_trace.specs.declared.fault.ScheduleFault.{ScheduleFault}
 
@@ -79,6 +80,12 @@ abbrev pub status_of_found : Result (Option ℕ) FindFault → ℕ
 status_of_found (Ok (Some seed)) = 0
 status_of_found (Ok None) = 1
 status_of_found (Err fault) = status_of_find fault
+
+-- success where a script was shrunk, 1 where its run has not what is said
+abbrev pub status_of_shrunk : Result (Option Shrunk) FindFault → ℕ
+status_of_shrunk (Ok (Some shrunk)) = 0
+status_of_shrunk (Ok None) = 1
+status_of_shrunk (Err fault) = status_of_find fault
 
 -- words that say nothing of a run are a usage error
 abbrev pub status_of_words : WhatFault → ℕ

@@ -13,6 +13,6 @@ pub mod status;
 pub use progress::{Line, SharedLine};
 pub use status::{
     report, report_check, report_draw, report_file, report_find, report_from, report_linearize,
-    report_many, report_schedule, report_trace, report_tree, report_words, status_of_run,
-    status_of_unreadable_args, status_of_usage, status_of_verdict,
+    report_many, report_schedule, report_shrink, report_trace, report_tree, report_words,
+    status_of_run, status_of_unreadable_args, status_of_usage, status_of_verdict,
 };

@@ -3,7 +3,7 @@
 ghost use Rattle.std.specs.Prelude.{◌≡◌, ◌≢◌, ◌⊎◌};
 ghost use Rattle.std.specs.IoError.{error_kind};
 ghost use Rattle.clap.specs.Values.{kind_of};
-ghost use Rattle.fs_command.specs.Statuses.{has_status, status_of, status_of_checked, status_of_drawn, status_of_found, status_of_linearized, status_of_many, status_of_outcome, status_of_outcomes, status_of_replayed, status_of_run, status_of_scheduled, status_of_started, status_of_traced, status_of_verdict, status_of_words};
+ghost use Rattle.fs_command.specs.Statuses.{has_status, status_of, status_of_checked, status_of_drawn, status_of_found, status_of_linearized, status_of_many, status_of_outcome, status_of_outcomes, status_of_replayed, status_of_run, status_of_scheduled, status_of_shrunk, status_of_started, status_of_traced, status_of_verdict, status_of_words};
 ghost use Rattle.fs_sched.specs.Faults.{status_of_fault};
 
 use clap::Error;
@@ -14,6 +14,7 @@ use fs_find::{FindFault, WhatFault};
 use fs_recorded::{Histories, Linearized, Outcome};
 use fs_replay::{ReplayFault, Replayed};
 use fs_sched::{Checked, RunEnd, RunFault};
+use fs_shrink::{Shrunk, TRIAL_LIMIT};
 use fs_start::StartFault;
 use fs_threads::ThreadsFault;
 use fs_trace::ScheduleFault;
@@ -183,6 +184,42 @@ pub fn report_find<E: Write>(
                 errors,
                 "atomfs: no run of {runs} from seed {seed} on has it"
             );
+            return 1;
+        }
+        Err(fault) => fault,
+    };
+    let _ = writeln!(errors, "atomfs: {fault}");
+    fault.status()
+}
+
+/// Writes what is left of a script, and whether more could go.
+fn tell_shrunk<E: Write>(errors: &mut E, shrunk: &Shrunk) {
+    let _ = write!(
+        errors,
+        "atomfs: calls {}, words {}, where ",
+        shrunk.calls, shrunk.words
+    );
+    let _ = errors.write_all(shrunk.said.as_slice());
+    let _ = errors.write_all(b"\n");
+    if !shrunk.is_smallest {
+        let _ = writeln!(
+            errors,
+            "atomfs: more may go: {TRIAL_LIMIT} runs are the most"
+        );
+    }
+}
+
+/// The status that a script which is shrunk came to, or that of its fault, whose message is written. What is left is told too.
+pub fn report_shrink<E: Write>(errors: &mut E, outcome: Result<Option<Shrunk>, FindFault>) -> u8
+    ensures { result ≡ status_of_shrunk outcome }
+{
+    let fault = match outcome {
+        Ok(Some(shrunk)) => {
+            tell_shrunk(errors, &shrunk);
+            return 0;
+        }
+        Ok(None) => {
+            let _ = writeln!(errors, "atomfs: its run has it not");
             return 1;
         }
         Err(fault) => fault,

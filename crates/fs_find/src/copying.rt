@@ -17,7 +17,7 @@ fn copy_of_names(alloc: Global, names: &[Name]) -> Result<Vec<Name>, AllocError>
 }
 
 /// The same reply again.
-pub(crate) fn copy_of_reply(alloc: Global, reply: &Reply) -> Result<Reply, AllocError>
+pub fn copy_of_reply(alloc: Global, reply: &Reply) -> Result<Reply, AllocError>
     ensures { IfOk result (λ copy. copy ≡ reply.now) }
 {
     match reply {

@@ -26,8 +26,8 @@ use std::alloc::Global;
 /// The most drawn runs that are searched.
 pub const SEARCH_LIMIT: u64 = 1_000_000;
 
-/// Whether the run of a script by a schedule has what is said.
-pub(crate) fn run_has(
+/// Whether the run of a script by a schedule has what is said. What is said of a call that is not there is false.
+pub fn run_has(
     alloc: Global,
     script: &Script,
     schedule: Schedule,

@@ -16,7 +16,8 @@ mod lives;
 mod reading;
 pub mod what;
 
+pub use copying::copy_of_reply;
 pub use fault::FindFault;
-pub use finding::{SEARCH_LIMIT, find_seed};
+pub use finding::{SEARCH_LIMIT, find_seed, run_has};
 pub use reading::{WhatFault, read_what};
 pub use what::{CallName, Clause, Condition, names_calls};

@@ -1,0 +1,8 @@
+mod Picking
+mod Words
+mod Blocks
+mod Lines
+mod Counting
+mod Starting
+mod Going
+mod Ending

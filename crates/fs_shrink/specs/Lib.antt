@@ -1,0 +1,5 @@
+pub mod Kept
+pub mod Moves
+pub mod Telling
+pub mod Shrinks
+pub mod code

@@ -1,0 +1,4 @@
+-- What ties the code to the definitions: of it nothing has to be believed.
+pub mod Thinning
+pub mod Passes
+pub mod Mades
