@@ -1,0 +1,5 @@
+pub mod CountLemmas
+pub mod FileLemmas
+pub mod PartLemmas
+pub mod PutLemmas
+pub mod SpanLemmas

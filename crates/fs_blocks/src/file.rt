@@ -1,0 +1,321 @@
+//! A file.
+
+ghost use Rattle.std.specs.Prelude.{◌≡◌, ◌≢◌, ◌≤◌, ◌<◌, ◌+◌, ◌^◌, ◌++◌, [], true, false, length, take, drop, IsTrue, IsFalse, IfOk, OnOk, OnErr, vec_len, vec_capacity};
+ghost use Rattle.std.specs.Arc.{arc_value};
+ghost use Rattle.fs_calls.specs.Rows.{written, resized};
+ghost use Rattle.fs_blocks.specs.Spares.{FitsWrite, FitsSize};
+ghost use Rattle.fs_blocks.specs.code.Forms.{value_of};
+
+use crate::block::Block;
+use crate::long::Long;
+use crate::sizes::BLOCK;
+use crate::spare::Spare;
+use fs_calls::ranges::part;
+use fs_memory::Memory;
+use std::alloc::{AllocError, Global};
+use std::marker::Model;
+use std::mem;
+use std::sync::Arc;
+
+/// Where the bytes of a file are.
+#[derive(Drop)]
+enum Form {
+    /// In one vector.
+    Plain(Vec<u8>),
+    /// In blocks, and the first one has them all.
+    Short(Block),
+    /// In blocks.
+    Long(Box<Long>),
+}
+
+/// A file, seen as its bytes and whether they are in blocks.
+#[derive(Drop)]
+pub struct File {
+    form: Form,
+}
+
+impl Model for File {
+    ghost use Rattle.fs_blocks.specs.Files.{FileValue};
+
+    ghost Value = { FileValue };
+
+    ghost use Rattle.fs_blocks.specs.code.Forms.{value_of};
+
+    ghost view = { λ f. value_of f.form };
+}
+
+/// A long file of the bytes of a block, in this room.
+fn started(alloc: Global, first: Block, room: Box<Long>) -> Box<Long>
+    ensures { result.value ≡ first }
+{
+    let mut long = room;
+    *long = Long::of(alloc, first);
+    long
+}
+
+/// Appends the bytes of a long file from an offset on, and no more than a count.
+fn read_long(long: &Long, off: u64, count: u64, into: &mut Vec<u8>)
+    requires { vec_len into.old + length (take count (drop off long.now)) ≤ vec_capacity into.old }
+    ensures { into.new.items ≡ into.old.items ++ take count (drop off long.now) }
+{
+    let len = long.len();
+    if off >= len as u64 {
+        return;
+    }
+    let off = off as usize;
+    let count = count.min((len - off) as u64) as usize;
+    long.read(off, count, into);
+}
+
+/// The same of bytes that are in one slice.
+fn read_slice(bytes: &[u8], off: u64, count: u64, into: &mut Vec<u8>)
+    requires { vec_len into.old + length (take count (drop off bytes.now)) ≤ vec_capacity into.old }
+    ensures { into.new.items ≡ into.old.items ++ take count (drop off bytes.now) }
+{
+    let _room_was_made = into.extend_from_slice(part(bytes, off, count));
+}
+
+/// Writes into a file that has its bytes in the first block.
+fn write_short(first: Block, off: usize, bytes: &[u8], spare: Spare) -> Form
+    requires some { 0 < length bytes.now }
+    requires fits { off + length bytes.now < 2 ^ 63 }
+    requires spare { FitsWrite off (length bytes.now) spare }
+    ensures { value_of result ≡ record { bytes = written first off bytes.now; in_blocks = true } }
+{
+    let (mut buffers, mut rooms, list, room) = spare.into_parts();
+    if off + bytes.len() <= BLOCK {
+        let mut first = first;
+        first.write(off, bytes, &mut buffers);
+        return Form::Short(first);
+    }
+    let mut long = started(*list.allocator(), first, room.unwrap());
+    long.write(off, bytes, list, &mut rooms, &mut buffers);
+    Form::Long(long)
+}
+
+/// Writes into a long file.
+fn write_long(long: Box<Long>, off: usize, bytes: &[u8], spare: Spare) -> Form
+    requires fits { off + length bytes.now < 2 ^ 63 }
+    requires spare { FitsWrite off (length bytes.now) spare }
+    ensures { value_of result ≡ record { bytes = written long.value off bytes.now; in_blocks = true } }
+{
+    let (mut buffers, mut rooms, list, _) = spare.into_parts();
+    let mut long = long;
+    long.write(off, bytes, list, &mut rooms, &mut buffers);
+    Form::Long(long)
+}
+
+/// Takes bytes of a block, or less, into a file that has its bytes in the first one.
+fn take_short(first: Block, off: usize, bytes: &Arc<Vec<u8>>, spare: Spare) -> Form
+    requires some { 0 < length (arc_value bytes.now).items }
+    requires most { length (arc_value bytes.now).items ≤ BLOCK }
+    requires fits { off + length (arc_value bytes.now).items < 2 ^ 63 }
+    requires spare { FitsWrite off (length (arc_value bytes.now).items) spare }
+    ensures { value_of result ≡ record { bytes = written first off (arc_value bytes.now).items; in_blocks = true } }
+{
+    if off > 0 {
+        return write_short(first, off, bytes.as_slice(), spare);
+    }
+    let (mut buffers, _, _, _) = spare.into_parts();
+    let mut first = first;
+    first.take(bytes, &mut buffers);
+    Form::Short(first)
+}
+
+/// Takes bytes of a block, or less, into a long file.
+fn take_long(long: Box<Long>, off: usize, bytes: &Arc<Vec<u8>>, spare: Spare) -> Form
+    requires some { 0 < length (arc_value bytes.now).items }
+    requires most { length (arc_value bytes.now).items ≤ BLOCK }
+    requires fits { off + length (arc_value bytes.now).items < 2 ^ 63 }
+    requires spare { FitsWrite off (length (arc_value bytes.now).items) spare }
+    ensures { value_of result ≡ record { bytes = written long.value off (arc_value bytes.now).items; in_blocks = true } }
+{
+    if off % BLOCK > 0 {
+        return write_long(long, off, bytes.as_slice(), spare);
+    }
+    let (mut buffers, mut rooms, list, _) = spare.into_parts();
+    let mut long = long;
+    long.take(off, bytes, list, &mut rooms, &mut buffers);
+    Form::Long(long)
+}
+
+/// Cuts a file that has its bytes in the first block to a size, or adds zeros up to it.
+fn resize_short(first: Block, size: usize, spare: Spare) -> Form
+    requires { FitsSize size spare }
+    ensures { value_of result ≡ record { bytes = resized first size; in_blocks = true } }
+{
+    let (mut buffers, _, list, room) = spare.into_parts();
+    if size <= BLOCK {
+        let mut first = first;
+        first.resize(size, &mut buffers);
+        return Form::Short(first);
+    }
+    let mut long = started(*list.allocator(), first, room.unwrap());
+    long.resize(size, &mut buffers);
+    Form::Long(long)
+}
+
+/// The same of a long file.
+fn resize_long(long: Box<Long>, size: usize, spare: Spare) -> Form
+    requires { FitsSize size spare }
+    ensures { value_of result ≡ record { bytes = resized long.value size; in_blocks = true } }
+{
+    let (mut buffers, _, _, _) = spare.into_parts();
+    let mut long = long;
+    long.resize(size, &mut buffers);
+    Form::Long(long)
+}
+
+impl File {
+    /// A file in one vector, of these bytes.
+    pub fn plain(bytes: Vec<u8>) -> File
+        ensures { result ≡ record { bytes = bytes.items; in_blocks = false } }
+    {
+        File {
+            form: Form::Plain(bytes),
+        }
+    }
+
+    /// A file in blocks, without bytes.
+    pub fn in_blocks() -> File
+        ensures { result ≡ record { bytes = []; in_blocks = true } }
+    {
+        File {
+            form: Form::Short(Block::hole()),
+        }
+    }
+
+    /// Whether its bytes are in blocks.
+    pub fn is_in_blocks(&self) -> bool
+        ensures { result ≡ self.now.in_blocks }
+    {
+        match &self.form {
+            Form::Plain(_) => false,
+            Form::Short(_) | Form::Long(_) => true,
+        }
+    }
+
+    /// How many bytes it has.
+    pub fn len(&self) -> usize
+        ensures { result ≡ length self.now.bytes }
+    {
+        match &self.form {
+            Form::Plain(bytes) => bytes.len(),
+            Form::Short(first) => first.as_slice().len(),
+            Form::Long(long) => long.len(),
+        }
+    }
+
+    /// The bytes of a file in one vector.
+    pub fn as_slice(&self) -> &[u8]
+        requires { IsFalse self.now.in_blocks }
+        ensures { result.now ≡ self.now.bytes }
+    {
+        match &self.form {
+            Form::Plain(bytes) => bytes.as_slice(),
+            _ => unreachable!(),
+        }
+    }
+
+    /// A file in one vector takes these bytes, and hands the old ones out.
+    pub fn swap(&mut self, bytes: Vec<u8>) -> Vec<u8>
+        requires { IsFalse self.old.in_blocks }
+        ensures new { self.new ≡ record self.old { bytes = bytes.items } }
+        ensures old { result.items ≡ self.old.bytes }
+    {
+        match mem::replace(&mut self.form, Form::Plain(bytes)) {
+            Form::Plain(old) => old,
+            _ => unreachable!(),
+        }
+    }
+
+    /// Appends the bytes from an offset on, and no more than a count, to a vector that has room for them.
+    pub fn read(&self, off: u64, count: u64, into: &mut Vec<u8>)
+        requires { vec_len into.old + length (take count (drop off self.now.bytes)) ≤ vec_capacity into.old }
+        ensures { into.new.items ≡ into.old.items ++ take count (drop off self.now.bytes) }
+    {
+        match &self.form {
+            Form::Plain(bytes) => read_slice(bytes.as_slice(), off, count, into),
+            Form::Short(first) => read_slice(first.as_slice(), off, count, into),
+            Form::Long(long) => read_long(long, off, count, into),
+        }
+    }
+
+    /// Puts bytes, at least one, over those of a file in blocks from an offset on; a gap reads as zeros.
+    pub fn write(&mut self, off: usize, bytes: &[u8], spare: Spare)
+        requires form { IsTrue self.old.in_blocks }
+        requires some { 0 < length bytes.now }
+        requires fits { off + length bytes.now < 2 ^ 63 }
+        requires spare { FitsWrite off (length bytes.now) spare }
+        ensures { self.new ≡ record self.old { bytes = written self.old.bytes off bytes.now } }
+    {
+        self.form = match mem::replace(&mut self.form, Form::Short(Block::hole())) {
+            Form::Plain(_) => unreachable!(),
+            Form::Short(first) => write_short(first, off, bytes, spare),
+            Form::Long(long) => write_long(long, off, bytes, spare),
+        };
+    }
+
+    /// The same of bytes that others share: a block of which nothing else is left shares them too, where they begin with it
+    /// and are no more.
+    pub fn take(&mut self, off: usize, bytes: &Arc<Vec<u8>>, spare: Spare)
+        requires form { IsTrue self.old.in_blocks }
+        requires some { 0 < length (arc_value bytes.now).items }
+        requires fits { off + length (arc_value bytes.now).items < 2 ^ 63 }
+        requires spare { FitsWrite off (length (arc_value bytes.now).items) spare }
+        ensures { self.new ≡ record self.old { bytes = written self.old.bytes off (arc_value bytes.now).items } }
+    {
+        if bytes.as_slice().len() > BLOCK {
+            self.write(off, bytes.as_slice(), spare);
+            return;
+        }
+        self.form = match mem::replace(&mut self.form, Form::Short(Block::hole())) {
+            Form::Plain(_) => unreachable!(),
+            Form::Short(first) => take_short(first, off, bytes, spare),
+            Form::Long(long) => take_long(long, off, bytes, spare),
+        };
+    }
+
+    /// Cuts a file in blocks to a size, or lets zeros follow up to it.
+    pub fn resize(&mut self, size: usize, spare: Spare)
+        requires form { IsTrue self.old.in_blocks }
+        requires spare { FitsSize size spare }
+        ensures { self.new ≡ record self.old { bytes = resized self.old.bytes size } }
+    {
+        self.form = match mem::replace(&mut self.form, Form::Short(Block::hole())) {
+            Form::Plain(_) => unreachable!(),
+            Form::Short(first) => resize_short(first, size, spare),
+            Form::Long(long) => resize_long(long, size, spare),
+        };
+    }
+
+    /// Lets copies share the blocks that so many bytes from an offset on touch, as far as there is memory for that. The bytes
+    /// themselves are not copied.
+    pub fn share(&mut self, alloc: Global, off: usize, count: usize)
+        requires { off + count < 2 ^ 63 }
+        ensures { self.new ≡ self.old }
+    {
+        match &mut self.form {
+            Form::Plain(_) => {}
+            Form::Short(first) => first.share(alloc),
+            Form::Long(long) => long.share(alloc, off, count),
+        }
+    }
+
+    /// The same file again. Blocks that are shared already get one owner more, and others are copied.
+    pub fn copy(&self, alloc: Global, memory: &mut Memory) -> Result<File, AllocError>
+        ensures ok { IfOk result (λ file. file ≡ self.now) }
+        ensures granted { OnOk result (memory.new ≡ memory.old) }
+        ensures refused { OnErr result (memory.new ≢ memory.old) }
+    {
+        let form = match &self.form {
+            Form::Plain(bytes) => Form::Plain(memory.copy_of(bytes)?),
+            Form::Short(first) => Form::Short(first.copy(memory)?),
+            Form::Long(long) => {
+                let copy = long.copy(memory)?;
+                Form::Long(memory.boxed(alloc, copy)?)
+            }
+        };
+        Ok(File { form })
+    }
+}

@@ -1,0 +1,28 @@
+//! The bytes of a file: in one vector, or in blocks that files share.
+//!
+//! A file in blocks (`File`) that fits in a block is that block alone. A longer one (`long`) has its first block and a list
+//! of chunks, of `CHUNK` blocks each. A block, a chunk or an end of one that is not there is a hole, and reads as zeros. A
+//! block has its bytes in a vector of its own, or in one that others share (`block`): the latter is never changed, and a write
+//! copies it first, unless no other owner is left.
+//!
+//! Contracts see a file as its bytes and whether they are in blocks (`specs/Files.antt`), and say nothing of blocks.
+//! A change answers no error, since it takes no memory: it uses a `Spare` that was made before, and `specs/Spares.antt` says
+//! when that is enough. No contract of `std` says when an `Arc` has one owner, or fails to have one more, so there is always a
+//! buffer where a share cannot be undone, and bytes are copied where they cannot be shared.
+//!
+//! Enter at `File` and `Spare::for_write`. `specs/code/Bytes.antt` has the bytes by their places, by which all is proved.
+#![tactic(auto)]
+
+mod block;
+mod chunk;
+pub mod file;
+mod long;
+mod rooms;
+pub mod sizes;
+pub mod spare;
+#[cfg(test)]
+mod tests;
+
+pub use file::File;
+pub use sizes::{BLOCK, CHUNK, SPAN};
+pub use spare::Spare;
