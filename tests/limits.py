@@ -22,8 +22,8 @@ STACK = 128 * 1024
 # The largest file by the second limits.
 FILE_BY_SECOND = 1_048_576
 ROOM = 268_435_456
-# The most bytes that are held for each event of a run that is traced, drawn or scheduled.
-EACH_EVENT = 64
+# The most bytes that are held for each event of a run that is drawn or scheduled, and of one that is traced, whose text is copied once.
+EACH_EVENT, EACH_TRACED = 64, 96
 RUN, CHECK, SEEDS = ("run",), ("check",), ("seeds", "--seed", "1", "--runs", "3")
 LAWFUL = Outcome(0, b"lawful\n")
 LAWFUL_SEEDS = Outcome(0, b"seed 1 lawful\nseed 2 lawful\nseed 3 lawful\n")
@@ -276,7 +276,7 @@ class Limits(Case):
             events = events or int(self.end(4_096).split(b"\ntree\n")[0].splitlines()[-1].split()[0])
             with self.subTest(" ".join(words)):
                 self.assertEqual(status, wanted)
-                self.assertLessEqual(most / events, EACH_EVENT)
+                self.assertLessEqual(most / events, EACH_TRACED if words[0] == "trace" else EACH_EVENT)
                 if self.measures:
                     print(f"{' '.join(words)}: {events} events, {most} bytes", flush=True)
 
