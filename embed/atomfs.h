@@ -163,7 +163,7 @@ enum {
 enum {
     ATOMFS_TELL_LINE = 0,  /* its line */
     ATOMFS_TELL_FRONT = 1, /* in the place of the line `none` a journal up to that return, as by --front */
-    ATOMFS_TELL_WORDS = 2  /* its line, and behind `none` and `fault` a second one, which says in words what the entry is */
+    ATOMFS_TELL_WORDS = 2  /* its line, and behind `none` and `fault` what the entry is, in words; then for `none` what could be replied */
 };
 
 /* What stands at a path: a directory and how many entries it has, or a file and how many bytes. */

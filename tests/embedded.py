@@ -275,7 +275,7 @@ class Histories(harness.Case):
             return refused(came)
         found = atomfs.Found.LAWFUL if came.status == 0 else self.FOUND.get(came.output.split(b" ")[0], atomfs.Found.NO_ORDER)
         self.came.add((tell, found))
-        return found, came.output + (came.message.removeprefix(b"atomfs: ") if tell == atomfs.Tell.WORDS else b"")
+        return found, came.output + (re.sub(rb"(?m)^atomfs: ", b"", came.message) if tell == atomfs.Tell.WORDS else b"")
 
     def look(self, given, limit):
         for tell, words in self.FORMS:

@@ -2,7 +2,8 @@
 
 Of drawn histories of two to six calls, some from a start tree, some with calls that never return or replies that are left open, half with a changed reply,
 each answer is what all orders say: a journal that is lawful by `atomfs check` and is the history without its commits, or the first return up to
-which there is no order, while there is one up to the entry before it. Journals of runs come back lawful without their commits.
+which there is no order, while there is one up to the entry before it; and the replies that the call could have had there are those that some order
+gives it. Journals of runs come back lawful without their commits.
 """
 import copy
 import random
@@ -89,27 +90,38 @@ def fits(told, reply):
     return told == reply or told == "failed ?" and reply.startswith("failed ") or told == "stat dir ?" and reply.startswith("stat dir ")
 
 
-def has_order(start, entries, whole):
-    """Whether some order of commits explains entries, where calls under way get replies that fit in the whole history: every order is tried."""
+def trees(start, entries, whole):
+    """The trees behind entries by each order of commits that explains them, where calls under way get replies that fit in the whole history."""
     told = {entry[1]: entry[2] for entry in whole if entry[0] == "return"}
     calls = {entry[1]: entry[3] for entry in entries if entry[0] == "begin"}
 
     def goes_on(place, tree, under_way, done):
         if place == len(entries):
-            return True
-        kind, number, *_ = entries[place]
-        if kind == "begin" and goes_on(place + 1, tree, under_way | {number}, done):
-            return True
-        if kind == "return" and number in done and goes_on(place + 1, tree, under_way - {number}, done):
-            return True
+            yield tree
+        else:
+            kind, number, *_ = entries[place]
+            if kind == "begin":
+                yield from goes_on(place + 1, tree, under_way | {number}, done)
+            elif number in done:
+                yield from goes_on(place + 1, tree, under_way - {number}, done)
         for other in under_way - done:
             later = copy.deepcopy(tree)
             reply = later.apply(calls[other])
-            if (other not in told or fits(told[other], reply)) and goes_on(place, later, under_way, done | {other}):
-                return True
-        return False
+            if other not in told or fits(told[other], reply):
+                yield from goes_on(place, later, under_way, done | {other})
 
     return goes_on(0, model.started(list(start))[0], frozenset(), frozenset())
+
+
+def has_order(start, entries, whole):
+    """Whether some order of commits explains entries: every order is tried."""
+    return any(True for _ in trees(start, entries, whole))
+
+
+def replied(message):
+    """In how many ways all before a return is explained, as a message tells, how many of them give each reply that is told, and whether all are told."""
+    ways, told, rest = re.fullmatch(r"atomfs: (\d+) ways? explains? all before it, and the call could have replied: (.*?)(, \.\.)?\n", message).groups()
+    return int(ways), {reply: int(count) for reply, count in re.findall(r"(?:^|, )(.+?) \((\d+) ways?\)", told)}, not rest
 
 
 def without_commits(text):
@@ -120,10 +132,21 @@ def refused(text, line, status=1, message=b""):
     return text_of(text), Outcome(status, line, message)
 
 
-def unexplained(text, place, line, call):
-    """No order explains the return in a line, of which the call is told."""
+def unexplained(text, place, line, call, could):
+    """No order explains the return in a line, of which the call is told, and what it could have replied."""
     number = text[line - 1].split(" ")[1]
-    return refused(text, f"none {place} {number}\n".encode(), 1, f"atomfs: line {line}: {text[line - 1]}; call {number} is {call}\n".encode())
+    told = f"atomfs: line {line}: {text[line - 1]}; call {number} is {call}\natomfs: {could}\n"
+    return refused(text, f"none {place} {number}\n".encode(), 1, told.encode())
+
+
+def one_way(reply):
+    """What is told where one way explains all before a return."""
+    return f"1 way explains all before it, and the call could have replied: {reply} (1 way)"
+
+
+def ways(count, *replies):
+    """The same of several ways."""
+    return f"{count} ways explain all before it, and the call could have replied: {', '.join(replies)}"
 
 
 HEADER = "atomfs-journal 1"
@@ -146,10 +169,24 @@ ROWS = {
         (*BEGUN, "return 1 ok", "return 2 failed ?"),
         text_of((*BEGUN, "commit 2", "commit 1", "return 1 ok", "return 2 failed ENOENT")), 0,
     ),
-    "a reply that nothing explains": unexplained((*BEGUN, "return 2 stat dir 1", "return 1 ok"), 3, 4, "stat /a on seat 1"),
-    "a later reply is held to": unexplained((*BEGUN, "return 1 failed EEXIST", "return 2 stat dir 0"), 3, 4, "mkdir /a on seat 0"),
-    "an open reply that nothing explains": unexplained((HEADER, "begin 7 0 rmdir /", "", "# none", "return 7 failed ?", "begin 8 0 stat /", "return 8 failed ?"), 4, 7, "stat / on seat 0"),
-    "a call that is cut": refused((HEADER, f"begin 1 0 write /a 0 {'00' * 200}", f"return 1 names {'x' * 30} {'y' * 30}"), b"none 2 1\n", 1, f"atomfs: line 3: return 1 names {'x' * 30} {'y' * 30}; call 1 is write /a 0 {'0' * 229}.. on seat 0\n".encode()),
+    "a reply that nothing explains": unexplained((*BEGUN, "return 2 stat dir 1", "return 1 ok"), 3, 4, "stat /a on seat 1", ways(2, "failed ENOENT (1 way)", "stat dir 0 (1 way)")),
+    "a later reply is held to": unexplained((*BEGUN, "return 1 failed EEXIST", "return 2 stat dir 0"), 3, 4, "mkdir /a on seat 0", one_way("ok")),
+    "an open reply that nothing explains": unexplained((HEADER, "begin 7 0 rmdir /", "", "# none", "return 7 failed ?", "begin 8 0 stat /", "return 8 failed ?"), 4, 7, "stat / on seat 0", one_way("stat dir 0")),
+    "ways that give one reply": unexplained(
+        (*BEGUN, "begin 3 2 mkdir /a/b", "return 2 stat dir 7"), 4, 5, "stat /a on seat 1", ways(5, "failed ENOENT (2 ways)", "stat dir 0 (2 ways)", "stat dir 1 (1 way)"),
+    ),
+    "calls that do not meet it make no ways": unexplained(
+        (*BEGUN, "begin 3 2 mkdir /b", "return 2 stat dir 1"), 4, 5, "stat /a on seat 1", ways(2, "failed ENOENT (1 way)", "stat dir 0 (1 way)"),
+    ),
+    "more replies than are told": unexplained(
+        (HEADER, *(f"begin {at} {at} mkdir /{name}" for at, name in enumerate("abcd")), "begin 9 9 readdir /", "return 9 ok"), 6, 7, "readdir / on seat 9",
+        ways(16, *(f"names{''.join(' ' + name for name in names)} (1 way)" for names in ("", *"abcd", "ab", "ac", "ad", "bc", "bd")), ".."),
+    ),
+    "a reply that is cut": unexplained(
+        ("atomfs-journal 2", "start", "dir /", f"file /f {'07' * 200}", "entries", "begin 1 0 read /f 0 200", "return 1 ok"), 2, 7, "read /f 0 200 on seat 0",
+        one_way(f"bytes {'07' * 117}.."),
+    ),
+    "a call that is cut": refused((HEADER, f"begin 1 0 write /a 0 {'00' * 200}", f"return 1 names {'x' * 30} {'y' * 30}"), b"none 2 1\n", 1, f"atomfs: line 3: return 1 names {'x' * 30} {'y' * 30}; call 1 is write /a 0 {'0' * 229}.. on seat 0\natomfs: {one_way('failed ENOENT')}\n".encode()),
     "a number twice": refused((*BEGUN, "begin 1 2 stat /"), b"fault 3 BeginTwice\n", 1, b"atomfs: line 4: begin 1 2 stat /; call 1 is mkdir /a on seat 0\n"),
     "a busy seat": refused((*BEGUN, "begin 3 1 stat /"), b"fault 3 SeatBusy\n", 1, b"atomfs: line 4: begin 3 1 stat /; call 3 is stat / on seat 1\n"),
     "a return without a begin": refused((HEADER, "return 7 ok"), b"fault 1 ReturnUnbegun\n", 1, b"atomfs: line 2: return 7 ok; no call 7 has begun\n"),
@@ -216,6 +253,11 @@ class Histories(harness.Case):
         given = text_of((*BEGUN, "return 2 stat dir 1"))
         self.same(given, run(given, "linearize", "--limit", "1"), Outcome(4, b"unknown 2\n"))
 
+    def test_meeting(self):
+        """What meets neither the call that returns nor one that meets it is not tried: each such call would double the configurations."""
+        given = text_of((HEADER, *(f"begin {at} {at} mkdir /{name}" for at, name in enumerate("abcdefghijkl")), "begin 20 20 stat /z", "return 20 stat dir 0"))
+        self.same(given, run(given, "linearize", "--limit", "100")[:2], (1, b"none 14 20\n"))
+
     def explained(self, given, came):
         """A lawful journal, which is the history once its commits are taken out; of what is left open nothing is compared."""
         self.same(given, (came.status, came.message), (0, b""))
@@ -235,7 +277,12 @@ class Histories(harness.Case):
             self.explained(given, came)
             return
         first = next(place for place in range(1, len(entries) + 1) if not has_order(start, entries[:place], entries))
-        self.same(given, (came.status, came.output), (1, f"none {first} {entries[first - 1][1]}\n".encode()))
+        number = entries[first - 1][1]
+        self.same(given, (came.status, came.output), (1, f"none {first} {number}\n".encode()))
+        of, told, whole = replied(came.message.decode().splitlines(keepends=True)[-1])
+        words = next(entry[3] for entry in entries if entry[:2] == ("begin", number))
+        could = {copy.deepcopy(tree).apply(words) for tree in trees(start, entries[: first - 1], entries)}
+        self.same(given, (set(told), sum(told.values()), whole), (could, of, True))
 
     def test_every_order(self):
         harness.asks_of_answers()
@@ -253,12 +300,22 @@ class Histories(harness.Case):
         harness.asks_of_answers()
         self.each(((f"drawn {seed}", seed) for seed in range(RUNS)), self.comes_back)
 
+    def shown(self, page):
+        """The history that a page shows."""
+        (shown,) = re.findall(r"^printf '(.*)' \| atomfs linearize$", page.read_text(), re.M)
+        return shown.replace("\\n", "\n").encode()
+
     def test_page(self):
         """The history that docs/LINEARIZE.md shows is explained."""
         harness.asks_of_answers()
-        (shown,) = re.findall(r"^printf '(.*)' \| atomfs linearize$", (harness.ROOT / "docs" / "LINEARIZE.md").read_text(), re.M)
-        given = shown.replace("\\n", "\n").encode()
+        given = self.shown(harness.ROOT / "docs" / "LINEARIZE.md")
         self.explained(given, run(given, "linearize"))
+
+    def test_readme(self):
+        """Of the one that README shows, it says what is printed."""
+        page = harness.ROOT / "README.md"
+        (due,) = re.findall(r"^It prints `(.*)`: nothing explains", page.read_text(), re.M)
+        self.same("README.md", run(self.shown(page), "linearize")[:2], (1, f"{due}\n".encode()))
 
 
 class Long(harness.Case):

@@ -19,7 +19,7 @@ pub enum Linearized {
         place: u64,
         /// The number of the call that returns there.
         call: u64,
-        /// What this entry says, with its line, and which call it is.
+        /// What this entry says, with its line, and which call it is; and in a second line what the call could have replied.
         words: String,
     },
     /// The entry at this place is the first that cannot come next.
@@ -72,11 +72,11 @@ pub fn linearize(history: impl AsRef<[u8]>, limit: Option<u64>) -> Result<Linear
     }
     // The entry is in the words as it was given.
     let told = String::from_utf8_lossy(&told);
-    let mut lines = told.lines();
-    let mut line = lines.next().unwrap_or_default().split(' ').skip(1);
+    let (line, words) = told.split_once('\n').unwrap_or_default();
+    let mut line = line.split(' ').skip(1);
     let place = number(line.next());
     let about = line.next();
-    let words = lines.next().unwrap_or_default().to_owned();
+    let words = words.trim_end_matches('\n').to_owned();
     Ok(match found {
         ffi::FOUND_NO_ORDER => Linearized::NoOrder {
             place,

@@ -76,7 +76,9 @@ fn histories() {
     let wanted = Linearized::NoOrder {
         place: 3,
         call: 2,
-        words: "line 4: return 2 stat dir 1; call 2 is stat /a on seat 1".to_owned(),
+        words: "line 4: return 2 stat dir 1; call 2 is stat /a on seat 1\n\
+                2 ways explain all before it, and the call could have replied: failed ENOENT (1 way), stat dir 0 (1 way)"
+            .to_owned(),
     };
     assert_eq!(linearize(&history, Some(1_000_000_000)).unwrap(), wanted);
     let told = front(&history, None).unwrap();

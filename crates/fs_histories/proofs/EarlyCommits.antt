@@ -132,7 +132,7 @@ replays_dropped h es x t end c call r (s ∷ p) is told quiet w so =
       | false ↦ λ apart. (so.0, replays_dropped h es x (called t s.1) end c call r p is told quiet w.1 so.1)
     ] refl
 
-eqb_flip : (a b : ℕ) → (a == b) ≡ false → (b == a) ≡ false
+pub eqb_flip : (a b : ℕ) → (a == b) ≡ false → (b == a) ≡ false
 eqb_flip a b h = ne_eqb b a (λ same. eqb-false a b h (sym same))
 
 -- a quiet call commits early

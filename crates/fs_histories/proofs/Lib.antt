@@ -1,6 +1,11 @@
 pub mod HistoryLemmas
 pub mod Following
 pub mod EarlyCommits
+pub mod ReadingLemmas
+pub mod ChangingLemmas
+pub mod CountingLemmas
+pub mod CommutingLemmas
+pub mod Bringing
 pub mod Reaching
 pub mod PathLemmas
 pub mod FaultLemmas

@@ -1,5 +1,5 @@
 -- A closed set of configurations reaches each front that is explained.
-use Rattle.std.proofs.Common.{◌≡◌, ℕ, zero, suc, ◌≤◌, true, false, List, [], ◌∷◌, ◌++◌, length, slice_get, ◌==◌, Some, refl, sym, ap, ◌∙◌, subst, ⊎_elim, arith, append_assoc}
+use Rattle.std.proofs.Common.{◌≡◌, ℕ, zero, suc, ◌≤◌, true, false, List, [], ◌∷◌, ◌++◌, length, slice_get, ◌==◌, Some, refl, sym, ap, ◌∙◌, subst, ⊎_elim, arith, append_assoc, length-append}
 use Rattle.std.proofs.lemmas.Bool.{cases_Bool, eq-eqb, or_right}
 use Rattle.fs_calls.specs.Starts.{Start}
 use Rattle.fs_calls.specs.Outcomes.{next_start, reply_at}
@@ -21,6 +21,7 @@ use Rattle.fs_histories.specs.Laws.{ClosedSetsReach, ClosedSetsRefute}
 use Rattle.fs_histories.proofs.HistoryLemmas.{without_commits-append, some_from, explained_before, explained_front, passed_call, passed_return}
 use Rattle.fs_histories.specs.Early.{SettlesIn}
 use Rattle.fs_histories.proofs.EarlyCommits.{follows_settled}
+use Rattle.fs_histories.proofs.Bringing.{first_near, follows_brought}
 use Rattle.fs_histories.proofs.Following.{FitsAt, Follows, follows_passed, follows_returned, follows_commit_held, follows_commit, follows_committed}
 
 -- each configuration of the second set leads to a member of the first that follows the timelines that it followed, and lags behind by no more calls
@@ -79,12 +80,21 @@ reach_holding start zero S T h es c r keeps closed explains more done under_way 
 reach_holding start (suc n) S T h es c r keeps closed explains more done under_way x (q ∷ p) seen f short =
     ⊎_elim
     (λ held. (record { config = x; seen = seen; lag = q ∷ p; follows = f }, held))
+    (λ waits_now. ⊎_elim
+    (λ held. (record { config = x; seen = seen; lag = q ∷ p; follows = f }, held))
     (λ not_held.
-    let next = subst (λ o. FollowedBy h T x o) (next_return start h es c r x.at more f.place).1 (closed x seen) in
-    let now = next.1 not_held q.0 q.1 (can_commit start h x es q p explains f) in
-    let kept = keeps es (committed x q.0 q.1) p now explains (follows_committed start h x es p q f) in
-    reach_holding start n S T h es c r keeps closed explains more done under_way kept.0 kept.1 kept.2 kept.4 (omega (arith, kept.3)))
-    (cases_Bool (is_in c x.held))
+    let next = (subst (λ o. FollowedBy h T x o) (next_return start h es c r x.at more f.place).1 (closed x seen)).1 not_held in
+    let first = first_near next.0 c (q ∷ p) next.1.itself waits_now in
+    let s = first.first in
+    let lag = first.before ++ first.behind in
+    let g = follows_brought start h x es c next.0 first.before s first.behind explains next.1 first.inside first.left (subst (Follows start h x es) first.is f) in
+    let now = next.2 s.0 s.1 first.inside (can_commit start h x es s lag explains g) in
+    let kept = keeps es (committed x s.0 s.1) lag now explains (follows_committed start h x es lag s g) in
+    let long = ap length first.is ∙ length-append first.before (s ∷ first.behind) in
+    let all = length-append first.before first.behind in
+    reach_holding start n S T h es c r keeps closed explains more done under_way kept.0 kept.1 kept.2 kept.4 (omega (arith, kept.3, long, all)))
+    (cases_Bool (is_in c x.held)))
+    (f.covers c done under_way)
 
 -- the set follows the timeline with one entry more
 reach_more : (start : Start) (S T : Configuration → Type 0) (h : List Heard) (es : List Entry) (e : Entry)

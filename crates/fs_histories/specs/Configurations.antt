@@ -1,6 +1,7 @@
 -- Configurations of the search, and which of them follow one.
-use Rattle.std.specs.Prelude.{◌≡◌, ℕ, ◌+◌, Bool, true, false, ◌||◌, nat_lt, List, [], ◌∷◌, take, slice_get, ◌==◌, if◌then◌else◌, Option, Some, None}
-use Rattle.fs_calls.specs.Starts.{Start}
+use Rattle.std.specs.Prelude.{◌≡◌, ℕ, ◌+◌, Bool, true, false, ◌||◌, nat_lt, List, [], ◌∷◌, length, take, slice_get, ◌==◌, if◌then◌else◌, Option, Some, None}
+use Rattle.fs_calls.specs.Tree.{IsTree}
+use Rattle.fs_calls.specs.Starts.{Start, start_tree}
 use Rattle.fs_calls.specs.Outcomes.{reply_at, called}
 use Rattle.fs_calls.specs.declared.call.Call.{Call}
 use Rattle.fs_timeline.specs.Timeline.{has_returned, call_of}
@@ -8,6 +9,7 @@ use Rattle.fs_histories.specs.declared.heard.Heard.{Heard}
 use Rattle.fs_histories.specs.declared.heard.Heard.TheVariants.{Begin, Return}
 use Rattle.fs_histories.specs.Heard.{entries}
 use Rattle.fs_histories.specs.Histories.{FitsIn}
+use Rattle.fs_histories.specs.Meeting.{calls_meet, HasRoom}
 
 -- how many entries of the history have passed, the tree with its limits, and which calls are committed and have not returned, in order
 pub record Configuration : Type 0 where
@@ -58,13 +60,37 @@ pub record CanCommit (h : List Heard) (x : Configuration) (c : ℕ) (call : Call
   pub not_yet : is_in c x.held ≡ false
   pub fits : FitsIn h c (reply_at x.now call)
 
--- what may follow a configuration is in a set: at a Return of a call that is not committed any call that can commit does, else the entry passes
+-- a call is open: it has begun, has not returned and is not committed
+pub record IsOpen (h : List Heard) (x : Configuration) (c : ℕ) (call : Call) : Type 0 where
+  pub begun : call_of c (entries (take x.at h)) ≡ Some call
+  pub open_still : has_returned c (entries (take x.at h)) ≡ false
+  pub not_yet : is_in c x.held ≡ false
+
+-- whatever the open calls add to the tree, no directory gets full
+pub record HasRoomForAll (h : List Heard) (x : Configuration) : Type 0 where
+  pub numbers : List ℕ
+  pub all : (c : ℕ) (call : Call) → IsOpen h x c call → is_in c numbers ≡ true
+  pub room : HasRoom (length numbers) (start_tree x.now)
+
+-- a call may be left out of a set: it meets no open call of the set
+pub record MayBeLeftOut (h : List Heard) (x : Configuration) (near : ℕ → Bool) (other : Call) : Type 0 where
+  pub tree : IsTree (start_tree x.now)
+  pub siblings : Bool
+  pub room : siblings ≡ false → HasRoomForAll h x
+  pub apart : (c : ℕ) (call : Call) → IsOpen h x c call → near c ≡ true → calls_meet siblings call other ≡ false
+
+-- a set of calls that has to do with the return of a call: this one is in it, and each other open call is too, or may be left out
+pub record IsNear (h : List Heard) (x : Configuration) (c : ℕ) (near : ℕ → Bool) : Type 0 where
+  pub itself : near c ≡ true
+  pub others : (d : ℕ) (other : Call) → IsOpen h x d other → near d ≡ false → MayBeLeftOut h x near other
+
+-- what may follow a configuration is in a set: at a Return of a call that is not committed each call near it that can commit does, else the entry passes
 abbrev pub FollowedBy : List Heard → (Configuration → Type 0) → Configuration → Option Heard → Type 0
 FollowedBy h S x None = Unit {0}
 FollowedBy h S x (Some (Begin c seat call)) = S (passed x)
 FollowedBy h S x (Some (Return c p)) =
     (is_in c x.held ≡ true → S (returned x c))
-    × (is_in c x.held ≡ false → (d : ℕ) (call : Call) → CanCommit h x d call → S (committed x d call))
+    × (is_in c x.held ≡ false → (near : ℕ → Bool) × IsNear h x c near × ((d : ℕ) (call : Call) → near d ≡ true → CanCommit h x d call → S (committed x d call)))
 
 abbrev pub IsFollowed : List Heard → (Configuration → Type 0) → Configuration → Type 0
 IsFollowed h S x = FollowedBy h S x (slice_get h x.at)

@@ -1,6 +1,7 @@
 pub mod Heard
 pub mod Histories
 pub mod Faults
+pub mod Meeting
 pub mod Configurations
 pub mod Early
 pub mod Paths

@@ -1,6 +1,7 @@
 //! What holds of the definitions. Each function's contract is a law, and its body is empty.
 
 ghost use Rattle.fs_histories.specs.Laws.{ExplainedFronts, ClosedSetsReach, ClosedSetsRefute, ExplainedAreHistories, FaultsAreFirst};
+ghost use Rattle.fs_histories.specs.Meeting.{ApartCallsCommute};
 ghost use Rattle.fs_histories.specs.Paths.{StepsLead};
 
 /// What a timeline explains is a history.
@@ -31,4 +32,9 @@ pub fn closed_sets_refute()
 /// Each step of the search makes the timeline that leads to a configuration one entry longer.
 pub fn steps_lead()
     ensures { StepsLead }
+{}
+
+/// Calls that do not meet commute.
+pub fn apart_calls_commute()
+    ensures { ApartCallsCommute }
 {}

@@ -69,7 +69,7 @@ some_heard : (a b : Heard) → Some a ≡ Some b → a ≡ b
 some_heard a b same = cc
 
 -- what a history says of its next entry
-next_in : (before : List Entry) (h : List Heard) (n : ℕ) (x : Heard) → AreNextHeard before h → slice_get h n ≡ Some x → IsNextHeard (before ++ entries (take n h)) x
+pub next_in : (before : List Entry) (h : List Heard) (n : ℕ) (x : Heard) → AreNextHeard before h → slice_get h n ≡ Some x → IsNextHeard (before ++ entries (take n h)) x
 next_in before [] n x k is = absurd (cc)
 next_in before (y ∷ h) zero x k is =
     subst (λ (b : List Entry). IsNextHeard b x) (sym (append-nil before)) (subst (IsNextHeard before) (some_heard y x is) k.0)

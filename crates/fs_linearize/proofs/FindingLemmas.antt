@@ -1,11 +1,12 @@
 -- The search from layer to layer.
-use Rattle.std.proofs.Common.{◌≡◌, ℕ, ◌+◌, ◌-◌, ◌<◌, ◌≤◌, Bool, true, false, ◌==◌, get_or, List, [], ◌∷◌, ◌++◌, length, length-append, reverse, slice_get, Option, Some, None, refl, sym, ap, ◌∙◌, subst, ⊎_elim, arith, append-nil, take, drop, length-drop}
+use Rattle.std.proofs.Common.{◌≡◌, ℕ, ◌+◌, ◌-◌, ◌<◌, ◌≤◌, Bool, true, false, get_or, List, [], ◌∷◌, ◌++◌, length, length-append, reverse, slice_get, Option, Some, None, refl, sym, ap, ◌∙◌, subst, ⊎_elim, arith, append-nil, take, drop, length-drop}
 use Rattle.std.specs.List.{Contains}
 use Rattle.std.proofs.lemmas.List.{length-map, map-append, take_all}
 use Rattle.std.proofs.lemmas.List.Elements.{Contains-append_left, Contains-append_right, Contains-append_cases, Contains-push_cases}
 use Rattle.std.proofs.lemmas.Option.{slice_get_within, slice_get-get_or}
 use Rattle.std.proofs.lemmas.Bool.{eqb-true, eqb-false}
-use Rattle.fs_calls.specs.Starts.{Start}
+use Rattle.fs_calls.specs.Tree.{IsTree}
+use Rattle.fs_calls.specs.Starts.{Start, start_tree}
 use Rattle.fs_calls.specs.declared.call.Call.{Call}
 use Rattle.fs_timeline.specs.declared.entry.Entry.{Entry}
 use Rattle.fs_histories.specs.declared.heard.Heard.{Heard}
@@ -25,7 +26,8 @@ use Rattle.fs_linearize.specs.declared.steps.Link.{Link}
 use Rattle.fs_linearize.specs.declared.steps.Step.{Step}
 use Rattle.fs_linearize.specs.declared.under_way.UnderWay.{UnderWay}
 use Rattle.fs_linearize.proofs.CallLemmas.{can_now, none_under_way}
-use Rattle.fs_linearize.proofs.SearchLemmas.{none_there, none_left}
+use Rattle.fs_linearize.proofs.NearLemmas.{near_numbers, near_found, is_near, led_tree}
+use Rattle.fs_linearize.proofs.SearchLemmas.{none_there}
 use Rattle.fs_linearize.proofs.WayLemmas.{led_start, contains_configuration, contains_way}
 
 -- ---- sets of configurations
@@ -40,7 +42,7 @@ settles_within h xs ys x all s = (s.0, s.1, s.2, all s.0 s.3)
 followed_still : (h : List Heard) (S T : Configuration → Type 0) (x : Configuration) (o : Option Heard) → ((y : Configuration) → S y → T y) → FollowedBy h S x o → FollowedBy h T x o
 followed_still h S T x None f k = tt
 followed_still h S T x (Some (Begin c seat call)) f k = f _ k
-followed_still h S T x (Some (Return c p)) f k = (λ held. f _ (k.0 held), λ not_held d call can. f _ (k.1 not_held d call can))
+followed_still h S T x (Some (Return c p)) f k = (λ held. f _ (k.0 held), λ not_held. let t = k.1 not_held in (t.0, t.1, λ d call inside can. f _ (t.2 d call inside can)))
 
 followed_within : (h : List Heard) (xs ys : List Configuration) (x : Configuration) → Within xs ys → IsFollowed h (SettlesIn h xs) x → IsFollowed h (SettlesIn h ys) x
 followed_within h xs ys x all k = followed_still h (SettlesIn h xs) (SettlesIn h ys) x (slice_get h x.at) (λ y s. settles_within h xs ys y all s) k
@@ -49,6 +51,7 @@ followed_within h xs ys x all k = followed_still h (SettlesIn h xs) (SettlesIn h
 
 -- before the entry of a place: all that went by was followed, and what comes next stands in the layer; what went by is in no memory
 pub record Stands (start : Start) (h : List Heard) (limit place : ℕ) (us : List UnderWay) (links : List Link) (layer : List Reached) (most : ℕ) (gone : List Configuration) : Type 0 where
+  pub tree : IsTree (start_tree start)
   pub calls : AreUnderWay h place us
   pub starts : SettlesIn h (gone ++ configurations layer) (at_start start)
   pub followed : (x : Configuration) → Contains gone x → IsFollowed h (SettlesIn h (gone ++ configurations layer)) x
@@ -59,12 +62,13 @@ pub record Stands (start : Start) (h : List Heard) (limit place : ℕ) (us : Lis
   pub many : limit ≤ most + length gone
   pub some : (r : Reached) × Contains layer r
 
-pub stands_first : (start : Start) (h : List Heard) (limit : ℕ) (us : List UnderWay) (links : List Link) (layer : List Reached) → us ≡ [] → IsFirst start layer → Stands start h limit 0 us links layer limit []
-stands_first start h limit us links layer none first =
+pub stands_first : (start : Start) (h : List Heard) (limit : ℕ) (us : List UnderWay) (links : List Link) (layer : List Reached) → IsTree (start_tree start) → us ≡ [] → IsFirst start layer → Stands start h limit 0 us links layer limit []
+stands_first start h limit us links layer tree none first =
     let r = first.0 in
     let mine : Contains layer r = subst (λ (rs : List Reached). Contains rs r) (sym first.1) (0, omega arith, refl) in
     let one : (s : Reached) → Contains layer s → r ≡ s = λ s there. only r s (subst (λ (rs : List Reached). Contains rs s) first.1 there) in
     record {
+      tree = tree;
       calls = none_under_way h us none;
       starts = (at_start start, [], refl, subst (Contains (configurations layer)) first.2 (contains_configuration layer r mine));
       followed = λ x k. absurd (let small = k.1 in omega (arith, small));
@@ -82,15 +86,20 @@ stands_first start h limit us links layer none first =
 -- ---- what follows a layer
 
 -- a configuration that is ready, and has passed, is followed
-followed_on : (h : List Heard) (e : Heard) (x : Configuration) (us : List UnderWay) (layer behind : List Reached) (S : Configuration → Type 0) → AreUnderWay h x.at us → ((y : Configuration) → SettlesIn h (configurations layer) y → S y)
+followed_on : (h : List Heard) (e : Heard) (x : Configuration) (us : List UnderWay) (layer behind : List Reached) (S : Configuration → Type 0) → IsTree (start_tree x.now) → AreUnderWay h x.at us → ((y : Configuration) → SettlesIn h (configurations layer) y → S y)
     → ((y : Configuration) → SettlesIn h (configurations behind) y → S y) → IsReady h e x us layer → HasPassed h e x behind → FollowedBy h S x (Some e)
-followed_on h (Begin c seat call) x us layer behind S calls here next ready passes = next (passed x) passes
-followed_on h (Return c p) x us layer behind S calls here next ready passes = (
+followed_on h (Begin c seat call) x us layer behind S tree calls here next ready passes = next (passed x) passes
+followed_on h (Return c p) x us layer behind S tree calls here next ready passes = (
   λ held. next (returned x c) (passes held),
-  λ not_held d call can.
-      let found = calls.all d call can.begun can.open_still in
-      let now = can_now h x found.0 d call (calls.each found.0 found.1) found.2 can in
-      subst S now.1 (here (committed x found.0.number found.0.call.now) (ready not_held found.0 found.1 now.0)),
+  λ not_held.
+      let t = ready not_held in (
+        near_numbers c t.near,
+        is_near h x c t.siblings us t.near tree calls t.room t.are,
+        λ d call inside can.
+            let found = near_found h x.at c d t.siblings us t.near call calls t.are inside can.begun can.open_still in
+            let now = can_now h x found.0 d call (calls.each found.0 (t.are.some found.0 found.1)) found.2 can in
+            subst S now.1 (here (committed x found.0.number found.0.call.now) (t.each found.0 found.1 now.0)),
+      ),
 )
 
 -- the set behind an entry
@@ -122,8 +131,10 @@ closes start h limit place e us links mid new layer wide behind most gone here s
           (λ now.
           let at = place_of x now in
           let way = contains_way wide x now in
+          let l = w.widens.led start s.led way.0 way.1 in
+          let tree = subst (λ (z : Configuration). IsTree (start_tree z.now)) way.2 (led_tree start h l.es way.0.configuration s.tree l.leads) in
           subst (FollowedBy h (SettlesIn h all) x) (sym (ap (slice_get h) at ∙ here))
-          (followed_on h e x us wide behind (SettlesIn h all) (subst (λ n. AreUnderWay h n us) (sym at) s.calls) (λ y k. settles_within h (configurations wide) all y in_wide k) (λ y k. settles_within h (configurations behind) all y in_behind k)
+          (followed_on h e x us wide behind (SettlesIn h all) tree (subst (λ n. AreUnderWay h n us) (sym at) s.calls) (λ y k. settles_within h (configurations wide) all y in_wide k) (λ y k. settles_within h (configurations behind) all y in_behind k)
           (w.ready refl x now) (subst (λ (z : Configuration). HasPassed h e z behind) way.2 (p.passed way.0 way.1))))
           (Contains-append_cases gone (configurations wide) x k);
       before = λ x k. ⊎_elim
@@ -145,6 +156,7 @@ stands_on start h limit place e us vs links mid new layer wide behind most left 
     let many = length-map wide (λ (r : Reached). r.configuration) in
     let before = s.many in
     record {
+      tree = s.tree;
       calls = calls;
       starts = k.starts;
       followed = k.followed;
@@ -176,16 +188,6 @@ rest_at h i = take_all (length h - i) (drop i h) (omega (arith, length-drop i h)
 pub never_none : (layer : List Reached) → (r : Reached) × Contains layer r → slice_get layer 0 ≡ None → ⊥
 never_none [] some none = none_there some.0 some.1
 never_none (r ∷ layer) some none = absurd (cc)
-
-pub is_none : (xs : List Reached) (n : ℕ) (b : Bool) → n ≡ length xs → b ≡ (n == 0) → b ≡ true → xs ≡ []
-is_none xs n b long is empty = none_left xs (sym long ∙ eqb-true n 0 (sym is ∙ empty))
-
-pub is_some : (xs : List Reached) (n : ℕ) (b : Bool) → n ≡ length xs → b ≡ (n == 0) → b ≡ false → 0 < length xs
-is_some xs n b long is full = let apart = eqb-false n 0 (sym is ∙ full) in more xs (λ none. apart (long ∙ none))
-  where
-    more : (ys : List Reached) → (length ys ≡ 0 → ⊥) → 0 < length ys
-    more [] never = absurd (never refl)
-    more (y ∷ ys) never = omega arith
 
 -- ---- where it ends
 
@@ -229,16 +231,6 @@ no_order start h limit place e us links mid new layer wide behind most gone here
       front = λ es x. let found = closed_set_reaches start h es set closed x in let at = k.before found.0 found.1 in omega (arith, at, found.2);
       before = before_place start h limit place us links layer most gone s;
     }
-
--- where a call begins, a layer that has some has some behind it
-pub begins_some : (start : Start) (h : List Heard) (limit place c seat : ℕ) (call : Call) (e : Heard) (us : List UnderWay) (links mid new : List Link) (layer wide behind : List Reached) (most : ℕ) (gone : List Configuration)
-    → e ≡ Begin c seat call → Stands start h limit place us links layer most gone → WidensFor h e place us links mid layer wide true most → PassesAll h e place mid new wide behind → behind ≡ [] → ⊥
-begins_some start h limit place c seat call e us links mid new layer wide behind most gone begins s w p none =
-    let r = s.some.0 in
-    let there : Contains wide r = subst (λ (rs : List Reached). Contains rs r) (sym w.widens.is) (Contains-append_left layer w.widens.more r s.some.1) in
-    let settled = subst (λ (x : Heard). HasPassed h x r.configuration behind) begins (p.passed r there) in
-    let way = contains_way behind settled.0 settled.3 in
-    none_there way.0 (subst (λ (rs : List Reached). Contains rs way.0) none way.1)
 
 -- what leads to the end explains the history
 pub explains_at_end : (start : Start) (h : List Heard) (limit place : ℕ) (us : List UnderWay) (links : List Link) (layer : List Reached) (most : ℕ) (gone : List Configuration) (r : Reached) (steps : List Step)

@@ -1,9 +1,12 @@
 mod NumberLemmas
 mod CodeLemmas
 mod CallLemmas
+mod NearLemmas
 mod WayLemmas
 mod SearchLemmas
 mod FindingLemmas
+mod ReplyLemmas
+mod PossibleLemmas
 mod TellingLemmas
 mod HeardLemmas
 mod KnownLemmas

@@ -5,15 +5,16 @@ use Rattle.std.proofs.lemmas.List.{take_more, take-append-le, take_all, get_or-m
 use Rattle.std.proofs.lemmas.List.Elements.{Contains-append_left, Contains-append_cases, Contains-push, Contains-push_cases}
 use Rattle.std.proofs.lemmas.Bool.{both_ways}
 use Rattle.std.proofs.lemmas.Option.{slice_get_within, get_or_from_slice_get}
-use Rattle.fs_calls.specs.Starts.{Start}
+use Rattle.fs_calls.specs.Starts.{Start, start_tree}
 use Rattle.fs_calls.specs.declared.call.Call.{Call}
 use Rattle.fs_histories.specs.declared.heard.Heard.{Heard}
 use Rattle.fs_histories.specs.declared.heard.Heard.TheVariants.{Begin, Return}
 use Rattle.fs_histories.specs.declared.heard.Pattern.{Pattern}
 use Rattle.fs_histories.specs.Histories.{IsHistory}
+use Rattle.fs_histories.specs.Meeting.{HasRoom}
 use Rattle.fs_histories.specs.Configurations.{Configuration, is_in, placed, passed, returned, committed, CanCommit}
 use Rattle.fs_histories.specs.Early.{SettlesBy, SettlesIn}
-use Rattle.fs_linearize.specs.code.Calls.{IsUnderWay, AreEach, CanCommitNow, CanCommitQuietly}
+use Rattle.fs_linearize.specs.code.Calls.{IsUnderWay, AreEach, AreNear, CanCommitNow, CanCommitQuietly}
 use Rattle.fs_linearize.specs.code.Ways.{IsLedBy, IsLed, AllLed, Keeps, configurations}
 use Rattle.fs_linearize.specs.code.Searching.{SettlesTo, AllAt, Grows, Adds, IsTried, AddsCommit, AddsCommits, AreTried, Follows, Widens, WidensBefore, WidensFor, HasPassed, Passes, PassesAll}
 use Rattle.fs_linearize.specs.declared.reached.Reached.{Reached}
@@ -21,7 +22,7 @@ use Rattle.fs_linearize.specs.declared.steps.Link.{Link}
 use Rattle.fs_linearize.specs.declared.under_way.UnderWay.{UnderWay}
 use Rattle.fs_linearize.proofs.CallLemmas.{now_can, quietly_early, quietly_same}
 use Rattle.fs_linearize.proofs.CodeLemmas.{settles_more, settles_none, settles_on}
-use Rattle.fs_linearize.proofs.WayLemmas.{keeps_same, keeps_on, keeps_push, led_commit, led_begin, led_return, contains_configuration}
+use Rattle.fs_linearize.proofs.WayLemmas.{keeps_same, keeps_on, keeps_push, led_commit, led_begin, led_return, contains_configuration, contains_way}
 
 led_at : (start : Start) (h : List Heard) (links : List Link) (s : Reached) (x : Configuration) (last : ℕ) → s.configuration ≡ x → s.last ≡ last → IsLedBy start h links x last → IsLed start h links s
 led_at start h links s x last is end l = subst (λ z. IsLedBy start h links z s.last) (sym is) (subst (λ n. IsLedBy start h links x n) (sym end) l)
@@ -133,6 +134,11 @@ adds_no_commit h r u links layer never = record { grows = grows_none h r.configu
 tried_still : (h : List Heard) (x : Configuration) (u : UnderWay) (old more new : List Reached) → new ≡ old ++ more → IsTried h x u old → IsTried h x u new
 tried_still h x u old more new is tried can = settles_still h (committed x u.number u.call.now) old more new is (tried can)
 
+near_still : (h : List Heard) (c : ℕ) (x : Configuration) (us : List UnderWay) (old more new : List Reached) → new ≡ old ++ more → AreTried h c x us old → AreTried h c x us new
+near_still h c x us old more new is tried not_held =
+    let t = tried not_held in
+    record { siblings = t.siblings; room = t.room; near = t.near; are = t.are; each = λ u there. tried_still h x u old more new is (t.each u there) }
+
 pub adds_none : (h : List Heard) (r : Reached) (links : List Link) (layer : List Reached) → AddsCommits h r [] links links layer layer
 adds_none h r links layer = record { grows = grows_none h r.configuration.at r links links layer (keeps_same links); each = λ u there. absurd (let small = there.1 in omega (arith, small)) }
 
@@ -154,8 +160,9 @@ adds_all h r us i a b x y past k = subst (λ (ws : List UnderWay). AddsCommits h
 pub follows_held : (h : List Heard) (c : ℕ) (r : Reached) (us : List UnderWay) (links : List Link) (layer : List Reached) → is_in c r.configuration.held ≡ true → Follows h c r us links links layer layer
 follows_held h c r us links layer held = record { grows = grows_none h r.configuration.at r links links layer (keeps_same links); tried = λ not_held. absurd (both_ways _ not_held held) }
 
-pub follows_commits : (h : List Heard) (c : ℕ) (r : Reached) (us : List UnderWay) (a b : List Link) (x y : List Reached) → AddsCommits h r us a b x y → Follows h c r us a b x y
-follows_commits h c r us a b x y k = record { grows = k.grows; tried = λ not_held. k.each }
+pub follows_commits : (h : List Heard) (c : ℕ) (siblings : Bool) (r : Reached) (us near : List UnderWay) (a b : List Link) (x y : List Reached) → AreNear c siblings us near → (siblings ≡ false → HasRoom (length us) (start_tree r.configuration.now)) → AddsCommits h r near a b x y
+    → Follows h c r us a b x y
+follows_commits h c siblings r us near a b x y are room k = record { grows = k.grows; tried = λ not_held. record { siblings = siblings; room = room; near = near; are = are; each = k.each } }
 
 abbrev reached_by : Configuration → ℕ → Reached
 reached_by x last = record { configuration = x; last = last }
@@ -172,11 +179,13 @@ follows_past h c r us links layer i is past = let small = slice_get_within layer
 pub follows_held_at : (h : List Heard) (c : ℕ) (r s : Reached) (us : List UnderWay) (links : List Link) (layer : List Reached) (i : ℕ) → slice_get layer i ≡ Some r → s ≡ get_or layer i s → is_in c s.configuration.held ≡ true → Follows h c r us links links layer layer
 follows_held_at h c r s us links layer i is here held = follows_held h c r us links layer (subst (λ (w : Reached). is_in c w.configuration.held ≡ true) (got layer i r s is here) held)
 
-pub follows_commits_at : (h : List Heard) (c : ℕ) (r s t : Reached) (us : List UnderWay) (a b : List Link) (x y : List Reached) (i : ℕ) → slice_get x i ≡ Some r → s ≡ get_or x i s → t.configuration ≡ s.configuration → t.last ≡ s.last → AreEach h r.configuration.at us
-    → (AreEach h t.configuration.at us → AddsCommits h t us a b x y) → Follows h c r us a b x y
-follows_commits_at h c r s t us a b x y i is here same last each adds =
+pub follows_commits_at : (h : List Heard) (c : ℕ) (siblings : Bool) (r s t : Reached) (us near : List UnderWay) (a b : List Link) (x y : List Reached) (i : ℕ) → slice_get x i ≡ Some r → s ≡ get_or x i s → t.configuration ≡ s.configuration → t.last ≡ s.last
+    → AreEach h r.configuration.at us → AreNear c siblings us near → (siblings ≡ false → HasRoom (length us) (start_tree t.configuration.now)) → (AreEach h t.configuration.at us → AreEach h t.configuration.at near → AddsCommits h t near a b x y) → Follows h c r us a b x y
+follows_commits_at h c siblings r s t us near a b x y i is here same last each are room adds =
     let one : t ≡ r = same_reached t s same last ∙ got x i r s is here in
-    follows_commits h c r us a b x y (subst (λ (w : Reached). AddsCommits h w us a b x y) one (adds (subst (λ (w : Reached). AreEach h w.configuration.at us) (sym one) each)))
+    let mine = subst (λ (w : Reached). AreEach h w.configuration.at us) (sym one) each in
+    follows_commits h c siblings r us near a b x y are (subst (λ (w : Reached). siblings ≡ false → HasRoom (length us) (start_tree w.configuration.now)) one room)
+    (subst (λ (w : Reached). AddsCommits h w near a b x y) one (adds mine (λ u there. mine u (are.some u there))))
 
 pub contains_got : {A : Type 0} (xs : List A) (i : ℕ) (x : A) → Some x ≡ slice_get xs i → Contains xs x
 contains_got xs i x is = (i, slice_get_within xs i x (sym is), get_or_from_slice_get xs i x x (sym is))
@@ -234,10 +243,35 @@ widens_one_more h c at us i a b d x y z small each follows so_far =
             (Contains-append_cases y f.grows.more s (subst (λ (rs : List Reached). Contains rs s) f.grows.is there));
       };
       tried = λ w there. ⊎_elim
-          (λ was not_held u k. tried_still h w u y f.grows.more z f.grows.is (so_far.tried w was not_held u k))
+          (λ was. near_still h c w us y f.grows.more z f.grows.is (so_far.tried w was))
           (λ here. subst (λ v. AreTried h c v us z) here f.tried)
           (Contains-push_cases (take i (configurations y)) r.0.configuration w (subst (λ ws. Contains ws w) fronts there));
     }
+
+-- the first of a layer have committed a call
+pub hold_none : (c : ℕ) (layer : List Reached) → (r : Reached) → Contains (take 0 layer) r → is_in c r.configuration.held ≡ true
+hold_none c layer r none = none_there r none
+
+pub hold_more : (c : ℕ) (layer : List Reached) (i : ℕ) (s : Reached) → i < length layer → s ≡ get_or layer i s → is_in c s.configuration.held ≡ true → ((r : Reached) → Contains (take i layer) r → is_in c r.configuration.held ≡ true)
+    → (r : Reached) → Contains (take (i + 1) layer) r → is_in c r.configuration.held ≡ true
+hold_more c layer i s small is held so_far r there = ⊎_elim
+    (λ was. so_far r was)
+    (λ here. subst (λ (w : Reached). is_in c w.configuration.held ≡ true) here held)
+    (Contains-push_cases (take i layer) s r (subst (λ (rs : List Reached). Contains rs r) (take_more layer i s small ∙ ap (λ (w : Reached). take i layer ++ w ∷ []) (sym is)) there))
+
+pub hold_all : (c : ℕ) (layer : List Reached) (i : ℕ) → length layer ≤ i → ((r : Reached) → Contains (take i layer) r → is_in c r.configuration.held ≡ true) → (r : Reached) → Contains layer r → is_in c r.configuration.held ≡ true
+hold_all c layer i past all = subst (λ (rs : List Reached). (r : Reached) → Contains rs r → is_in c r.configuration.held ≡ true) (take_all i layer past) all
+
+-- a layer that has committed the call stays
+pub widens_held : (h : List Heard) (c at : ℕ) (us : List UnderWay) (most : ℕ) (whole : Bool) (links : List Link) (layer : List Reached) → ((r : Reached) → Contains layer r → is_in c r.configuration.held ≡ true) → (whole ≡ false → most ≤ length layer)
+    → AllAt at layer → WidensBefore h c at us links links layer layer whole most
+widens_held h c at us most whole links layer held many there = record {
+  widens = widens_same h at links layer there;
+  tried = λ yes x k not_held.
+      let way = contains_way layer x k in
+      absurd (both_ways _ not_held (subst (λ (y : Configuration). is_in c y.held ≡ true) way.2 (held way.0 way.1)));
+  many = many;
+}
 
 pub widens_whole : (h : List Heard) (c at : ℕ) (us : List UnderWay) (i most : ℕ) (a b : List Link) (x y : List Reached) → length y ≤ i → WidensUpTo h c at us i a b x y → WidensBefore h c at us a b x y true most
 widens_whole h c at us i most a b x y past k =

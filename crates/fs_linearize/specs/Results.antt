@@ -9,6 +9,7 @@ use Rattle.fs_histories.specs.declared.fault.HistoryFault.{HistoryFault}
 use Rattle.fs_histories.specs.Histories.{without_commits, Explains, ExplainsFront, HasNoOrder}
 use Rattle.fs_histories.specs.Configurations.{Configuration}
 use Rattle.fs_histories.specs.Paths.{LeadsTo}
+use Rattle.fs_linearize.specs.Possible.{ArePossible}
 use Rattle.fs_linearize.specs.declared.linearizing.Found.{Found}
 use Rattle.fs_linearize.specs.declared.linearizing.Found.TheVariants.{Lawful, NoOrder, Fault, Unknown}
 
@@ -23,10 +24,10 @@ pub record WasLimited (start : Start) (h : List Heard) (limit place : ℕ) : Typ
   pub led : (x : Configuration) → Contains made x → (es : List Entry) × LeadsTo start h es x
   pub before : (es : List Entry) × ExplainsFront start h es × (length (without_commits es) + 1 ≡ place)
 
--- a journal explains the history; or none does; or the entries are no history; or the limit was reached
+-- a journal explains the history; or none does, and the replies that are told were possible; or the entries are no history; or the limit was reached
 abbrev pub IsAnswerFor : Start → List Heard → ℕ → Found → Type 0
 IsAnswerFor start h limit (Lawful journal) = Explains start h journal.items
-IsAnswerFor start h limit (NoOrder place call) = HasNoOrder start h place × IsReturnAt h place call
+IsAnswerFor start h limit (NoOrder place call possible) = HasNoOrder start h place × IsReturnAt h place call × ArePossible start h place call possible
 IsAnswerFor start h limit (Fault place kind) = Unit {0}
 IsAnswerFor start h limit (Unknown place) = WasLimited start h limit place
 

@@ -2,5 +2,6 @@
 pub mod Knowing
 pub mod Ways
 pub mod Calls
+pub mod Replies
 pub mod Searching
 pub mod Tellings

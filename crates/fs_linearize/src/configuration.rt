@@ -1,10 +1,13 @@
 //! Configurations of the search.
 
 ghost use Rattle.std.specs.Prelude.{◌≡◌, true, IfOk};
+ghost use Rattle.fs_calls.specs.Starts.{start_tree};
 ghost use Rattle.fs_histories.specs.Configurations as specs;
+ghost use Rattle.fs_histories.specs.Meeting.{HasRoom};
 
 use crate::numbers;
 use fs_flat::FlatTree;
+use fs_names::ENTRY_LIMIT;
 use fs_seq::SeqTree;
 use std::alloc::{AllocError, Global};
 use std::marker::Model;
@@ -49,6 +52,13 @@ impl Configuration {
         ensures { result ≡ specs.is_in number self.now.held }
     {
         numbers::is_in(&self.held, number)
+    }
+
+    /// Whether so many calls more were found to fill no directory, whatever they add.
+    pub fn has_room(&self, calls: usize) -> bool
+        ensures { result ≡ true → HasRoom calls (start_tree self.now.now) }
+    {
+        calls <= ENTRY_LIMIT && self.tree.len() <= ENTRY_LIMIT - calls
     }
 
     /// The same configuration again.

@@ -1,18 +1,19 @@
 //! Layers of the search: the configurations before an entry, with all that come of them by commits.
 
 ghost use Rattle.std.specs.Prelude.{◌≡◌, ◌≤◌, ℕ, List, length, slice_get, true, false, Some, IfOk, OnOk, Contains};
+ghost use Rattle.fs_histories.specs.Configurations.{is_in};
 ghost use Rattle.fs_histories.specs.declared.heard.Heard.{Heard as Value};
-ghost use Rattle.fs_linearize.specs.code.Calls.{AreEach, IsUnderWay};
+ghost use Rattle.fs_linearize.specs.code.Calls.{AreEach, AreNear, IsUnderWay};
 ghost use Rattle.fs_linearize.specs.code.Ways.{configurations};
 ghost use Rattle.fs_linearize.specs.code.Searching.{AllAt, Adds, AddsCommit, AddsCommits, Follows, WidensBefore, WidensFor};
 ghost use Rattle.fs_linearize.specs.declared.reached.Reached.{Reached as Way};
 
-use crate::committing;
 use crate::configuration::Configuration;
 use crate::places::Places;
 use crate::reached::Reached;
 use crate::steps::Link;
 use crate::under_way::UnderWay;
+use crate::{committing, meeting};
 use fs_histories::Heard;
 use std::alloc::{AllocError, Global};
 
@@ -86,35 +87,38 @@ fn add_commit(
     }
 }
 
-/// Adds what comes of the commit of each call that can commit.
+/// Adds what comes of the commit of each near call that can commit.
 fn add_commits(
     alloc: Global,
     calls: &[UnderWay],
+    near: &[UnderWay],
     links: &mut Vec<Link>,
     layer: &mut Vec<Reached>,
     places: &mut Places,
     reached: &Reached,
 ) -> Result<(), AllocError>
     ensures { OnOk result ((h : List Value) → AreEach h reached.now.configuration.at calls.now
-        → AddsCommits h reached.now calls.now links.old.items links.new.items layer.old.items layer.new.items) }
+        → AreEach h reached.now.configuration.at near.now → AddsCommits h reached.now near.now links.old.items links.new.items layer.old.items layer.new.items) }
 {
-    for call in calls {
+    for call in near {
         add_commit(alloc, calls, links, layer, places, reached, call)?;
     }
     Ok(())
 }
 
-/// Adds what may follow the configuration of a place before the return of a call, if that has not committed.
+/// Adds what may follow the configuration of a place before the return of a call, if that has not committed. The calls that
+/// have to do with it are given for a tree with room.
 fn follow(
     alloc: Global,
     calls: &[UnderWay],
+    near: &[UnderWay],
     links: &mut Vec<Link>,
     layer: &mut Vec<Reached>,
     places: &mut Places,
     place: usize,
     number: u64,
 ) -> Result<(), AllocError>
-    ensures { OnOk result ((h : List Value) (r : Way) → slice_get layer.old.items place ≡ Some r → AreEach h r.configuration.at calls.now
+    ensures { OnOk result ((h : List Value) (r : Way) → slice_get layer.old.items place ≡ Some r → AreEach h r.configuration.at calls.now → AreNear number false calls.now near.now
         → Follows h number r calls.now links.old.items links.new.items layer.old.items layer.new.items) }
 {
     if layer.len() <= place {
@@ -125,7 +129,23 @@ fn follow(
         return Ok(());
     }
     let reached = reached.copy(alloc)?;
-    Ok(add_commits(alloc, calls, links, layer, places, &reached)?)
+    if reached.configuration.has_room(calls.len()) {
+        return Ok(add_commits(alloc, calls, near, links, layer, places, &reached)?);
+    }
+    let near = meeting::near(alloc, calls, number, true)?;
+    Ok(add_commits(alloc, calls, &near, links, layer, places, &reached)?)
+}
+
+/// Whether all of a layer were found to have committed a call.
+fn all_hold(layer: &[Reached], number: u64) -> bool
+    ensures { result ≡ true → (r : Way) → Contains layer.now r → is_in number r.configuration.held ≡ true }
+{
+    for reached in layer {
+        if !reached.configuration.holds(number) {
+            return false;
+        }
+    }
+    true
 }
 
 /// Adds all that comes of a layer by commits before the return of a call; false where more configurations than may be are there.
@@ -141,12 +161,25 @@ fn widen_before(
     ensures widens { IfOk result (λ whole. (h : List Value) (at : ℕ) → AllAt at layer.old.items → AreEach h at calls.now
         → WidensBefore h number at calls.now links.old.items links.new.items layer.old.items layer.new.items whole most) }
 {
+    if all_hold(layer, number) {
+        return Ok(layer.len() <= most);
+    }
+    let near = meeting::near(alloc, calls, number, false)?;
     let mut places = Places::of(alloc, layer)?;
     for place in 0..most {
         if place >= layer.len() {
             return Ok(true);
         }
-        follow(alloc, calls, links, layer, &mut places, place, number)?;
+        follow(
+            alloc,
+            calls,
+            &near,
+            links,
+            layer,
+            &mut places,
+            place,
+            number,
+        )?;
     }
     Ok(false)
 }

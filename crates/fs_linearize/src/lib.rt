@@ -6,9 +6,11 @@
 //!
 //! The search goes by layers: all configurations before an entry, then those behind it. A configuration is how many entries
 //! have passed, the tree, and which calls have committed and not returned. A call that changes no tree commits as soon as its
-//! reply fits, any other at a return of a call that has not committed; a layer that gets empty there is the answer `NoOrder`.
-//! Of what went by nothing is kept but the commits, in one list that all ways share. What a history is, which timelines
-//! explain it, and the laws of the search are in `fs_histories`; `specs/Results.antt` has what an answer says.
+//! reply fits, any other at the return of a call that has not committed, where it meets that call, or one that meets it, and so
+//! on. Where the call that returns has committed in no configuration of a layer the answer is `NoOrder`, with what it could have
+//! replied in each. Of what went by nothing is kept but the commits, in one list that all ways share. What a history is, which
+//! timelines explain it, when calls meet, and the laws of the search are in `fs_histories`; `specs/Results.antt` has what an
+//! answer says, `specs/Possible.antt` what could have been replied.
 #![tactic(auto)]
 
 mod committing;
@@ -17,10 +19,13 @@ mod faults;
 mod heard;
 mod layer;
 pub mod linearizing;
+mod meeting;
 mod numbers;
 mod passing;
 mod places;
+pub mod progress;
 mod reached;
+pub mod replies;
 mod search;
 mod steps;
 mod telling;
@@ -28,3 +33,5 @@ mod under_way;
 mod ways;
 
 pub use linearizing::{Found, linearize};
+pub use progress::{Progress, Untold};
+pub use replies::{MOST_REPLIES, Possible, PossibleReply};

@@ -7,7 +7,9 @@ ghost use Rattle.fs_linearize.specs.code.Searching.{IsFirst, IsSearched};
 use crate::configuration::Configuration;
 use crate::layer::widen;
 use crate::passing::pass;
+use crate::progress::Progress;
 use crate::reached::Reached;
+use crate::replies::{Possible, possible_replies, unheld};
 use crate::steps::{Link, Step};
 use crate::under_way;
 use crate::ways::steps_to;
@@ -21,8 +23,9 @@ use std::alloc::{AllocError, Global};
 pub(crate) enum Searched {
     /// The steps to the end of the history.
     Ends(Vec<Step>),
-    /// No timeline explains the front up to the entry of this place, counted from 1, the return of this call.
-    NoOrder(usize, CallNo),
+    /// No timeline explains the front up to the entry of this place, counted from 1, the return of this call, which could have
+    /// replied this.
+    NoOrder(usize, CallNo, Possible),
     /// The limit was reached, and the search had come to the entry of this place, counted from 1.
     Limited(usize),
 }
@@ -40,15 +43,17 @@ fn first_layer(alloc: Global, start: &SeqTree) -> Result<Vec<Reached>, AllocErro
 }
 
 /// Searches for the steps of a timeline that explains a history, which has no fault.
-pub(crate) fn find_way(
+pub(crate) fn find_way<P: Progress>(
     alloc: Global,
     start: &SeqTree,
     history: &[Heard],
     limit: usize,
+    progress: &mut P,
 ) -> Result<Searched, AllocError>
     requires { IsHistory history.now }
     ensures { IfOk result (IsSearched start.now history.now limit) }
 {
+    start.is_a_tree();
     let mut layer = first_layer(alloc, start)?;
     let mut calls = Vec::new(alloc);
     let mut links = Vec::new(alloc);
@@ -58,14 +63,13 @@ pub(crate) fn find_way(
             return Ok(Searched::Limited(place + 1));
         }
         most -= layer.len();
+        if let Some(number) = unheld(&layer, entry) {
+            let possible = possible_replies(alloc, &calls, &layer, number.get())?;
+            return Ok(Searched::NoOrder(place + 1, number, possible));
+        }
         calls = under_way::after(alloc, calls, entry, &history[place..])?;
         layer = pass(alloc, &calls, &mut links, layer, entry, place + 1)?;
-        if layer.is_empty() {
-            match entry {
-                Heard::Return(number, _) => return Ok(Searched::NoOrder(place + 1, *number)),
-                Heard::Begin(_, _, _) => unreachable!(),
-            }
-        }
+        progress.passed(place + 1, history.len(), limit.saturating_sub(most));
     }
     let Some(reached) = layer.first() else {
         unreachable!();

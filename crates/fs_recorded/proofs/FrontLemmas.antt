@@ -13,7 +13,9 @@ use Rattle.fs_histories.specs.Histories.{without_commits, Explains, HasNoOrder}
 use Rattle.fs_histories.specs.Faults.{history_fault}
 use Rattle.fs_histories.proofs.FaultLemmas.{explained_are_histories, faults_are_first}
 use Rattle.fs_linearize.specs.Results.{IsAnswerFor, IsReturnAt, WasLimited, fault_in}
+use Rattle.fs_linearize.specs.Possible.{ArePossible}
 use Rattle.fs_linearize.specs.declared.linearizing.Found.{Found}
+use Rattle.fs_linearize.specs.declared.replies.Possible.{Possible}
 use Rattle.fs_linearize.specs.declared.linearizing.Found.TheVariants as found
 use Rattle.fs_words.specs.declared.fault.ScriptFault.{ScriptFault}
 use Rattle.fs_recorded.specs.Answers.{front_text, outcome_of}
@@ -58,7 +60,7 @@ explained start h place refuted =
 
 limited : (start : Start) (h : List Heard) (limit place : ℕ) (f : Found) → HasNoOrder start h place → outcome_of f ≢ Lawful → IsAnswerFor start (take (place - 1) h) limit f → fault_in f ≡ history_fault (take (place - 1) h) → (at : ℕ) × WasLimited start (take (place - 1) h) limit at
 limited start h limit place (found.Lawful j) refuted other answer fault = absurd (other refl)
-limited start h limit place (found.NoOrder p c) refuted other answer fault = absurd (answer.0.whole refuted.before.0 (explained start h place refuted))
+limited start h limit place (found.NoOrder p c q) refuted other answer fault = absurd (answer.0.whole refuted.before.0 (explained start h place refuted))
 limited start h limit place (found.Fault p k) refuted other answer fault =
     let none : history_fault (take (place - 1) h) ≡ None = (faults_are_first.none (take (place - 1) h)).1 (explained_are_histories start (take (place - 1) h) refuted.before.0 (explained start h place refuted)) in
     absurd (cc)
@@ -99,49 +101,49 @@ no_return start before last limit refuted c p is = absurd (refuted c p is)
 pub told_plain : (h : Start × List Heard) (limit : ℕ) (front : Bool) (f : Found) (text : List ℕ) → front ≡ false → IsFoundOf h limit false f text → IsFoundOf h limit front f text
 told_plain h limit front f text is x = rw is x
 
-pub told_other : (h : Start × List Heard) (limit : ℕ) (front : Bool) (f : Found) (text : List ℕ) → ((place call : ℕ) → f ≡ found.NoOrder place call → ⊥) → IsFoundOf h limit false f text → IsFoundOf h limit front f text
+pub told_other : (h : Start × List Heard) (limit : ℕ) (front : Bool) (f : Found) (text : List ℕ) → ((place call : ℕ) (p : Possible) → f ≡ found.NoOrder place call p → ⊥) → IsFoundOf h limit false f text → IsFoundOf h limit front f text
 told_other h limit front f text refuted x = record {
   answer = x.answer;
   fault = x.fault;
-  text_is = record { plain = λ is. x.text_is.plain refl; other = λ is. x.text_is.plain refl; front_is = λ is place call same. absurd (refuted place call same) };
+  text_is = record { plain = λ is. x.text_is.plain refl; other = λ is. x.text_is.plain refl; front_is = λ is place call p same. absurd (refuted place call p same) };
 }
 
-front_same : (h : Start × List Heard) (p c place call : ℕ) (text : List ℕ) → found.NoOrder place call ≡ found.NoOrder p c → IsFrontText h place call text → IsFrontText h p c text
-front_same h p c place call text same front = let one : place ≡ p = cc in let other : call ≡ c = cc in subst (λ (n : ℕ). IsFrontText h n c text) one (subst (λ (n : ℕ). IsFrontText h place n text) other front)
+front_same : (h : Start × List Heard) (p c place call : ℕ) (some other : Possible) (text : List ℕ) → found.NoOrder place call some ≡ found.NoOrder p c other → IsFrontText h place call text → IsFrontText h p c text
+front_same h p c place call some other text same front = let one : place ≡ p = cc in let two : call ≡ c = cc in subst (λ (n : ℕ). IsFrontText h n c text) one (subst (λ (n : ℕ). IsFrontText h place n text) two front)
 
-limited_same : (h : Start × List Heard) (limit p place call c : ℕ) → found.NoOrder place call ≡ found.NoOrder p c → IsFrontLimited h limit place → IsFrontLimited h limit p
-limited_same h limit p place call c same front = let one : place ≡ p = cc in subst (λ (n : ℕ). IsFrontLimited h limit n) one front
+limited_same : (h : Start × List Heard) (limit p place call c : ℕ) (some other : Possible) → found.NoOrder place call some ≡ found.NoOrder p c other → IsFrontLimited h limit place → IsFrontLimited h limit p
+limited_same h limit p place call c some other same front = let one : place ≡ p = cc in subst (λ (n : ℕ). IsFrontLimited h limit n) one front
 
-pub told_front : (h : Start × List Heard) (limit : ℕ) (place call : ℕ) (f : Found) (old new : List ℕ) → f ≡ found.NoOrder place call → IsFrontText h place call new → IsFoundOf h limit false f old → IsFoundOf h limit true f new
-told_front h limit place call f old new is front x = record {
+pub told_front : (h : Start × List Heard) (limit : ℕ) (place call : ℕ) (some : Possible) (f : Found) (old new : List ℕ) → f ≡ found.NoOrder place call some → IsFrontText h place call new → IsFoundOf h limit false f old → IsFoundOf h limit true f new
+told_front h limit place call some f old new is front x = record {
   answer = x.answer;
   fault = x.fault;
   text_is = record {
     plain = λ refuted. absurd (cc);
     other = λ refuted. absurd (refuted (ap outcome_of is));
-    front_is = λ asked p c same. let told : found.NoOrder place call ≡ found.NoOrder p c = sym is ∙ same in inl (front_same h p c place call new told front);
+    front_is = λ asked p c other same. let told : found.NoOrder place call some ≡ found.NoOrder p c other = sym is ∙ same in inl (front_same h p c place call some other new told front);
   };
 }
 
-pub told_limited : (h : Start × List Heard) (limit : ℕ) (place call : ℕ) (f : Found) (text : List ℕ) → f ≡ found.NoOrder place call → IsFrontLimited h limit place → IsFoundOf h limit false f text → IsFoundOf h limit true f text
-told_limited h limit place call f text is front x = record {
+pub told_limited : (h : Start × List Heard) (limit : ℕ) (place call : ℕ) (some : Possible) (f : Found) (text : List ℕ) → f ≡ found.NoOrder place call some → IsFrontLimited h limit place → IsFoundOf h limit false f text → IsFoundOf h limit true f text
+told_limited h limit place call some f text is front x = record {
   answer = x.answer;
   fault = x.fault;
   text_is = record {
     plain = λ refuted. absurd (cc);
     other = λ refuted. x.text_is.plain refl;
-    front_is = λ asked p c same. let told : found.NoOrder place call ≡ found.NoOrder p c = sym is ∙ same in inr (limited_same h limit p place call c told front, x.text_is.plain refl);
+    front_is = λ asked p c other same. let told : found.NoOrder place call some ≡ found.NoOrder p c other = sym is ∙ same in inr (limited_same h limit p place call c some other told front, x.text_is.plain refl);
   };
 }
 
 pub front_or_plain : (h : Start × List Heard) (limit place call : ℕ) (plain : List ℕ) → IsFrontLimited h limit place → IsFrontOr h limit place call plain plain
 front_or_plain h limit place call plain x = inr (x, refl)
 
-pub front_told : (h : Start × List Heard) (limit place call : ℕ) (front : Bool) (f : Found) (plain new : List ℕ) → front ≡ true → f ≡ found.NoOrder place call → IsFrontOr h limit place call plain new → IsFoundOf h limit false f plain → IsFoundOf h limit front f new
-front_told h limit place call front f plain new asked is either x =
+pub front_told : (h : Start × List Heard) (limit place call : ℕ) (some : Possible) (front : Bool) (f : Found) (plain new : List ℕ) → front ≡ true → f ≡ found.NoOrder place call some → IsFrontOr h limit place call plain new → IsFoundOf h limit false f plain → IsFoundOf h limit front f new
+front_told h limit place call some front f plain new asked is either x =
     subst (λ (b : Bool). IsFoundOf h limit b f new) (sym asked)
-    (⊎_elim (λ told. told_front h limit place call f plain new is told x)
-    (λ limited. subst (λ (t : List ℕ). IsFoundOf h limit true f t) (sym limited.1) (told_limited h limit place call f plain is limited.0 x)) either)
+    (⊎_elim (λ told. told_front h limit place call some f plain new is told x)
+    (λ limited. subst (λ (t : List ℕ). IsFoundOf h limit true f t) (sym limited.1) (told_limited h limit place call some f plain is limited.0 x)) either)
 
 -- ---- of what is answered
 
@@ -149,13 +151,13 @@ if_ok : {T E : Type 0} (r : Result T E) (A B : T → Type 0) → ((t : T) → A 
 if_ok (Ok t) A B goes x = goes t x
 if_ok (Err e) A B goes x = tt
 
-pub told_front_or : {T E : Type 0} (items : T → List ℕ) (r : Result T E) (h : Start × List Heard) (limit place call : ℕ) (front : Bool) (f : Found) (plain : List ℕ) → front ≡ true → f ≡ found.NoOrder place call
+pub told_front_or : {T E : Type 0} (items : T → List ℕ) (r : Result T E) (h : Start × List Heard) (limit place call : ℕ) (some : Possible) (front : Bool) (f : Found) (plain : List ℕ) → front ≡ true → f ≡ found.NoOrder place call some
     → ((c : ℕ) → HasNoOrder h.0 h.1 place → IsReturnAt h.1 place c → IfOk r (λ told. IsFrontOr h limit place c plain (items told)))
     → IsFoundOf h limit false f plain → IfOk r (λ told. IsFoundOf h limit front f (items told))
-told_front_or items r h limit place call front f plain asked is gives x =
-    let both : HasNoOrder h.0 h.1 place × IsReturnAt h.1 place call = subst (λ (g : Found). IsAnswerFor h.0 h.1 limit g) is x.answer in
+told_front_or items r h limit place call some front f plain asked is gives x =
+    let both : HasNoOrder h.0 h.1 place × IsReturnAt h.1 place call × ArePossible h.0 h.1 place call some = subst (λ (g : Found). IsAnswerFor h.0 h.1 limit g) is x.answer in
     if_ok r (λ told. IsFrontOr h limit place call plain (items told)) (λ told. IsFoundOf h limit front f (items told))
-    (λ told either. front_told h limit place call front f plain (items told) asked is either x) (gives call both.0 both.1)
+    (λ told either. front_told h limit place call some front f plain (items told) asked is either x) (gives call both.0 both.1)
 
 if_none : {T : Type 0} (told : Option T) (A B : Type 0) → (A → B) → IfNone told A → IfNone told B
 if_none None A B goes x = goes x
@@ -169,6 +171,19 @@ none_known told given read before last limit place was cut none h is call refute
     let cut_h : IsCutAt h.1 place before last = subst (λ (x : Start × List Heard). IsCutAt x.1 place before last) one cut in
     let none_h : IfNone told (IsNoneBehind h.0 before last limit) = subst (λ (x : Start × List Heard). IfNone told (IsNoneBehind x.0 before last limit)) one none in
     if_none told (IsNoneBehind h.0 before last limit) (IsFrontLimited h limit place) (λ x. front_none h limit place call before last refuted at cut_h x) none_h
+
+if_some : {T : Type 0} (told : Option T) (A B : T → Type 0) → ((t : T) → A t → B t) → IfSome told A → IfSome told B
+if_some None A B goes x = tt
+if_some (Some t) A B goes x = goes t x
+
+pub some_known : {T : Type 0} (told : Option T) (items : T → List ℕ) (given : Result (Start × List Heard) ScriptFault) (read : Start × List Heard) (before : List Heard) (last : Option Heard) (limit place : ℕ) → given ≡ Ok read → IsCutAt read.1 place before last
+    → IfSome told (λ t. IsFrontBehind read.0 before last (items t)) → (h : Start × List Heard) → given ≡ Ok h → (call : ℕ) → HasNoOrder h.0 h.1 place → IsReturnAt h.1 place call → IfSome told (λ t. IsFrontText h place call (items t))
+some_known told items given read before last limit place was cut some h is call refuted at =
+    let two : Ok read ≡ Ok h = sym was ∙ is in
+    let one : read ≡ h = cc in
+    let cut_h : IsCutAt h.1 place before last = subst (λ (x : Start × List Heard). IsCutAt x.1 place before last) one cut in
+    let some_h : IfSome told (λ t. IsFrontBehind h.0 before last (items t)) = subst (λ (x : Start × List Heard). IfSome told (λ t. IsFrontBehind x.0 before last (items t))) one some in
+    if_some told (λ t. IsFrontBehind h.0 before last (items t)) (λ t. IsFrontText h place call (items t)) (λ t x. front_some h limit place call before last (items t) refuted at cut_h x) some_h
 
 pub some_of : {T : Type 0} (o : Option T) (t : T) (P : T → Type 0) → o ≡ Some t → IfSome o P → P t
 some_of o t P is x = subst (λ p. IfSome p P) is x

@@ -37,7 +37,7 @@ unknown_line place = codes "unknown " ++ (decimal place ++ codes "\n")
 -- the journal that explains a history from its start tree, or that line
 abbrev pub found_text : Start → Found → List ℕ
 found_text start (found.Lawful journal) = journal_text start journal.items
-found_text start (found.NoOrder place call) = none_line place call
+found_text start (found.NoOrder place call possible) = none_line place call
 found_text start (found.Fault place kind) = fault_line place kind
 found_text start (found.Unknown place) = unknown_line place
 
@@ -53,6 +53,6 @@ front_text start journal c p = journal_text start (journal ++ Return c (shown p)
 
 abbrev pub outcome_of : Found → Outcome
 outcome_of (found.Lawful journal) = Lawful
-outcome_of (found.NoOrder place call) = NoOrder
+outcome_of (found.NoOrder place call possible) = NoOrder
 outcome_of (found.Fault place kind) = Fault
 outcome_of (found.Unknown place) = Unknown

@@ -9,6 +9,7 @@ use Rattle.fs_histories.specs.Histories.{Explains}
 use Rattle.fs_histories.specs.Faults.{history_fault}
 use Rattle.fs_linearize.specs.Results.{IsAnswerFor, WasLimited, fault_in}
 use Rattle.fs_linearize.specs.declared.linearizing.Found.{Found}
+use Rattle.fs_linearize.specs.declared.replies.Possible.{Possible}
 use Rattle.fs_linearize.specs.declared.linearizing.Found.TheVariants as found
 use Rattle.fs_recorded.specs.Answers.{front_text, found_text, outcome_of}
 use Rattle.fs_recorded.specs.declared.answer.Outcome.TheVariants.{NoOrder}
@@ -25,7 +26,7 @@ IsFrontLimited h limit place = (at : ℕ) × WasLimited h.0 (take (place - 1) h.
 pub record IsTextOf (h : Start × List Heard) (limit : ℕ) (front : Bool) (f : Found) (text : List ℕ) : Type 0 where
   pub plain : front ≡ false → text ≡ found_text h.0 f
   pub other : outcome_of f ≢ NoOrder → text ≡ found_text h.0 f
-  pub front_is : front ≡ true → (place call : ℕ) → f ≡ found.NoOrder place call → IsFrontText h place call text ⊎ (IsFrontLimited h limit place × (text ≡ found_text h.0 f))
+  pub front_is : front ≡ true → (place call : ℕ) (possible : Possible) → f ≡ found.NoOrder place call possible → IsFrontText h place call text ⊎ (IsFrontLimited h limit place × (text ≡ found_text h.0 f))
 
 -- what is found of a history is true of it, its faults come first, and this is its text
 pub record IsFoundOf (h : Start × List Heard) (limit : ℕ) (front : Bool) (f : Found) (text : List ℕ) : Type 0 where

@@ -9,6 +9,7 @@ ghost use Rattle.fs_timeline.specs.Timeline.{begins};
 ghost use Rattle.fs_recorded.specs.Many.{found_line};
 ghost use Rattle.fs_recorded.specs.code.Makes.{IsAnswered};
 
+use crate::possible::with_possible;
 use crate::reason::reason_of;
 use fs_histories::HistoryFault;
 use fs_linearize::Found;
@@ -37,7 +38,8 @@ pub enum Outcome {
 pub struct Linearized {
     /// What came of it.
     pub outcome: Outcome,
-    /// Of `NoOrder` and `Fault` the entry with its line, and its call, in words; else no bytes.
+    /// Of `NoOrder` and `Fault` the entry with its line, and its call, in words, and of `NoOrder` in a second line what the call
+    /// could have replied; else no bytes.
     pub reason: Vec<u8>,
 }
 
@@ -62,7 +64,12 @@ pub(crate) fn answer_of(
     ensures { IfOk result (IsAnswered found.now) }
 {
     let reason = match found {
-        Found::NoOrder { place, .. } | Found::Fault(place, _) => reason_of(alloc, lines, *place)?,
+        Found::NoOrder {
+            place,
+            possible,
+            ..
+        } => with_possible(alloc, reason_of(alloc, lines, *place)?, possible)?,
+        Found::Fault(place, _) => reason_of(alloc, lines, *place)?,
         Found::Lawful(_) | Found::Unknown(_) => Vec::new(alloc),
     };
     Ok(Linearized {
@@ -160,7 +167,7 @@ pub(crate) fn found_line(alloc: Global, found: &Found) -> Result<Vec<u8>, AllocE
 {
     match found {
         Found::Lawful(journal) => lawful_line(alloc, journal),
-        Found::NoOrder { place, call } => none_line(alloc, *place, *call),
+        Found::NoOrder { place, call, .. } => none_line(alloc, *place, *call),
         Found::Fault(place, kind) => fault_line(alloc, *place, *kind),
         Found::Unknown(place) => unknown_line(alloc, *place),
     }
@@ -176,7 +183,7 @@ pub(crate) fn found_text(
 {
     match found {
         Found::Lawful(journal) => journal_text(alloc, start, journal),
-        Found::NoOrder { place, call } => none_line(alloc, *place, *call),
+        Found::NoOrder { place, call, .. } => none_line(alloc, *place, *call),
         Found::Fault(place, kind) => fault_line(alloc, *place, *kind),
         Found::Unknown(place) => unknown_line(alloc, *place),
     }

@@ -15,7 +15,7 @@ use crate::answer::journal_text;
 use crate::history::{History, history_by};
 use fs_calls::{Errno, Reply};
 use fs_histories::{Heard, Pattern};
-use fs_linearize::{Found, linearize};
+use fs_linearize::{Found, Progress, linearize};
 use fs_names::{CallNo, Kind};
 use fs_seq::SeqTree;
 use fs_timeline::Entry;
@@ -57,18 +57,19 @@ fn lawful(found: Found) -> Option<Vec<Entry>>
 
 /// The text of a journal that explains entries from a start tree, with a return behind it; none where the limit is reached.
 #[tactic(auto, using(crate::proofs::FrontLemmas::front_behind, crate::proofs::FrontLemmas::none_behind))]
-fn text_behind(
+fn text_behind<P: Progress>(
     alloc: Global,
     start: &SeqTree,
     before: Vec<Heard>,
     number: CallNo,
     pattern: Pattern,
     limit: usize,
+    progress: &mut P,
 ) -> Result<Option<Vec<u8>>, AllocError>
     ensures some { IfOk result (λ told. IfSome told (λ text. IsFrontBehind start.now before.items (Some (heard.Return number pattern)) text.items)) }
     ensures none { IfOk result (λ told. IfNone told (IsNoneBehind start.now before.items (Some (heard.Return number pattern)) limit)) }
 {
-    let found = linearize(alloc, start, before, limit)?;
+    let found = linearize(alloc, start, before, limit, progress)?;
     let Some(mut journal) = lawful(found) else {
         return Ok(None);
     };
@@ -78,12 +79,13 @@ fn text_behind(
 
 /// The same, where the entry is a return.
 #[tactic(auto, using(crate::proofs::FrontLemmas::no_return))]
-fn text_with(
+fn text_with<P: Progress>(
     alloc: Global,
     start: &SeqTree,
     before: Vec<Heard>,
     last: Heard,
     limit: usize,
+    progress: &mut P,
 ) -> Result<Option<Vec<u8>>, AllocError>
     ensures some { IfOk result (λ told. IfSome told (λ text. IsFrontBehind start.now before.items (Some last) text.items)) }
     ensures none { IfOk result (λ told. IfNone told (IsNoneBehind start.now before.items (Some last) limit)) }
@@ -91,25 +93,26 @@ fn text_with(
     match last {
         Heard::Begin(_, _, _) => Ok(None),
         Heard::Return(number, pattern) => {
-            text_behind(alloc, start, before, number, pattern, limit)
+            text_behind(alloc, start, before, number, pattern, limit, progress)
         }
     }
 }
 
 /// The same, where there is an entry.
 #[tactic(auto, using(crate::proofs::FrontLemmas::no_return))]
-fn front_text(
+fn front_text<P: Progress>(
     alloc: Global,
     start: &SeqTree,
     before: Vec<Heard>,
     last: Option<Heard>,
     limit: usize,
+    progress: &mut P,
 ) -> Result<Option<Vec<u8>>, AllocError>
     ensures some { IfOk result (λ told. IfSome told (λ text. IsFrontBehind start.now before.items last text.items)) }
     ensures none { IfOk result (λ told. IfNone told (IsNoneBehind start.now before.items last limit)) }
 {
     match last {
-        Some(last) => text_with(alloc, start, before, last, limit),
+        Some(last) => text_with(alloc, start, before, last, limit, progress),
         None => Ok(None),
     }
 }
@@ -117,11 +120,12 @@ fn front_text(
 /// The text of a journal of what lines tell before the entry of a place, counted from 1, with that return behind it; none where
 /// the limit is reached.
 #[tactic(auto, using(crate::proofs::FrontLemmas::front_some, crate::proofs::FrontLemmas::front_none))]
-pub(crate) fn front_in(
+pub(crate) fn front_in<P: Progress>(
     alloc: Global,
     lines: &[&[u8]],
     place: usize,
     limit: usize,
+    progress: &mut P,
 ) -> Result<Option<Vec<u8>>, RunFault>
     ensures some { (h : _) → history_by (map (λ l. l.now) lines.now) ≡ Ok h → (call : ℕ) → HasNoOrder h.0 h.1 place → IsReturnAt h.1 place call → IfOk result (λ told. IfSome told (λ text. IsFrontText h place call text.items)) }
     ensures none { (h : _) → history_by (map (λ l. l.now) lines.now) ≡ Ok h → (call : ℕ) → HasNoOrder h.0 h.1 place → IsReturnAt h.1 place call → IfOk result (λ told. IfNone told (IsFrontLimited h limit place)) }
@@ -129,7 +133,7 @@ pub(crate) fn front_in(
 {
     let History { start, entries } = history_by(alloc, lines)?;
     let (before, last) = cut_at(entries, place);
-    match front_text(alloc, &start, before, last, limit) {
+    match front_text(alloc, &start, before, last, limit, progress) {
         Ok(told) => Ok(told),
         Err(_) => Err(RunFault::OutOfMemory),
     }

@@ -19,8 +19,10 @@ mod lines;
 mod many;
 mod marks;
 mod plain;
+mod possible;
 mod reason;
 
 pub use answer::{Linearized, Outcome};
+pub use fs_linearize::{Progress, Untold};
 pub use linearizing::{CONFIGURATION_LIMIT, linearize_bytes, linearize_history};
 pub use many::{Histories, linearize_many};

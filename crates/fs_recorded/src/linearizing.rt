@@ -18,7 +18,7 @@ use crate::front::front_in;
 use crate::history::{History, history_by};
 use crate::lines::lines_in;
 use fs_io::{Made, Sink, Source, transform};
-use fs_linearize::{Found, linearize};
+use fs_linearize::{Found, Progress, Untold, linearize};
 use fs_verdict::{RunFault, between};
 use std::alloc::Global;
 
@@ -26,12 +26,17 @@ use std::alloc::Global;
 pub const CONFIGURATION_LIMIT: u64 = 1_000_000_000;
 
 /// What is found of a history.
-fn find(alloc: Global, history: History, limit: usize) -> Result<(Found, Vec<u8>), RunFault>
+fn find<P: Progress>(
+    alloc: Global,
+    history: History,
+    limit: usize,
+    progress: &mut P,
+) -> Result<(Found, Vec<u8>), RunFault>
     ensures found { IfOk result (λ found. IsFoundOf (history.start, history.entries.items) limit false found.0 found.1.items) }
     ensures err { IfErr result (λ fault. fault ≡ RunFault.OutOfMemory) }
 {
     let History { start, entries } = history;
-    let Ok(found) = linearize(alloc, &start, entries, limit) else {
+    let Ok(found) = linearize(alloc, &start, entries, limit, progress) else {
         return Err(RunFault::OutOfMemory);
     };
     let Ok(text) = found_text(alloc, &start, &found) else {
@@ -42,17 +47,18 @@ fn find(alloc: Global, history: History, limit: usize) -> Result<(Found, Vec<u8>
 
 /// The front of the history that lines tell, up to the return of this place; the plain text where the limit is reached.
 #[tactic(auto, using(crate::proofs::FrontLemmas::front_or_plain))]
-fn front_or(
+fn front_or<P: Progress>(
     alloc: Global,
     lines: &[&[u8]],
     place: usize,
     plain: Vec<u8>,
     limit: usize,
+    progress: &mut P,
 ) -> Result<Vec<u8>, RunFault>
     ensures ok { (h : _) → history_by (map (λ l. l.now) lines.now) ≡ Ok h → (call : ℕ) → HasNoOrder h.0 h.1 place → IsReturnAt h.1 place call → IfOk result (λ told. IsFrontOr h limit place call plain.items told.items) }
     ensures err { IfErr result (IsFaultOf (history_by (map (λ l. l.now) lines.now))) }
 {
-    match front_in(alloc, lines, place, limit)? {
+    match front_in(alloc, lines, place, limit, progress)? {
         Some(told) => Ok(told),
         None => Ok(plain),
     }
@@ -60,13 +66,14 @@ fn front_or(
 
 /// The text of what is found of the history that lines tell, of which this is the plain one.
 #[tactic(auto, using(crate::proofs::FrontLemmas::told_plain, crate::proofs::FrontLemmas::told_other))]
-fn told_of(
+fn told_of<P: Progress>(
     alloc: Global,
     lines: &[&[u8]],
     found: &Found,
     plain: Vec<u8>,
     limit: usize,
     front: bool,
+    progress: &mut P,
 ) -> Result<Vec<u8>, RunFault>
     ensures ok { (h : _) → history_by (map (λ l. l.now) lines.now) ≡ Ok h → IsFoundOf h limit false found.now plain.items → IfOk result (λ told. IsFoundOf h limit front found.now told.items) }
     ensures err { IfErr result (IsFaultOf (history_by (map (λ l. l.now) lines.now))) }
@@ -75,23 +82,24 @@ fn told_of(
         return Ok(plain);
     };
     if front {
-        return front_or(alloc, lines, *place, plain, limit);
+        return front_or(alloc, lines, *place, plain, limit, progress);
     }
     Ok(plain)
 }
 
 /// The text of what is found of the history that lines tell.
-fn linearize_lines(
+fn linearize_lines<P: Progress>(
     alloc: Global,
     lines: &[&[u8]],
     limit: usize,
     front: bool,
+    progress: &mut P,
 ) -> Result<Made<Linearized>, RunFault>
     ensures { MakesFound (history_by (map (λ l. l.now) lines.now)) limit front result }
 {
     let history = history_by(alloc, lines)?;
-    let (found, plain) = find(alloc, history, limit)?;
-    let text = told_of(alloc, lines, &found, plain, limit, front)?;
+    let (found, plain) = find(alloc, history, limit, progress)?;
+    let text = told_of(alloc, lines, &found, plain, limit, front, progress)?;
     let Ok(end) = answer_of(alloc, lines, &found) else {
         return Err(RunFault::OutOfMemory);
     };
@@ -99,16 +107,17 @@ fn linearize_lines(
 }
 
 /// The text of what is found of the history that a text has.
-fn linearize_text(
+fn linearize_text<P: Progress>(
     alloc: Global,
     text: &[u8],
     limit: usize,
     front: bool,
+    progress: &mut P,
 ) -> Result<Made<Linearized>, RunFault>
     ensures { MakesFound (history_of text.now) limit front result }
 {
     let lines = lines_in(alloc, text)?;
-    linearize_lines(alloc, &lines, limit, front)
+    linearize_lines(alloc, &lines, limit, front, progress)
 }
 
 /// What is found of a history in memory, as `linearize_history` writes it, and what that answers. The history is read where it stands.
@@ -122,7 +131,7 @@ pub fn linearize_bytes(
     ensures quiet { IfOk result (λ made. made.end.outcome ≡ outcome.Lawful → made.end.reason.items ≡ []) }
     ensures fault { IfErr result (IsFaultOf (history_of history.now)) }
 {
-    linearize_text(alloc, history, limit, front)
+    linearize_text(alloc, history, limit, front, &mut Untold)
 }
 
 /// Reads a history to its end and writes what is found of it, where no more configurations than the limit, or few more, are
@@ -131,12 +140,13 @@ pub fn linearize_bytes(
 /// next, and the kind of its fault; or `unknown` with the place of the entry to which the search had come. The text is made
 /// before its first byte is written. If the front is asked for, a journal stands in the place of `none`: what explains all that is
 /// before that return, and the return; or `none`, where the limit is reached in the search for it. Of `none` and `fault` the answer tells the entry and its call in words.
-pub fn linearize_history<R: Source, W: Sink>(
+pub fn linearize_history<R: Source, W: Sink, P: Progress>(
     alloc: Global,
     reader: &mut R,
     writer: &mut W,
     limit: usize,
     front: bool,
+    progress: &mut P,
 ) -> Result<Linearized, RunFault>
     requires reads { R.failures reader.old < 2 ^ 64 - 1 }
     requires writes { W.failures writer.old < 2 ^ 64 - 1 }
@@ -161,7 +171,7 @@ pub fn linearize_history<R: Source, W: Sink>(
         writer,
         |text| -> Result<Made<Linearized>, RunFault>
             ensures { MakesFound (history_of text.items) limit front result }
-        { linearize_text(alloc, text.as_slice(), limit, front) },
+        { linearize_text(alloc, text.as_slice(), limit, front, progress) },
     );
     match ended {
         Ok(told) => Ok(told),

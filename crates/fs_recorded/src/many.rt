@@ -13,7 +13,7 @@ use crate::answer::{Outcome, found_line, outcome_of};
 use crate::history::{History, history_by};
 use crate::lines::lines_in;
 use fs_io::{Made, Sink, Source, transform};
-use fs_linearize::{Found, linearize};
+use fs_linearize::{Found, Progress, Untold, linearize};
 use fs_text::Addition;
 use fs_verdict::{RunFault, between};
 use fs_words::ScriptFault;
@@ -80,7 +80,7 @@ fn find(alloc: Global, lines: &[&[u8]], before: usize, limit: usize) -> Result<F
         Ok(history) => history,
         Err(fault) => return Err(further(fault, before)),
     };
-    match linearize(alloc, &start, entries, limit) {
+    match linearize(alloc, &start, entries, limit, &mut Untold) {
         Ok(found) => Ok(found),
         Err(_) => Err(RunFault::OutOfMemory),
     }
@@ -128,7 +128,12 @@ fn piece_length(lines: &[&[u8]]) -> usize
 
 /// What is found of each history that lines tell.
 #[tactic(auto, using(crate::proofs::ManyLemmas::told_none, crate::proofs::ManyLemmas::told_end))]
-fn find_each(alloc: Global, lines: &[&[u8]], limit: usize) -> Result<Told, RunFault>
+fn find_each<P: Progress>(
+    alloc: Global,
+    lines: &[&[u8]],
+    limit: usize,
+    progress: &mut P,
+) -> Result<Told, RunFault>
     ensures ok { IfOk result (λ told. AreTold (histories_by 0 (pieces_of (map (λ l. l.now) lines.now))) limit told.outcomes.items told.text.items) }
     ensures err { IfErr result (IsFaultOf (histories_by 0 (pieces_of (map (λ l. l.now) lines.now)))) }
 {
@@ -142,6 +147,7 @@ fn find_each(alloc: Global, lines: &[&[u8]], limit: usize) -> Result<Told, RunFa
         let count = piece_length(left);
         push_piece(alloc, &left[..count], at, limit, &mut told)?;
         at += count;
+        progress.read(at, lines.len());
     }
     Ok(told)
 }
@@ -185,14 +191,15 @@ fn with_counts(text: Vec<u8>, outcomes: &[Outcome]) -> Result<Vec<u8>, AllocErro
 }
 
 /// The text of what is found of the histories that lines tell.
-fn linearize_lines(
+fn linearize_lines<P: Progress>(
     alloc: Global,
     lines: &[&[u8]],
     limit: usize,
+    progress: &mut P,
 ) -> Result<Made<Histories>, RunFault>
     ensures { MakesMany (histories_by 0 (pieces_of (map (λ l. l.now) lines.now))) limit result }
 {
-    let Told { outcomes, text } = find_each(alloc, lines, limit)?;
+    let Told { outcomes, text } = find_each(alloc, lines, limit, progress)?;
     match with_counts(text, &outcomes) {
         Ok(text) => Ok(Made {
             text,
@@ -203,21 +210,27 @@ fn linearize_lines(
 }
 
 /// The text of what is found of the histories that a text has.
-fn linearize_text(alloc: Global, text: &[u8], limit: usize) -> Result<Made<Histories>, RunFault>
+fn linearize_text<P: Progress>(
+    alloc: Global,
+    text: &[u8],
+    limit: usize,
+    progress: &mut P,
+) -> Result<Made<Histories>, RunFault>
     ensures { MakesMany (histories_of text.now) limit result }
 {
     let lines = lines_in(alloc, text)?;
-    linearize_lines(alloc, &lines, limit)
+    linearize_lines(alloc, &lines, limit, progress)
 }
 
 /// Reads histories to their end, each begun by its header line, and writes what is found of them: of each in one line `lawful`
 /// with the number of its calls, or what `linearize_history` writes in one line; and then in one line how many came to each. The
 /// fault of a history has the number of its line in the whole text. The text is made before its first byte is written.
-pub fn linearize_many<R: Source, W: Sink>(
+pub fn linearize_many<R: Source, W: Sink, P: Progress>(
     alloc: Global,
     reader: &mut R,
     writer: &mut W,
     limit: usize,
+    progress: &mut P,
 ) -> Result<Histories, RunFault>
     requires reads { R.failures reader.old < 2 ^ 64 - 1 }
     requires writes { W.failures writer.old < 2 ^ 64 - 1 }
@@ -241,7 +254,7 @@ pub fn linearize_many<R: Source, W: Sink>(
         writer,
         |text| -> Result<Made<Histories>, RunFault>
             ensures { MakesMany (histories_of text.items) limit result }
-        { linearize_text(alloc, text.as_slice(), limit) },
+        { linearize_text(alloc, text.as_slice(), limit, progress) },
     );
     match ended {
         Ok(told) => Ok(told),

@@ -7,11 +7,11 @@ use fs_words::lines::cut_words;
 use fs_words::words::is_word;
 use std::alloc::{AllocError, Global};
 
-/// The most bytes of an entry or of a call; of one that has more, the rest is left out.
+/// The most bytes of an entry, a call or a reply; of one that has more, the rest is left out.
 const MOST: usize = 240;
 
 /// Adds bytes, of which no more than the most are told.
-fn push_cut(bytes: &[u8], told: &mut Addition) -> Result<(), AllocError> {
+pub(crate) fn push_cut(bytes: &[u8], told: &mut Addition) -> Result<(), AllocError> {
     match bytes.get(..MOST) {
         Some(front) if bytes.len() > MOST => {
             told.push(front)?;

@@ -16,7 +16,7 @@ pub const LINE: u8 = 0;
 /// By this one with `none` the journal up to the return that nothing explains.
 pub const FRONT: u8 = 1;
 
-/// By this one a second line says in words which entry `none` and `fault` name.
+/// By this one words stand behind it: which entry `none` and `fault` name, and for `none` what the call could have replied.
 pub const WORDS: u8 = 2;
 
 /// What is found of a history, and the number of what came of it.

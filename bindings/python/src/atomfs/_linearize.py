@@ -32,7 +32,7 @@ class NoOrder:
 
     place: int
     call: int
-    #: What this entry says, with its line, and which call it is.
+    #: What this entry says, with its line, and which call it is; and in a second line what the call could have replied.
     words: str = dataclasses.field(default="", compare=False)
 
     @property

@@ -1,5 +1,5 @@
 -- Calls under way, and which of them may commit.
-use Rattle.std.specs.Prelude.{◌≡◌, ℕ, true, false, ◌==◌, if◌then◌else◌, List, [], ◌∷◌, take, Option, Some, None, option_copied, Contains}
+use Rattle.std.specs.Prelude.{◌≡◌, ◌⊎◌, ℕ, Bool, true, false, ◌==◌, if◌then◌else◌, List, [], ◌∷◌, take, Option, Some, None, option_copied, Contains}
 use Rattle.fs_calls.specs.Outcomes.{reply_at}
 use Rattle.fs_calls.specs.declared.call.Call.{Call}
 use Rattle.fs_calls.specs.declared.reply.Reply.{Reply}
@@ -8,6 +8,7 @@ use Rattle.fs_histories.specs.declared.heard.Heard.{Heard}
 use Rattle.fs_histories.specs.declared.heard.Pattern.{Pattern}
 use Rattle.fs_histories.specs.Heard.{entries, Matches}
 use Rattle.fs_histories.specs.Histories.{recorded}
+use Rattle.fs_histories.specs.Meeting.{calls_meet}
 use Rattle.fs_histories.specs.Configurations.{Configuration, is_in, committed}
 use Rattle.fs_histories.specs.Early.{is_quiet}
 use Rattle.fs_linearize.specs.declared.under_way.UnderWay.{UnderWay}
@@ -30,6 +31,12 @@ pub record AreUnderWay (h : List Heard) (at : ℕ) (us : List UnderWay) : Type 0
 abbrev pub without_call : ℕ → List UnderWay → List UnderWay
 without_call c [] = []
 without_call c (u ∷ us) = if c == u.number then without_call c us else u ∷ without_call c us
+
+-- which of these calls have to do with the return of a call: the call itself; and each other one either does, or meets none that does
+pub record AreNear (c : ℕ) (siblings : Bool) (us near : List UnderWay) : Type 0 where
+  pub some : (u : UnderWay) → Contains near u → Contains us u
+  pub itself : (u : UnderWay) → Contains us u → u.number ≡ c → Contains near u
+  pub others : (u : UnderWay) → Contains us u → Contains near u ⊎ ((v : UnderWay) → Contains near v → calls_meet siblings v.call.now u.call.now ≡ false)
 
 -- a reply matches what is known of it, if anything
 abbrev pub FitsKnown : Option Pattern → Reply → Type 0

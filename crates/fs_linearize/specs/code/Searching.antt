@@ -1,14 +1,16 @@
 -- What a step of the search adds to what was reached.
 use Rattle.std.specs.Prelude.{◌≡◌, ◌+◌, ◌≤◌, ℕ, Bool, true, false, List, [], ◌∷◌, ◌++◌, length, Contains}
-use Rattle.fs_calls.specs.Starts.{Start}
+use Rattle.fs_calls.specs.Starts.{Start, start_tree}
 use Rattle.fs_timeline.specs.declared.entry.Entry.{Entry}
 use Rattle.fs_histories.specs.declared.heard.Heard.{Heard}
 use Rattle.fs_histories.specs.declared.heard.Heard.TheVariants.{Begin, Return}
 use Rattle.fs_histories.specs.Histories.{HasNoOrder, Explains}
+use Rattle.fs_histories.specs.Meeting.{HasRoom}
 use Rattle.fs_histories.specs.Configurations.{Configuration, at_start, is_in, passed, returned, committed}
 use Rattle.fs_histories.specs.Early.{Settles, SettlesIn}
+use Rattle.fs_linearize.specs.Possible.{ArePossible}
 use Rattle.fs_linearize.specs.Results.{IsReturnAt, WasLimited}
-use Rattle.fs_linearize.specs.code.Calls.{CanCommitNow}
+use Rattle.fs_linearize.specs.code.Calls.{AreNear, CanCommitNow}
 use Rattle.fs_linearize.specs.code.Ways.{GoesBy, IsLed, AllLed, Keeps, configurations}
 use Rattle.fs_linearize.specs.declared.reached.Reached.{Reached}
 use Rattle.fs_linearize.specs.declared.steps.Link.{Link}
@@ -53,9 +55,17 @@ pub record AddsCommits (h : List Heard) (r : Reached) (us : List UnderWay) (old 
   pub grows : Grows h r.configuration.at r old new before behind
   pub each : (u : UnderWay) → Contains us u → IsTried h r.configuration u behind
 
+-- each call that has to do with the return of a call commits, if it can; those that may have one parent have to do with each other where the tree has no room for all
+pub record AreTriedNear (h : List Heard) (c : ℕ) (x : Configuration) (us : List UnderWay) (layer : List Reached) : Type 0 where
+  pub siblings : Bool
+  pub room : siblings ≡ false → HasRoom (length us) (start_tree x.now)
+  pub near : List UnderWay
+  pub are : AreNear c siblings us near
+  pub each : (u : UnderWay) → Contains near u → IsTried h x u layer
+
 -- a configuration is followed before the return of a call, if that has not committed
 abbrev pub AreTried : List Heard → ℕ → Configuration → List UnderWay → List Reached → Type 0
-AreTried h c x us layer = is_in c x.held ≡ false → (u : UnderWay) → Contains us u → IsTried h x u layer
+AreTried h c x us layer = is_in c x.held ≡ false → AreTriedNear h c x us layer
 
 pub record Follows (h : List Heard) (c : ℕ) (r : Reached) (us : List UnderWay) (old new : List Link) (before behind : List Reached) : Type 0 where
   pub grows : Grows h r.configuration.at r old new before behind
@@ -107,5 +117,5 @@ IsFirst start layer = (r : Reached) × (layer ≡ r ∷ []) × (r.configuration 
 -- what was searched: steps of a timeline that explains the history, or there is none, or the limit was reached
 abbrev pub IsSearched : Start → List Heard → ℕ → Searched → Type 0
 IsSearched start h limit (Ends steps) = (es : List Entry) × Explains start h es × GoesBy h steps.items es
-IsSearched start h limit (NoOrder place call) = HasNoOrder start h place × IsReturnAt h place call
+IsSearched start h limit (NoOrder place call possible) = HasNoOrder start h place × IsReturnAt h place call × ArePossible start h place call possible
 IsSearched start h limit (Limited place) = WasLimited start h limit place

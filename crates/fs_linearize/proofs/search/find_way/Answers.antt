@@ -1,19 +1,23 @@
 use Rattle.std.proofs.Common.{◌≡◌, ◌≤◌, ◌+◌, ◌-◌, ◌++◌, true, false, List, [], length, slice_get, Some, None, option_copied, refl, sym, ap, subst, ◌∙◌, arith}
 use Rattle.std.specs.List.{Contains}
+use Rattle.fs_calls.specs.declared.call.Call.{Call}
+use Rattle.fs_linearize.specs.Possible.{AreTold}
 use Rattle.fs_linearize.specs.code.Calls.{AreEach}
+use Rattle.fs_linearize.specs.code.Replies.{replies_in, call_of, is_held, Returns, CanPass}
 use Rattle.fs_linearize.specs.code.Ways.{GoesBack, configurations}
 use Rattle.fs_linearize.specs.declared.reached.Reached.{Reached}
 use Rattle.fs_linearize.specs.declared.steps.Link.{Link}
 use Rattle.fs_linearize.specs.declared.under_way.UnderWay.{UnderWay}
-use Rattle.fs_linearize.proofs.FindingLemmas.{stands_first, stands_on, widened, here_at, rest_at, never_none, is_none, is_some, was_limited, no_order, begins_some, explains_at_end}
+use Rattle.fs_linearize.proofs.FindingLemmas.{stands_first, stands_on, widened, here_at, rest_at, never_none, was_limited, explains_at_end}
+use Rattle.fs_linearize.proofs.PossibleLemmas.{is_under_way, called_now, are_possible, no_order_here, passes_some}
 use Rattle.fs_linearize.proofs.SearchLemmas.{contains_got}
 use Rattle.fs_linearize.proofs.search.find_way.Goals as goal
 
 pub loop-place-init : goal.loop-place-init
-loop-place-init c = ([], stands_first c.args.start.now c.args.history.now c.args.limit c.new-calls.result.items c.new-links.result.items c.in_ok-layer.layer.items c.new-calls.ensures.items c.in_ok-layer.ensures)
+loop-place-init g c = ([], stands_first c.args.start.now c.args.history.now c.args.limit c.new-calls.result.items c.new-links.result.items c.in_ok-layer.layer.items c.is_a_tree.ensures c.new-calls.ensures.items c.in_ok-layer.ensures)
 
 pub returns-then-not-branch : goal.returns-then-not-branch
-returns-then-not-branch c =
+returns-then-not-branch g c =
     let start = c.args.start.now in
     let h = c.args.history.now in
     let place = c.loop-place.place in
@@ -30,10 +34,20 @@ returns-then-not-branch c =
     (widened start h c.args.limit place e us c.deref.result.now links mid layer wide most gone c.in_ok-widen.field-0 false c.deref.ensures.value c.if-not-branch.true s (c.in_ok-widen.ensures.widens h))
 
 pub overflow_sub-most : goal.overflow_sub-most
-overflow_sub-most c = let room = c.in_ok-widen.ensures.room c.if-not-branch.false in omega (arith, room, c.len.ensures, c.widen.new.layer.ok.0)
+overflow_sub-most g c = let room = c.in_ok-widen.ensures.room c.if-not-branch.false in omega (arith, room, c.len.ensures, c.widen.new.layer.ok.0)
 
-pub returns-in-Return : goal.returns-in-Return
-returns-in-Return c =
+pub possible_replies-requires : goal.possible_replies-requires
+possible_replies-requires g c =
+    let h = c.args.history.now in
+    let place = c.loop-place.place in
+    let e = c.index-history-place.result in
+    let us = c.loop-place.calls.items in
+    let here = here_at h place e c.loop-place-test.true c.index-history-place.is in
+    let found = is_under_way h place c.in-Some.number e us c.requires here c.in-Some.ensures.some.0 c.loop-place.invariant.1.calls in
+    (found.0, called_now c.get.result c.in-Some.number c.deref-in-Some.result.now us found.0 c.get.ensures c.deref-in-Some.ensures.value found.1)
+
+pub returns-in-Some : goal.returns-in-Some
+returns-in-Some g c =
     let start = c.args.start.now in
     let h = c.args.history.now in
     let place = c.loop-place.place in
@@ -41,48 +55,27 @@ returns-in-Return c =
     let us = c.loop-place.calls.items in
     let links = c.loop-place.links.items in
     let mid = c.widen.new.links.items in
-    let new = c.pass.new.links.items in
     let layer = c.loop-place.layer.items in
     let wide = c.widen.new.layer.items in
-    let behind = c.in_ok-layer-2.layer.items in
     let most = c.loop-place.most in
     let gone = c.loop-place.invariant.0 in
     let s = c.loop-place.invariant.1 in
     let here = here_at h place e c.loop-place-test.true c.index-history-place.is in
     let w = widened start h c.args.limit place e us c.deref.result.now links mid layer wide most gone c.in_ok-widen.field-0 true c.deref.ensures.value c.if-not-branch.false s (c.in_ok-widen.ensures.widens h) in
-    let calls = c.in_ok-calls.ensures h place c.requires here (rest_at h place) s.calls in
-    let p = c.in_ok-layer-2.ensures h place c.requires here refl w.widens.there (subst (λ (ws : List UnderWay). AreEach h (place + 1) ws) (sym c.deref-in-loop-place.ensures.value) calls.each) in
-    let long : c.in_ok-layer-2.layer.len ≡ length behind = omega (arith, c.in_ok-layer-2.layer.ok.0) in
-    let none = is_none behind c.in_ok-layer-2.layer.len c.is_empty.result long c.is_empty.ensures c.if-is_empty.true in
+    let number = c.in-Some.number in
+    let returns : Returns e number = c.in-Some.ensures.some.0 in
+    let none : is_held number wide ≡ false = subst (λ (rs : List Reached). is_held number rs ≡ false) c.deref-in-loop-place.ensures.value c.in-Some.ensures.some.1 in
     let at : place + 1 - 1 ≡ place = omega arith in
-    (no_order start h c.args.limit place e us links mid new layer wide behind most gone here s w p none, (c.in-Return.field-1, ap (slice_get h) at ∙ here ∙ ap Some c.in-Return.is))
-
-pub unreachable-requires : goal.unreachable-requires
-unreachable-requires c =
-    let start = c.args.start.now in
-    let h = c.args.history.now in
-    let place = c.loop-place.place in
-    let e = c.index-history-place.result in
-    let us = c.loop-place.calls.items in
-    let links = c.loop-place.links.items in
-    let mid = c.widen.new.links.items in
-    let new = c.pass.new.links.items in
-    let layer = c.loop-place.layer.items in
-    let wide = c.widen.new.layer.items in
-    let behind = c.in_ok-layer-2.layer.items in
-    let most = c.loop-place.most in
-    let gone = c.loop-place.invariant.0 in
-    let s = c.loop-place.invariant.1 in
-    let here = here_at h place e c.loop-place-test.true c.index-history-place.is in
-    let w = widened start h c.args.limit place e us c.deref.result.now links mid layer wide most gone c.in_ok-widen.field-0 true c.deref.ensures.value c.if-not-branch.false s (c.in_ok-widen.ensures.widens h) in
-    let calls = c.in_ok-calls.ensures h place c.requires here (rest_at h place) s.calls in
-    let p = c.in_ok-layer-2.ensures h place c.requires here refl w.widens.there (subst (λ (ws : List UnderWay). AreEach h (place + 1) ws) (sym c.deref-in-loop-place.ensures.value) calls.each) in
-    let long : c.in_ok-layer-2.layer.len ≡ length behind = omega (arith, c.in_ok-layer-2.layer.ok.0) in
-    let none = is_none behind c.in_ok-layer-2.layer.len c.is_empty.result long c.is_empty.ensures c.if-is_empty.true in
-    begins_some start h c.args.limit place c.in-Begin.field-0 c.in-Begin.field-1 c.in-Begin.field-2 e us links mid new layer wide behind most gone c.in-Begin.is s w p none
+    let told = λ (call : Call) (is : call_of number us ≡ Some call).
+    subst (λ (rs : List Reached). AreTold (replies_in call rs) c.in_ok-possible.possible) c.deref-in-Some-2.ensures.value
+    (c.in_ok-possible.ensures call (called_now c.get.result number c.deref-in-Some.result.now us call c.get.ensures c.deref-in-Some.ensures.value is)) in (
+      no_order_here start h c.args.limit place number e us links mid layer wide most gone here returns none s w,
+      (returns.0, ap (slice_get h) at ∙ here ∙ ap Some returns.1),
+      are_possible start h c.args.limit place number e us links mid layer wide most gone c.in_ok-possible.possible c.requires here returns none s w told,
+    )
 
 pub loop-place-preserved : goal.loop-place-preserved
-loop-place-preserved c =
+loop-place-preserved g c =
     let start = c.args.start.now in
     let h = c.args.history.now in
     let place = c.loop-place.place in
@@ -100,25 +93,25 @@ loop-place-preserved c =
     let here = here_at h place e c.loop-place-test.true c.index-history-place.is in
     let w = widened start h c.args.limit place e us c.deref.result.now links mid layer wide most gone c.in_ok-widen.field-0 true c.deref.ensures.value c.if-not-branch.false s (c.in_ok-widen.ensures.widens h) in
     let calls = c.in_ok-calls.ensures h place c.requires here (rest_at h place) s.calls in
-    let p = c.in_ok-layer-2.ensures h place c.requires here refl w.widens.there (subst (λ (ws : List UnderWay). AreEach h (place + 1) ws) (sym c.deref-in-loop-place.ensures.value) calls.each) in
-    let long : c.in_ok-layer-2.layer.len ≡ length behind = omega (arith, c.in_ok-layer-2.layer.ok.0) in
-    let some = is_some behind c.in_ok-layer-2.layer.len c.is_empty.result long c.is_empty.ensures c.if-is_empty.false in
+    let p = c.in_ok-layer-2.ensures h place c.requires here refl w.widens.there (subst (λ (ws : List UnderWay). AreEach h (place + 1) ws) (sym c.deref-in-loop-place-2.ensures.value) calls.each) in
+    let can : CanPass e wide = subst (CanPass e) c.deref-in-loop-place.ensures.value c.in_default.ensures.none in
+    let some = passes_some start h c.args.limit place e us links mid new layer wide behind most gone can s w p in
     let left = most - c.len.result in
     let room : most ≤ left + length wide = omega (arith, c.len.ensures, c.widen.new.layer.ok.0) in
     (gone ++ configurations wide, stands_on start h c.args.limit place e us c.in_ok-calls.calls.items links mid new layer wide behind most left gone here s w p calls room some)
 
-pub unreachable-requires-in_default : goal.unreachable-requires-in_default
-unreachable-requires-in_default c =
+pub unreachable-requires : goal.unreachable-requires
+unreachable-requires g c =
     let s = c.loop-place.invariant.1 in
-    never_none c.loop-place.layer.items s.some (subst (λ (rs : List Reached). slice_get rs 0 ≡ None) c.deref-2.ensures.value (sym c.first.ensures.value ∙ ap option_copied c.in_default.is))
+    never_none c.loop-place.layer.items s.some (subst (λ (rs : List Reached). slice_get rs 0 ≡ None) c.deref-2.ensures.value (sym c.first.ensures.value ∙ ap option_copied c.in_default-first.is))
 
 pub returns : goal.returns
-returns c =
+returns g c =
     let h = c.args.history.now in
     let layer = c.loop-place.layer.items in
     let links = c.loop-place.links.items in
-    let r = c.in-Some.reached.now in
+    let r = c.in-Some-first.reached.now in
     let past : c.loop-place.place ≡ length h = omega (arith, c.loop-place-test.false, c.loop-place.auto.place-end) in
-    let there = subst (λ (rs : List Reached). Contains rs r) c.deref-2.ensures.value (contains_got c.deref-2.result.now 0 r c.in-Some.ensures.value) in
+    let there = subst (λ (rs : List Reached). Contains rs r) c.deref-2.ensures.value (contains_got c.deref-2.result.now 0 r c.in-Some-first.ensures.value) in
     explains_at_end c.args.start.now h c.args.limit c.loop-place.place c.loop-place.calls.items links layer c.loop-place.most c.loop-place.invariant.0 r c.in_ok-steps.steps.items c.loop-place.invariant.1 past there
     (λ ss k. c.in_ok-steps.ensures ss (subst (λ (ls : List Link). GoesBack ls (length h) r.last ss) (sym c.deref-3.ensures.value) k))

@@ -8,7 +8,7 @@ use Rattle.fs_recorded.proofs.ReadingLemmas.{within}
 use Rattle.fs_recorded.proofs.linearizing.linearize_text.Goals as goal
 
 pub returns : goal.returns
-returns c =
+returns g c =
     let lines = c.in_ok-lines.ensures.ok in
     subst (λ (given : Result (Start × List Heard) ScriptFault). MakesFound given c.args.limit c.args.front c.linearize_lines.result)
     (within c.args.text.now (words_in c.deref.result.now) lines.0 (ap words_in c.deref.ensures.value ∙ lines.1)) c.linearize_lines.ensures

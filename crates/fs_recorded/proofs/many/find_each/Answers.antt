@@ -3,7 +3,7 @@ use Rattle.fs_recorded.proofs.ManyLemmas.{step_told, rest_all, within_more}
 use Rattle.fs_recorded.proofs.many.find_each.Goals as goal
 
 pub pieces-preserved : goal.pieces-preserved
-pieces-preserved c =
+pieces-preserved g c =
     let lines = c.args.lines.now in
     let at = c.pieces.at in
     let count = c.piece_length-count.result in

@@ -5,10 +5,10 @@ use Rattle.fs_recorded.proofs.ManyLemmas.{AreToldFrom}
 use Rattle.fs_recorded.proofs.many.find_each.Given as goal
 
 abbrev pub invariant-pieces : goal.invariant-pieces
-invariant-pieces l = record {
+invariant-pieces g l = record {
   within : l.at ≤ length l.lines;
   told : AreToldFrom (histories_by 0 (pieces_of (words_in l.lines))) (histories_by l.at (pieces_of (words_in (drop l.at l.lines)))) l.limit l.told.outcomes.items l.told.text.items;
 }
 
 abbrev pub decreases-pieces : goal.decreases-pieces
-decreases-pieces l = length l.lines - l.at
+decreases-pieces g l = length l.lines - l.at

@@ -5,7 +5,7 @@ use Rattle.fs_recorded.proofs.ManyLemmas.{many_by}
 use Rattle.fs_recorded.proofs.many.linearize_text.Goals as goal
 
 pub returns : goal.returns
-returns c =
+returns g c =
     let lines = c.in_ok-lines.ensures.ok in
     subst (λ (given : Given). MakesMany given c.args.limit c.linearize_lines.result)
     (many_by c.args.text.now (words_in c.deref.result.now) lines.0 (ap words_in c.deref.ensures.value ∙ lines.1)) c.linearize_lines.ensures
