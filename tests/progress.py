@@ -22,6 +22,15 @@ def renames(threads, calls):
     return b"atomfs 1\nthread t0\n" + first + others + b"schedule\nfinish\n"
 
 
+def exchanges(rounds, histories=1):
+    """Histories in which the first of ten exchanges of two directories returns while all are under way, again and again: of each round a thousand orders
+    are looked at."""
+    lines = ["atomfs-journal 2", "start", "dir /", "dir /a", "dir /b", "entries"]
+    for first in range(1, 10 * rounds, 10):
+        lines += [f"begin {first + seat} {seat} exchange /a /b" for seat in range(10)] + [f"return {first + seat} ok" for seat in range(10)]
+    return histories * "".join(f"{line}\n" for line in lines).encode()
+
+
 # Each takes longer than the quarter of a second after which something is shown first.
 SHORT = b"atomfs 1\nthread a\nmkdir /a\nschedule\nfinish\n"
 ROWS = (
@@ -29,6 +38,8 @@ ROWS = (
     ("run_drawn", renames(200, 100), ("run", "--seed", "7")),
     ("seeds", renames(4, 100), ("seeds", "--seed", "1", "--runs", "1000")),
     ("threads", renames(5, 16_000), ("threads",)),
+    ("linearize", exchanges(400), ("linearize",)),
+    ("linearize_many", exchanges(1, 400), ("linearize", "--many")),
 )
 
 
@@ -84,6 +95,7 @@ class Progress(Case):
         for words in (("run",), ("seeds", "--seed", "1", "--runs", "3"), ("threads",), ("trace",), ("draw",), ("schedule", "--robin")):
             with self.subTest(words[0]):
                 self.assertEqual(on_terminal(SHORT, *words)[2], b"")
+        self.assertEqual(on_terminal(exchanges(1), "linearize")[2], b"")
 
     def test_fault(self):
         """The message of a fault stands alone."""

@@ -27,7 +27,7 @@ use fs_explain::{Topic, explanation};
 use fs_find::{Clause, FindFault, find_seed, read_what};
 use fs_objects::{check_object, find_object, seed_objects};
 use fs_outcomes::{Form, add_outcomes, run_outcomes};
-use fs_recorded::{linearize_history, linearize_many};
+use fs_recorded::{Histories as Found, Linearized, Untold, linearize_history, linearize_many};
 use fs_replay::{Asked, ReplayFault, Replayed, read_question, replay_input};
 use fs_sched::{
     Device, RunFault, Schedule, Silent, Sink, Source, Witness, check_journal, run_script,
@@ -471,6 +471,49 @@ fn threads_shown<T: Threads + Wait + Clock + Sync, R: Source, W: Sink>(
     outcome
 }
 
+/// Linearizes a history, and tells on a terminal how far that is.
+fn linearize_shown<C: Clock, R: Source, W: Sink>(
+    clock: &C,
+    alloc: Global,
+    reader: &mut R,
+    writer: &mut W,
+    limit: usize,
+    front: bool,
+    terminal: Option<Stderr>,
+) -> Result<Linearized, RunFault>
+    requires reads { R.failures reader.old < 2 ^ 64 - 1 }
+    requires writes { W.failures writer.old < 2 ^ 64 - 1 }
+{
+    let Some(errors) = terminal else {
+        return linearize_history(alloc, reader, writer, limit, front, &mut Untold);
+    };
+    let mut line = Line::new(alloc, clock, errors);
+    let outcome = linearize_history(alloc, reader, writer, limit, front, &mut line);
+    line.end();
+    outcome
+}
+
+/// Linearizes histories one after the other, and tells on a terminal how far that is.
+fn many_shown<C: Clock, R: Source, W: Sink>(
+    clock: &C,
+    alloc: Global,
+    reader: &mut R,
+    writer: &mut W,
+    limit: usize,
+    terminal: Option<Stderr>,
+) -> Result<Found, RunFault>
+    requires reads { R.failures reader.old < 2 ^ 64 - 1 }
+    requires writes { W.failures writer.old < 2 ^ 64 - 1 }
+{
+    let Some(errors) = terminal else {
+        return linearize_many(alloc, reader, writer, limit, &mut Untold);
+    };
+    let mut line = Line::new(alloc, clock, errors);
+    let outcome = linearize_many(alloc, reader, writer, limit, &mut line);
+    line.end();
+    outcome
+}
+
 /// Does what a subcommand asks for, from a reader to a writer, and answers the exit status. The message of a fault goes
 /// to `errors`. Where these are shown on a terminal, that is told how far a long command is.
 fn perform<T: Threads + Wait + Clock + Files + Sync, R: Source, W: Sink, E: Write>(
@@ -523,14 +566,13 @@ fn perform<T: Threads + Wait + Clock + Files + Sync, R: Source, W: Sink, E: Writ
             return report_check(errors, check_object(alloc, reader, writer));
         }
         Subcommand::Linearize(Histories::Many, limit) => {
-            return report_many(
-                errors,
-                linearize_many(alloc, reader, writer, *limit as usize),
-            );
+            let outcome = many_shown(rt, alloc, reader, writer, *limit as usize, terminal);
+            return report_many(errors, outcome);
         }
         Subcommand::Linearize(histories, limit) => {
             let front = *histories == Histories::Front;
-            let outcome = linearize_history(alloc, reader, writer, *limit as usize, front);
+            let limit = *limit as usize;
+            let outcome = linearize_shown(rt, alloc, reader, writer, limit, front, terminal);
             return report_linearize(errors, outcome);
         }
         Subcommand::Explain(first, second) => explain(alloc, writer, *first, *second),

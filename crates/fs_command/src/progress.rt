@@ -1,6 +1,7 @@
 //! How far a command is, told on a terminal: one line, which is written anew in its place and erased at the end.
 
 use fs_core::{Core, Stepped};
+use fs_recorded::Progress;
 use fs_sched::{Moment, Witness};
 use fs_share::Gate;
 use fs_threads::Watch;
@@ -74,6 +75,19 @@ impl Share {
     }
 }
 
+/// Adds how many entries of a history have passed, of how many, and for how many configurations that was.
+fn push_entries(
+    passed: usize,
+    all: usize,
+    configurations: usize,
+    words: &mut Addition,
+) -> Result<(), AllocError> {
+    words.push_number(passed as u64)?;
+    words.push_with_number(b" of ", all as u64)?;
+    words.push_with_number(b" entries, ", configurations as u64)?;
+    words.push(b" configurations")
+}
+
 /// The words of a line, from its left end on, with spaces up to its width.
 fn line_of(alloc: Global, words: &[u8]) -> Result<Vec<u8>, AllocError> {
     let mut line = Vec::new(alloc);
@@ -109,7 +123,7 @@ impl Terminal {
     }
 }
 
-/// How far runs are.
+/// How far runs are, or a search for an order.
 #[derive(Drop)]
 pub struct Line<'a, C: Clock> {
     terminal: Terminal,
@@ -219,6 +233,31 @@ impl<'a, C: Clock> Witness for Line<'a, C> {
                     gone,
                 },
                 b" runs",
+            );
+        }
+    }
+}
+
+impl<'a, C: Clock> Progress for Line<'a, C> {
+    fn passed(&mut self, entries: usize, all: usize, configurations: usize) {
+        if self.is_time().is_none() {
+            return;
+        }
+        let mut words = Addition::new(Vec::new(self.terminal.alloc));
+        if push_entries(entries, all, configurations, &mut words).is_ok() {
+            self.terminal.show(words.kept().as_slice());
+        }
+    }
+
+    fn read(&mut self, lines: usize, all: usize) {
+        if let Some(gone) = self.is_time() {
+            self.show(
+                Share {
+                    done: lines as u64,
+                    all: all as u64,
+                    gone,
+                },
+                b" lines",
             );
         }
     }

@@ -50,11 +50,14 @@ pub fn report<E: Write>(errors: &mut E, outcome: Result<u8, ThreadsFault>) -> u8
     }
 }
 
-/// Writes what is wrong, if anything is.
+/// Writes what is wrong, if anything is, line by line.
 fn tell<E: Write>(errors: &mut E, reason: &[u8]) {
-    if !reason.is_empty() {
+    if reason.is_empty() {
+        return;
+    }
+    for line in reason.split(|byte| *byte == b'\n') {
         let _ = errors.write_all(b"atomfs: ");
-        let _ = errors.write_all(reason);
+        let _ = errors.write_all(line);
         let _ = errors.write_all(b"\n");
     }
 }
@@ -83,7 +86,7 @@ fn status_of_outcome(outcome: Outcome) -> u8
 }
 
 /// The status that a history came to, or that of its fault, whose message is written. Of `none` and `fault` the message
-/// says which entry that is, and of which call.
+/// says which entry that is, and of which call, and of `none` what the call could have replied.
 pub fn report_linearize<E: Write>(errors: &mut E, outcome: Result<Linearized, RunFault>) -> u8
     ensures { result ≡ status_of_linearized outcome }
 {
