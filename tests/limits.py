@@ -22,8 +22,8 @@ STACK = 128 * 1024
 # The largest file by the second limits.
 FILE_BY_SECOND = 1_048_576
 ROOM = 268_435_456
-# The most bytes that are held for each event of a run that is drawn or scheduled, and of one that is traced, whose text is copied once.
-EACH_EVENT, EACH_TRACED = 64, 96
+# The most bytes that are held for each event of a run that is traced, drawn or scheduled.
+EACH_EVENT = 64
 RUN, CHECK, SEEDS = ("run",), ("check",), ("seeds", "--seed", "1", "--runs", "3")
 LAWFUL = Outcome(0, b"lawful\n")
 LAWFUL_SEEDS = Outcome(0, b"seed 1 lawful\nseed 2 lawful\nseed 3 lawful\n")
@@ -92,8 +92,9 @@ def nodes(count):
     return script(f"mkdir /{number}" if number < ENTRIES else f"mknod /{number % ENTRIES}/{number}" for number in range(count))
 
 
-def entries(count):
-    return script(f"mknod /{number}" for number in range(count))
+def entries(count, *more):
+    """So many calls that each make an entry of the root, and others behind them."""
+    return script((*(f"mknod /{number}" for number in range(count)), *more))
 
 
 def deep(levels):
@@ -239,6 +240,7 @@ class Limits(Case):
             (f"a file of {FILE + 1} bytes", script(["mknod /f", past]), RUN, well(alone(2, past, "failed EFBIG"), finished(2, "file /f -"))),
             (f"{ENTRIES} entries", entries(ENTRIES), RUN, well(finished(ENTRIES, *full))),
             (f"{ENTRIES + 1} entries", entries(ENTRIES + 1), RUN, well(alone(257, "mknod /256", "failed ENOSPC"), finished(257, *full))),
+            ("entries that are there, where no more may be", entries(ENTRIES, "mkdir /0", "mknod /1"), RUN, well(alone(257, "mkdir /0", "failed EEXIST"), alone(258, "mknod /1", "failed EEXIST"), finished(258, *full))),
         ), self.ends)
 
     def test_paths(self):
@@ -276,7 +278,7 @@ class Limits(Case):
             events = events or int(self.end(4_096).split(b"\ntree\n")[0].splitlines()[-1].split()[0])
             with self.subTest(" ".join(words)):
                 self.assertEqual(status, wanted)
-                self.assertLessEqual(most / events, EACH_TRACED if words[0] == "trace" else EACH_EVENT)
+                self.assertLessEqual(most / events, EACH_EVENT)
                 if self.measures:
                     print(f"{' '.join(words)}: {events} events, {most} bytes", flush=True)
 

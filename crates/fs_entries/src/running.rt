@@ -26,7 +26,7 @@ use fs_sched::{RunFault, Schedule, between, counts_of, journal_in, push_counts};
 use fs_script::Journal;
 use fs_seq::SeqTree;
 use fs_timeline::{Entry, Verdict};
-use fs_trace::trace_script;
+use fs_trace::trace_bytes;
 use fs_words::Addition;
 use std::alloc::{AllocError, Global};
 
@@ -163,18 +163,14 @@ fn trace_run(
 ) -> Result<Made<Traced>, RunFault>
     ensures { MakesTraceAs false schedule every text.now result }
 {
-    let mut reader = Device::new(text);
-    let mut writer = Device::new(Vec::new(alloc));
-    match trace_script(alloc, &mut reader, &mut writer, schedule, every) {
-        Ok(end) => Ok(Made {
-            text: writer.inner,
+    match trace_bytes(alloc, text, schedule, every) {
+        Ok(made) => Ok(Made {
+            text: made.text,
             end: Traced {
-                well: end.returned == end.calls,
+                well: made.end.returned == made.end.calls,
                 reason: Vec::new(alloc),
             },
         }),
-        // Bytes in memory are there to be read, and are written as long as there is memory.
-        Err(RunFault::Read | RunFault::Write) => Err(RunFault::OutOfMemory),
         Err(fault) => Err(fault),
     }
 }

@@ -41,20 +41,17 @@ fn trace_of(
     }
 }
 
-/// The trace of a script's run in memory, as `trace_script` writes it. The script is read where it stands.
+/// The trace of a script's run in memory, as `trace_script` writes it, and how the run ended. The script is read where it stands.
 pub fn trace_bytes(
     alloc: Global,
     script: &[u8],
     schedule: Schedule,
     every: bool,
-) -> Result<Vec<u8>, RunFault>
-    ensures traced { IfOk result (λ text. (end : RunEnd) × IsTraceOf schedule every script.now end text.items) }
+) -> Result<Made<RunEnd>, RunFault>
+    ensures traced { IfOk result (λ made. IsTraceOf schedule every script.now made.end made.text.items) }
     ensures fault { IfErr result (IsFaultOfRun schedule script.now) }
 {
-    match trace_of(alloc, script, schedule, every) {
-        Ok(made) => Ok(made.text),
-        Err(fault) => Err(fault),
-    }
+    trace_of(alloc, script, schedule, every)
 }
 
 /// A script's text with the moments of its run as its words.
