@@ -40,8 +40,7 @@ fn open_at(alloc: Global, handle: &mut Handle, start: SeqTree, limit: usize) -> 
     }
 }
 
-/// Opens a closed handle at the tree of a text, by the limits that have a version: the text of a tree, or a journal, at whose start tree it
-/// opens. It has at most `limit` nodes, the root included. Where the text has a fault its line is told.
+/// Opens a closed handle, for at most `limit` nodes, at the tree of a text or the start of a journal, by its limits; tells the line of a fault.
 #[unsafe(no_mangle)]
 pub extern "C" fn atomfs_open_from(
     alloc: Global,
@@ -72,8 +71,7 @@ pub extern "C" fn atomfs_open_from(
     }
 }
 
-/// Opens a closed handle at the tree as it stands behind another handle, by its limits of names and files. That one stays as
-/// it is, and no call of it may be under way.
+/// Opens a closed handle at the tree that stands behind another one, by its limits; that one stays, and may have no call under way.
 #[unsafe(no_mangle)]
 pub extern "C" fn atomfs_open_at(
     alloc: Global,

@@ -44,7 +44,7 @@ pub extern "C" fn atomfs_trace(
         return BAD_CHOICE;
     };
     match trace_bytes(alloc, script, by, is_set(every)) {
-        Ok(text) => tell(text.as_slice(), out, count),
+        Ok(made) => tell(made.text.as_slice(), out, count),
         Err(fault) => tell_fault(fault, count),
     }
 }

@@ -31,7 +31,7 @@ fn is_return(stepped: Stepped) -> bool {
 }
 
 /// How many events a call has from its begin to its return.
-fn events(alloc: Global, core: &mut Core, call: &Call) -> usize {
+pub fn events(alloc: Global, core: &mut Core, call: &Call) -> usize {
     let seat = SeatNo::new(0);
     if core.seats() == 0 || core.begin(alloc, seat, call).is_err() {
         return 0;

@@ -11,6 +11,7 @@ mod growth;
 mod observers;
 mod threads;
 mod tree;
+mod writes;
 
 use anyhow::Result;
 pub use ended::Before;
@@ -21,6 +22,9 @@ use std::time::Clock;
 
 /// How many calls are drawn, and how many reads each observer does, in the gate.
 const FEW: u32 = 500;
+
+/// How many writes are played in the gate.
+const FEW_WRITES: u32 = 20;
 
 /// The calls of two threads, in the gate.
 const CALLS: &[u8] = b"\
@@ -71,6 +75,11 @@ pub fn time_ended<R: Print + Threads + Wait + Clock + Sync>(
     ended::run(rt, alloc, before, times, renames)
 }
 
+/// So many writes of 4,000 bytes, whose calls are kept beside their journal.
+pub fn keep_writes<R: Print>(rt: &R, alloc: Global, writes: u32) -> Result<()> {
+    writes::run(rt, alloc, writes)
+}
+
 /// Each part with a few calls, and what calls cost as a tree grows.
 pub fn run<R: Print + Threads + Wait + Clock + Sync>(rt: &R, alloc: Global) -> Result<()> {
     tree::run(rt, alloc, FEW, false)?;
@@ -78,5 +87,6 @@ pub fn run<R: Print + Threads + Wait + Clock + Sync>(rt: &R, alloc: Global) -> R
     observers::run(rt, alloc, FEW.into(), false)?;
     ended::run(rt, alloc, Before::Session, 2, true)?;
     ended::run(rt, alloc, Before::Run, 2, true)?;
+    writes::run(rt, alloc, FEW_WRITES)?;
     growth::run(rt, alloc)
 }

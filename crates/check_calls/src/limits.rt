@@ -1,7 +1,7 @@
 //! The bytes of a file by both sets of limits: what a sequential tree replies at them and beyond.
 
 use anyhow::{Result, bail, ensure};
-use fs_calls::{Bytes, Call, Errno, Reply};
+use fs_calls::{Call, Data, Errno, Reply};
 use fs_names::{Kind, Limits, Path};
 use fs_seq::SeqTree;
 use std::alloc::Global;
@@ -33,8 +33,8 @@ enum Due {
 type Row = (Deed, Due, &'static str);
 
 /// One byte.
-fn byte(alloc: Global) -> Result<Bytes> {
-    Ok(Bytes::new(Vec::from_slice(alloc, &[7])?))
+fn byte(alloc: Global) -> Result<Data> {
+    Ok(Data::from_slice(alloc, &[7])?)
 }
 
 /// The call that does this.

@@ -3,7 +3,7 @@
 use crate::transcript::shown;
 use anyhow::{Result, bail, ensure};
 use check_cores::spelled::{calls_of, reply_in, return_of};
-use fs_calls::{Bytes, NameList, Reply};
+use fs_calls::{Bytes, Data, NameList, Reply};
 use fs_names::Name;
 use fs_text::Addition;
 use fs_text::words::parts;
@@ -50,6 +50,14 @@ pub fn two_parts(alloc: Global, at: usize, bytes: &[u8]) -> Result<String> {
     shown(alloc, &[front, back])
 }
 
+/// Whether copies of bytes that are written are the same bytes.
+fn are_shared(alloc: Global, bytes: &[u8]) -> Result<bool> {
+    let written = Data::from_slice(alloc, bytes)?;
+    let copy = written.copy()?;
+    let other = Data::new(Vec::from_slice(alloc, bytes)?)?;
+    Ok(copy.same(&written) && copy.same(&other) && copy.as_slice() == bytes)
+}
+
 /// Bytes, and their name, put into lists, copied and taken out again.
 pub fn held(alloc: Global, bytes: &[u8]) -> Result<String> {
     let list = Bytes::new(Vec::from_slice(alloc, bytes)?);
@@ -59,7 +67,10 @@ pub fn held(alloc: Global, bytes: &[u8]) -> Result<String> {
         names.push(name)?;
     }
     let names = NameList::new(names);
-    let are_same = copy.same(&list) && names.same(&names) && copy.as_slice() == bytes;
+    let are_same = copy.same(&list)
+        && names.same(&names)
+        && copy.as_slice() == bytes
+        && are_shared(alloc, bytes)?;
     let (length, count) = (list.into_vec().len(), names.as_slice().len());
     let taken = names.into_vec().len();
     Ok(format!(in alloc; "{length} bytes, {count} name, {taken} taken, same: {are_same}")?)

@@ -1,7 +1,8 @@
 //! The calls of a store that have conditions, each after a look at them. The two stores have the same
 //! calls, so what follows is written twice, word for word.
 
-ghost use Rattle.std.specs.Prelude.{IsTrue};
+ghost use Rattle.std.specs.Prelude.{◌≤◌, IsTrue};
+ghost use Rattle.fs_names.specs.declared.limits.TheConstants.{NODE_LIMIT};
 ghost use Rattle.fs_nodes.specs.Graphs.{IsReached};
 ghost use Rattle.fs_nodes.specs.Seen.{seen, IsReal};
 ghost use Rattle.fs_nodes.specs.Stores.{child};
@@ -26,6 +27,16 @@ pub struct Plain {
 }
 
 impl Linked {
+    /// The root alone, in a store for so many nodes.
+    pub fn new(alloc: Global, limit: usize) -> Result<Linked, AllocError>
+        requires least { 1 ≤ limit }
+        requires most { limit ≤ NODE_LIMIT }
+    {
+        Ok(Linked {
+            store: Store::new(alloc, limit)?,
+        })
+    }
+
     /// The kind of a node in use.
     pub fn kind(&self, node: NodeNo) -> Option<Kind> {
         if !self.store.is_used(node) {
@@ -133,6 +144,16 @@ impl Linked {
 }
 
 impl Plain {
+    /// The root alone, in a store for so many nodes.
+    pub fn new(alloc: Global, limit: usize) -> Result<Plain, AllocError>
+        requires least { 1 ≤ limit }
+        requires most { limit ≤ NODE_LIMIT }
+    {
+        Ok(Plain {
+            store: plain::Store::new(alloc, limit)?,
+        })
+    }
+
     /// The kind of a node in use.
     pub fn kind(&self, node: NodeNo) -> Option<Kind> {
         if !self.store.is_used(node) {

@@ -1,153 +1,260 @@
 //! The store in use: each call of it once, with the answer that is wanted.
 
+ghost use Rattle.std.specs.Prelude.{◌≤◌};
+ghost use Rattle.fs_names.specs.declared.limits.TheConstants.{NODE_LIMIT};
+
 use crate::calls::Linked;
 use anyhow::{Result, bail};
 use fs_names::{Kind, Name};
-use fs_nodes::{NoNode, NodeNo, Store};
-use std::alloc::Global;
+use fs_nodes::{NoNode, NodeNo};
+use std::alloc::{AllocError, Global};
 
-/// An error where an answer is not the one that is wanted.
-fn hold(answers: &[(bool, &'static str)]) -> Result<()> {
-    for (wanted, what) in answers {
-        if !*wanted {
+/// A name in a directory, which stands here by its number.
+type At = (usize, &'static [u8]);
+
+/// An entry that is read: its name, and the node that it names.
+type Entry = Option<(&'static [u8], usize)>;
+
+/// What is done with a store, and what it answers.
+#[derive(Clone, Copy)]
+enum Deed {
+    /// A number is reserved; none is left.
+    Reserve(Kind, Option<usize>),
+    Link(At, usize, bool),
+    Unlink(At, Option<usize>),
+    Move(At, At, bool),
+    /// A number goes, and is free then.
+    Release(usize),
+    Find(At, Option<usize>),
+    /// An entry is found, after a look at so many.
+    FindSteps(At, usize, usize),
+    Parent(usize, Option<usize>),
+    Entries(usize, usize),
+    IsFile(usize),
+    /// The first entry of a directory, or the next one behind a name.
+    Next(usize, Option<&'static [u8]>, Entry),
+    After(usize, Entry),
+    /// A file gets bytes, and has them; the old ones are handed out.
+    Swap(usize, &'static [u8], &'static [u8]),
+}
+
+/// A deed, and what it says.
+type Row = (Deed, &'static str);
+
+/// The one free number of a store of two nodes becomes a directory's, which gets an entry and another name, and goes; then it is
+/// had again.
+const TWO_NUMBERS: &[Row] = &[
+    (Deed::Reserve(Kind::Dir, Some(1)), "a number"),
+    (Deed::Reserve(Kind::File, None), "a third number"),
+    (Deed::Link((1, b"a"), 1, false), "no directory below itself"),
+    (Deed::Link((0, b"a"), 1, true), "an entry"),
+    (Deed::Find((0, b"a"), Some(1)), "the entry's node"),
+    (Deed::Find((1, b"a"), None), "another directory"),
+    (Deed::Parent(1, Some(0)), "the parent"),
+    (Deed::Move((0, b"a"), (0, b"b"), true), "another name"),
+    (Deed::Find((0, b"a"), None), "the old name"),
+    (Deed::Unlink((0, b"b"), Some(1)), "what goes"),
+    (Deed::Entries(0, 0), "no entries"),
+    (Deed::Release(1), "a number back"),
+    (Deed::Reserve(Kind::File, Some(1)), "the number again"),
+    (Deed::IsFile(1), "a file now"),
+];
+
+/// Names come in the order of their bytes, and an entry moves from one directory to another.
+const NAMES_IN_ORDER: &[Row] = &[
+    (Deed::Reserve(Kind::File, Some(1)), "a first number"),
+    (Deed::Reserve(Kind::Dir, Some(2)), "a second number"),
+    (Deed::Reserve(Kind::File, Some(3)), "a third number"),
+    (Deed::Link((0, b"bb"), 1, true), "bb"),
+    (Deed::Link((0, b"a"), 2, true), "a"),
+    (Deed::Link((0, b"b"), 3, true), "b"),
+    (Deed::Next(0, None, Some((b"a", 2))), "a is the first"),
+    (Deed::After(2, Some((b"b", 3))), "b is the next"),
+    (
+        Deed::Next(0, Some(b"b"), Some((b"bb", 1))),
+        "bb is the last",
+    ),
+    (Deed::After(1, None), "the end"),
+    (Deed::FindSteps((0, b"b"), 3, 1), "one looked at"),
+    (Deed::Move((0, b"b"), (2, b"bb"), true), "another directory"),
+    (Deed::Find((2, b"bb"), Some(3)), "its new name"),
+    (Deed::Entries(0, 2), "two are left"),
+    (Deed::Move((0, b"a"), (2, b"b"), false), "nor after a move"),
+    (Deed::Unlink((0, b"a"), None), "an entry below it"),
+];
+
+/// The bytes of a file are handed over and handed out.
+const BYTES_OF_A_FILE: &[Row] = &[
+    (Deed::Reserve(Kind::File, Some(1)), "a file"),
+    (Deed::Swap(1, b"abc", b""), "nothing out"),
+    (Deed::Swap(1, b"", b"abc"), "the bytes out"),
+];
+
+fn node(number: usize) -> NodeNo {
+    NodeNo::new(number)
+}
+
+/// The number of a node, if there is one.
+fn number(node: Option<NodeNo>) -> Option<usize> {
+    node.map(NodeNo::get)
+}
+
+/// Whether a number is reserved, which is this one, or none is left.
+fn reserves(used: &mut Linked, kind: Kind, due: Option<usize>) -> bool {
+    match used.store.reserve(kind) {
+        Ok(node) => due == Some(node.get()),
+        Err(why) => due.is_none() && why == NoNode::Full,
+    }
+}
+
+/// Whether a node becomes an entry.
+fn link(used: &mut Linked, at: At, of: usize) -> Option<bool> {
+    let name = Name::read(at.1)?;
+    Some(used.link(node(at.0), &name, node(of)))
+}
+
+/// The node whose entry goes.
+fn unlink(used: &mut Linked, at: At) -> Option<Option<usize>> {
+    let name = Name::read(at.1)?;
+    Some(number(used.unlink(node(at.0), &name)))
+}
+
+/// Whether an entry goes elsewhere.
+fn move_entry(used: &mut Linked, at: At, to: NodeNo, new_name: &Name) -> Option<bool> {
+    let name = Name::read(at.1)?;
+    Some(used.move_entry(node(at.0), &name, to, new_name))
+}
+
+/// The same by the name there.
+fn move_to(used: &mut Linked, at: At, to: At) -> Option<bool> {
+    let name = Name::read(to.1)?;
+    move_entry(used, at, node(to.0), &name)
+}
+
+/// The node of an entry, and at how many entries was looked.
+fn find(used: &Linked, at: At) -> Option<(Option<usize>, usize)> {
+    let name = Name::read(at.1)?;
+    let (found, steps) = used.store.find_steps(node(at.0), &name);
+    Some((number(found), steps))
+}
+
+/// Whether this is the node of an entry, in both ways of looking for it.
+fn finds(used: &Linked, at: At, due: Option<usize>) -> Option<bool> {
+    let name = Name::read(at.1)?;
+    Some(number(used.store.find(node(at.0), &name)) == due)
+}
+
+/// Whether an entry that was read is this one.
+fn is_entry(entry: &Option<(Name, NodeNo)>, due: Entry) -> bool {
+    match (entry, due) {
+        (Some((name, node)), Some((text, number))) => name.bytes() == text && node.get() == number,
+        (None, None) => true,
+        _ => false,
+    }
+}
+
+/// Whether the next entry behind a name is this one.
+fn is_behind(used: &Linked, dir: usize, name: &'static [u8], due: Entry) -> Option<bool> {
+    let name = Name::read(name)?;
+    Some(is_entry(&used.store.next_name(node(dir), Some(&name)), due))
+}
+
+/// Whether the first entry of a directory, or the next one, is this one.
+fn is_next(used: &Linked, dir: usize, low: Option<&'static [u8]>, due: Entry) -> Option<bool> {
+    match low {
+        Some(name) => is_behind(used, dir, name, due),
+        None => Some(is_entry(&used.store.next_name(node(dir), None), due)),
+    }
+}
+
+/// Whether a number goes, and is free then.
+fn is_released(used: &mut Linked, of: usize) -> bool {
+    used.release(node(of)) && !used.store.is_used(node(of))
+}
+
+/// Whether those bytes are handed out for these.
+fn hands_out(
+    alloc: Global,
+    used: &mut Linked,
+    file: usize,
+    bytes: &[u8],
+    due: &[u8],
+) -> Result<bool, AllocError> {
+    match used.swap_content(alloc, node(file), bytes)? {
+        Some(old) => Ok(old.as_slice() == due),
+        None => Ok(false),
+    }
+}
+
+/// Whether a file has the old bytes first, and these behind the swap.
+fn is_swapped(
+    alloc: Global,
+    used: &mut Linked,
+    file: usize,
+    bytes: &[u8],
+    due: &[u8],
+) -> Result<bool, AllocError> {
+    Ok(
+        used.store.content(node(file)) == due
+            && hands_out(alloc, used, file, bytes, due)?
+            && used.store.content(node(file)) == bytes,
+    )
+}
+
+/// Whether a look answers so; none where the deed is no look.
+fn is_seen(used: &Linked, deed: Deed) -> Option<bool> {
+    match deed {
+        Deed::Find(at, due) => finds(used, at, due),
+        Deed::FindSteps(at, due, steps) => Some(find(used, at)? == (Some(due), steps)),
+        Deed::Parent(of, due) => Some(number(used.store.parent(node(of))) == due),
+        Deed::Entries(dir, due) => Some(used.store.entries(node(dir)) == due),
+        Deed::IsFile(file) => Some(used.store.is_file(node(file))),
+        Deed::Next(dir, low, due) => is_next(used, dir, low, due),
+        Deed::After(of, due) => Some(is_entry(&used.store.next_entry_after(node(of)), due)),
+        _ => None,
+    }
+}
+
+/// Whether a change answers so, or a look.
+fn is_done(used: &mut Linked, deed: Deed) -> Option<bool> {
+    match deed {
+        Deed::Reserve(kind, due) => Some(reserves(used, kind, due)),
+        Deed::Link(at, of, due) => Some(link(used, at, of)? == due),
+        Deed::Unlink(at, due) => Some(unlink(used, at)? == due),
+        Deed::Move(at, to, due) => Some(move_to(used, at, to)? == due),
+        Deed::Release(of) => Some(is_released(used, of)),
+        look => is_seen(used, look),
+    }
+}
+
+/// Whether a deed comes out as it must.
+fn comes_out(alloc: Global, used: &mut Linked, deed: Deed) -> Result<bool, AllocError> {
+    match deed {
+        Deed::Swap(file, bytes, due) => is_swapped(alloc, used, file, bytes, due),
+        other => Ok(is_done(used, other) == Some(true)),
+    }
+}
+
+fn use_store(alloc: Global, used: &mut Linked, rows: &[Row]) -> Result<()> {
+    for (deed, what) in rows {
+        if !comes_out(alloc, used, *deed)? {
             bail!("not so: {what}");
         }
     }
     Ok(())
 }
 
-fn name(bytes: &[u8]) -> Result<Name> {
-    match Name::read(bytes) {
-        Some(name) => Ok(name),
-        None => bail!("no name"),
-    }
+/// Uses a store for so many nodes.
+fn use_new(alloc: Global, limit: usize, rows: &[Row]) -> Result<()>
+    requires least { 1 ≤ limit }
+    requires most { limit ≤ NODE_LIMIT }
+{
+    use_store(alloc, &mut Linked::new(alloc, limit)?, rows)
 }
 
-/// The one free number of a store of two nodes becomes a directory's, which gets an entry and another name, and goes.
-fn use_number(used: &mut Linked, dir: NodeNo, a: &Name, b: &Name) -> Result<()> {
-    let root = NodeNo::new(0);
-    hold(&[
-        (!used.link(dir, a, dir), "no directory below itself"),
-        (used.link(root, a, dir), "an entry"),
-        (used.store.find(root, a) == Some(dir), "the entry's node"),
-        (used.store.find(dir, a).is_none(), "another directory"),
-        (used.store.parent(dir) == Some(root), "the parent"),
-        (used.move_entry(root, a, root, b), "another name"),
-        (used.store.find(root, a).is_none(), "the old name"),
-        (used.unlink(root, b) == Some(dir), "what goes"),
-        (used.store.entries(root) == 0, "no entries"),
-        (used.release(dir), "a number back"),
-        (!used.store.is_used(dir), "the number is free"),
-    ])
-}
-
-/// A number is had once, and again when it was given back.
-fn use_twice(used: &mut Linked, a: &Name, b: &Name) -> Result<()> {
-    let dir = used.store.reserve(Kind::Dir)?;
-    let full = used.store.reserve(Kind::File);
-    hold(&[(full == Err(NoNode::Full), "a third number")])?;
-    use_number(used, dir, a, b)?;
-    let file = used.store.reserve(Kind::File)?;
-    hold(&[
-        (file == dir, "the number again"),
-        (used.store.is_file(file), "a file now"),
-    ])
-}
-
-/// A store of two nodes, whose one free number is used twice.
-pub fn two_numbers(alloc: Global) -> Result<()> {
-    let (a, b) = (name(b"a")?, name(b"b")?);
-    let mut used = Linked {
-        store: Store::new(alloc, 2)?,
-    };
-    use_twice(&mut used, &a, &b)
-}
-
-/// Whether an entry that was read is this one.
-fn is_entry(entry: Option<(Name, NodeNo)>, name: &Name, node: NodeNo) -> bool {
-    match &entry {
-        Some((other, number)) => other.same(name) && *number == node,
-        None => false,
-    }
-}
-
-/// Names come in the order of their bytes, and an entry moves from one directory to another.
-fn use_names(used: &mut Linked, a: &Name, b: &Name, bb: &Name) -> Result<()> {
-    let root = NodeNo::new(0);
-    let first = used.store.reserve(Kind::File)?;
-    let second = used.store.reserve(Kind::Dir)?;
-    let third = used.store.reserve(Kind::File)?;
-    hold(&[
-        (used.link(root, bb, first), "bb"),
-        (used.link(root, a, second), "a"),
-        (used.link(root, b, third), "b"),
-        (
-            is_entry(used.store.next_name(root, None), a, second),
-            "a is the first",
-        ),
-        (
-            is_entry(used.store.next_entry_after(second), b, third),
-            "b is the next",
-        ),
-        (
-            is_entry(used.store.next_name(root, Some(b)), bb, first),
-            "bb is the last",
-        ),
-        (used.store.next_entry_after(first).is_none(), "the end"),
-        (
-            used.store.find_steps(root, b) == (Some(third), 1),
-            "one looked at",
-        ),
-        (used.move_entry(root, b, second, bb), "another directory"),
-        (used.store.find(second, bb) == Some(third), "its new name"),
-        (used.store.entries(root) == 2, "two are left"),
-        (!used.move_entry(root, a, second, b), "nor after a move"),
-        (used.unlink(root, a).is_none(), "an entry below it"),
-    ])
-}
-
-/// A store of eight nodes, with three entries.
-pub fn names_in_order(alloc: Global) -> Result<()> {
-    let (a, b, bb) = (name(b"a")?, name(b"b")?, name(b"bb")?);
-    let mut used = Linked {
-        store: Store::new(alloc, 8)?,
-    };
-    use_names(&mut used, &a, &b, &bb)
-}
-
-/// Whether a file gets these bytes, and those that were handed out are the other ones.
-fn is_swapped(
-    alloc: Global,
-    used: &mut Linked,
-    file: NodeNo,
-    bytes: &[u8],
-    due: &[u8],
-) -> Result<bool> {
-    match used.swap_content(alloc, file, bytes)? {
-        Some(old) => Ok(old.as_slice() == due),
-        None => Ok(false),
-    }
-}
-
-/// The bytes of a file are handed over and handed out.
-fn use_bytes(alloc: Global, used: &mut Linked) -> Result<()> {
-    let file = used.store.reserve(Kind::File)?;
-    let is_new = used.store.content(file).is_empty();
-    let is_empty = is_swapped(alloc, used, file, b"abc", b"")?;
-    let is_kept = used.store.content(file) == b"abc".as_slice();
-    let is_old = is_swapped(alloc, used, file, b"", b"abc")?;
-    hold(&[
-        (is_new, "no bytes"),
-        (is_empty, "nothing out"),
-        (is_kept, "the bytes"),
-        (is_old, "the bytes out"),
-    ])
-}
-
-/// A store of two nodes, one of which is a file.
-pub fn bytes_of_a_file(alloc: Global) -> Result<()> {
-    let mut used = Linked {
-        store: Store::new(alloc, 2)?,
-    };
-    use_bytes(alloc, &mut used)
+/// Uses each of the stores.
+pub fn use_stores(alloc: Global) -> Result<()> {
+    use_new(alloc, 2, TWO_NUMBERS)?;
+    use_new(alloc, 8, NAMES_IN_ORDER)?;
+    use_new(alloc, 2, BYTES_OF_A_FILE)
 }

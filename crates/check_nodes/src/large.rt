@@ -4,7 +4,7 @@ use crate::calls::Linked;
 use crate::looks::Looks;
 use anyhow::{Result, bail};
 use fs_names::{Kind, Name};
-use fs_nodes::{NodeNo, Store};
+use fs_nodes::NodeNo;
 use rand_core::{Rng, SeedableRng};
 use rand_pcg::Pcg32;
 use std::alloc::Global;
@@ -109,46 +109,62 @@ fn looks(order: Order, entries: u32, linked: &Linked) -> Looks {
     looks
 }
 
-/// At how many entries a find of names that collide looks, after they have come.
-fn finds(linked: &mut Linked) -> Result<Looks> {
-    let mut looks = Looks::default();
-    for bytes in OF_ONE_HOME {
-        if let Some(name) = Name::read(bytes) {
+/// One of the names that collide.
+fn of_one_home(at: usize) -> Option<Name> {
+    Name::read(OF_ONE_HOME.get(at)?)
+}
+
+/// Those names come too.
+fn add_colliding(linked: &mut Linked) -> Result<()> {
+    for at in 0..OF_ONE_HOME.len() {
+        if let Some(name) = of_one_home(at) {
             add(linked, &name)?;
         }
     }
-    for bytes in OF_ONE_HOME {
-        if let Some(name) = Name::read(bytes) {
+    Ok(())
+}
+
+/// At how many entries a find of them looks.
+fn finds(linked: &Linked) -> Looks {
+    let mut looks = Looks::default();
+    for at in 0..OF_ONE_HOME.len() {
+        if let Some(name) = of_one_home(at) {
             looks.count(linked.store.find_steps(NodeNo::new(0), &name).1);
         }
     }
-    Ok(looks)
-}
-
-/// A store of such files.
-fn filled(alloc: Global, order: Order, entries: u32) -> Result<Linked> {
-    let mut linked = Linked {
-        store: Store::new(alloc, NODES)?,
-    };
-    fill(order, entries, &mut linked)?;
-    Ok(linked)
+    looks
 }
 
 /// Files that come in an order, and what is counted then.
+fn count_on(
+    rt: &impl Print,
+    linked: &mut Linked,
+    order: Order,
+    entries: u32,
+    what: &str,
+) -> Result<()> {
+    fill(order, entries, linked)?;
+    Ok(looks(order, entries, linked).write(rt, "order_steps", what)?)
+}
+
+/// The same in a store of its own.
 fn count(rt: &impl Print, alloc: Global, order: Order, entries: u32, what: &str) -> Result<()> {
-    let linked = filled(alloc, order, entries)?;
-    looks(order, entries, &linked).write(rt, "order_steps", what)?;
-    Ok(())
+    count_on(rt, &mut Linked::new(alloc, NODES)?, order, entries, what)
 }
 
 /// Files whose names are drawn, half of which go, and others whose names collide.
+fn change_on(rt: &impl Print, linked: &mut Linked) -> Result<()> {
+    count_on(rt, linked, Order::Drawn, MANY, "drawn names")?;
+    add_colliding(linked)?;
+    finds(linked).write(rt, "find_steps", "names that collide")?;
+    thin(Order::Drawn, MANY, linked);
+    let looks = looks(Order::Drawn, MANY, linked);
+    Ok(looks.write(rt, "order_steps", "half of the names gone")?)
+}
+
+/// The same in a store of its own.
 fn change(rt: &impl Print, alloc: Global) -> Result<()> {
-    let mut linked = filled(alloc, Order::Drawn, MANY)?;
-    looks(Order::Drawn, MANY, &linked).write(rt, "order_steps", "drawn names")?;
-    finds(&mut linked)?.write(rt, "find_steps", "names that collide")?;
-    thin(Order::Drawn, MANY, &mut linked);
-    looks(Order::Drawn, MANY, &linked).write(rt, "order_steps", "half of the names gone")?;
-    Ok(())
+    change_on(rt, &mut Linked::new(alloc, NODES)?)
 }
 
 /// Does all of this.

@@ -1,6 +1,6 @@
 //! Calls by the texts of their paths, and what observers show.
 
-use fs_calls::{Bytes, Call, Errno, NameList, Reply};
+use fs_calls::{Call, Data, Errno, NameList, Reply};
 use fs_names::{Kind, Path};
 use fs_share::{Gate, Named, Observer, Open, Session, Told};
 use std::alloc::{AllocError, Global};
@@ -23,7 +23,7 @@ pub fn path(alloc: Global, text: &[u8]) -> Option<Path> {
 }
 
 fn write(alloc: Global, text: &[u8], bytes: &[u8]) -> Option<Call> {
-    let bytes = Bytes::new(Vec::from_slice(alloc, bytes).ok()?);
+    let bytes = Data::from_slice(alloc, bytes).ok()?;
     Some(Call::Write(path(alloc, text)?, 0, bytes))
 }
 

@@ -2,7 +2,7 @@
 
 use crate::calls::path;
 use crate::waiting::reaches;
-use fs_calls::{Bytes, Call, Reply};
+use fs_calls::{Call, Data, Reply};
 use fs_names::Path;
 use fs_seq::SeqTree;
 use fs_share::{AtomFs, Named, Observer, Open, Session};
@@ -36,7 +36,7 @@ fn drawn_path(alloc: Global, random: &mut Pcg32) -> Option<Path> {
 }
 
 fn write_call(alloc: Global, path: Path) -> Option<Call> {
-    let bytes = Bytes::new(Vec::from_slice(alloc, b"hi").ok()?);
+    let bytes = Data::from_slice(alloc, b"hi").ok()?;
     Some(Call::Write(path, 0, bytes))
 }
 

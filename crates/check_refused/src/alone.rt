@@ -114,13 +114,26 @@ impl Again {
     }
 }
 
+/// What bytes are in all, by which others of as many are told apart.
+fn in_all(bytes: &[u8]) -> u64 {
+    let mut sum = 0u64;
+    for byte in bytes {
+        sum = sum.wrapping_add(u64::from(*byte));
+    }
+    sum
+}
+
+fn show_bytes(rt: &impl Print, bytes: &[u8]) -> io::Result<()> {
+    println!(rt; "bytes: {}, in all {}", bytes.len(), in_all(bytes))
+}
+
 fn show(rt: &impl Print, reply: &Reply) -> io::Result<()> {
     match reply {
         Reply::Done => println!(rt; "done"),
         Reply::Stat(Kind::Dir, entries) => println!(rt; "a directory of {entries}"),
         Reply::Stat(Kind::File, size) => println!(rt; "a file of {size}"),
         Reply::Names(names) => println!(rt; "names: {}", names.as_slice().len()),
-        Reply::Bytes(bytes) => println!(rt; "bytes: {}", bytes.as_slice().len()),
+        Reply::Bytes(bytes) => show_bytes(rt, bytes.as_slice()),
         Reply::Wrote(count) => println!(rt; "wrote {count}"),
         Reply::Failed(errno) => println!(rt; "error {}", errno.number()),
     }

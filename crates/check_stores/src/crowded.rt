@@ -106,34 +106,42 @@ fn has_room(twins: &Twins, dir: &Twin) -> bool {
     twins.entries(dir) < ENTRY_LIMIT
 }
 
-/// A drawn call: far more entries come than go.
-fn call(random: &mut Pcg32, (name, new_name): (&Name, &Name), twins: &mut Twins) {
-    let (dir, to) = (directory(random, twins), directory(random, twins));
-    let (there, other) = (
-        twins.name_above(&dir, name),
-        twins.name_above(&to, new_name),
-    );
+/// A drawn call in two directories, each with a drawn name and that of the entry above it: far more entries come than go.
+fn call(
+    random: &mut Pcg32,
+    twins: &mut Twins,
+    (dir, name, there): (&Twin, &Name, &Name),
+    (to, new_name, other): (&Twin, &Name, &Name),
+) {
     match below(random, 32) {
         0 => {
-            twins.unlink(&dir, &there);
+            twins.unlink(dir, there);
         }
-        1..6 if dir == to || has_room(twins, &to) => {
-            twins.move_entry(&dir, &there, &to, new_name);
+        1..6 if dir == to || has_room(twins, to) => {
+            twins.move_entry(dir, there, to, new_name);
         }
         6..9 => {
-            twins.swap_entries(&dir, &there, &to, &other);
+            twins.swap_entries(dir, there, to, other);
         }
-        9..24 if has_room(twins, &dir) => {
+        9..24 if has_room(twins, dir) => {
             let node = twins.node(3 + below(random, FILES) as usize);
-            twins.link(&dir, name, &node);
+            twins.link(dir, name, &node);
         }
         24..27 => {
-            twins.find(&dir, &there);
+            twins.find(dir, there);
         }
         _ => {
-            twins.find(&dir, name);
+            twins.find(dir, name);
         }
     }
+}
+
+/// The same in drawn directories.
+fn call_in(random: &mut Pcg32, twins: &mut Twins, name: &Name, new_name: &Name) {
+    let (dir, to) = (directory(random, twins), directory(random, twins));
+    let there = twins.name_above(&dir, name);
+    let other = twins.name_above(&to, new_name);
+    call(random, twins, (&dir, name, &there), (&to, new_name, &other));
 }
 
 /// Drawn calls with such names, and at how many places their look-ups have looked.
@@ -141,30 +149,41 @@ fn draw(random: &mut Pcg32, names: Names, twins: &mut Twins) -> Looks {
     twins.looks = Looks::default();
     for _ in 0..CALLS {
         if let (Some(name), Some(new_name)) = (name(random, names), name(random, names)) {
-            call(random, (&name, &new_name), twins);
+            call_in(random, twins, &name, &new_name);
         }
     }
     twins.looks
 }
 
-/// Drawn calls of both kinds of names, of which it writes what was counted.
-fn count(rt: &impl Print, twins: &mut Twins) -> Result<()> {
-    let mut random = Pcg32::seed_from_u64(3);
-    add_tree(twins)?;
-    let looks = draw(&mut random, Names::Ordinary, twins);
+/// Drawn calls on full directories, of which it writes what was counted.
+fn count_full(rt: &impl Print, random: &mut Pcg32, twins: &mut Twins) -> Result<()> {
+    let looks = draw(random, Names::Ordinary, twins);
     let (a, b) = (twins.node(1), twins.node(2));
     let (entries, others) = (twins.entries(&a), twins.entries(&b));
     println!(rt; "full directories: {entries} and {others} entries")?;
-    looks.write(rt, "find_steps", "drawn names")?;
-    draw(&mut random, Names::Colliding, twins).write(rt, "find_steps", "names that collide")?;
+    Ok(looks.write(rt, "find_steps", "drawn names")?)
+}
+
+/// Drawn calls whose names collide.
+fn count_colliding(rt: &impl Print, random: &mut Pcg32, twins: &mut Twins) -> Result<()> {
+    let looks = draw(random, Names::Colliding, twins);
+    looks.write(rt, "find_steps", "names that collide")?;
+    let (a, b) = (twins.node(1), twins.node(2));
     twins.read(&a);
     twins.read(&b);
     println!(rt; "answers that differ: {}", twins.others)?;
     Ok(())
 }
 
+/// Both, one after the other.
+fn count(rt: &impl Print, random: &mut Pcg32, twins: &mut Twins) -> Result<()> {
+    add_tree(twins)?;
+    count_full(rt, random, twins)?;
+    count_colliding(rt, random, twins)
+}
+
 /// Does all of this.
 pub fn run(rt: &impl Print, alloc: Global) -> Result<()> {
     let mut twins = Twins::new(alloc, NODES)?;
-    count(rt, &mut twins)
+    count(rt, &mut Pcg32::seed_from_u64(3), &mut twins)
 }

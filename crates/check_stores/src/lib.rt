@@ -65,10 +65,9 @@ fn directory(random: &mut Pcg32, twins: &Twins) -> Twin {
 fn look(random: &mut Pcg32, name: &Name, twins: &mut Twins, tally: &mut Tally) {
     let dir = directory(random, twins);
     let node = node(random, twins);
-    let there = twins.name_above(&dir, name);
     match below(random, 4) {
         0 => tally.find.count(Some(twins.find(&dir, name))),
-        1 => tally.find.count(Some(twins.find(&dir, &there))),
+        1 => tally.find.count(Some(twins.find_above(&dir, name))),
         2 => tally.look.count(Some(twins.look(&node))),
         _ => tally.read.count(Some(twins.read(&dir))),
     }
@@ -83,13 +82,11 @@ fn change(
 ) {
     let (dir, to) = (directory(random, twins), directory(random, twins));
     let node = node(random, twins);
-    let there = twins.name_above(&dir, name);
     match below(random, 6) {
-        0 => tally.unlink.count(twins.unlink(&dir, &there)),
-        1..4 => {
-            let moved = twins.move_entry(&dir, &there, &to, new_name);
-            tally.move_entry.count(moved);
-        }
+        0 => tally.unlink.count(twins.unlink_above(&dir, name)),
+        1..4 => tally
+            .move_entry
+            .count(twins.move_above(&dir, name, &to, new_name)),
         _ => tally.link.count(twins.link(&dir, name, &node)),
     }
 }

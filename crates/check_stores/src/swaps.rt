@@ -2,7 +2,7 @@
 
 use crate::drawing::name;
 use crate::tally::Tally;
-use crate::twins::Twins;
+use crate::twins::{Twin, Twins};
 use crate::{DRAWS, directory, draw};
 use anyhow::{Result, bail, ensure};
 use check_nodes::calls::LIMIT;
@@ -145,16 +145,26 @@ fn swap_small(twins: &mut Twins) -> Result<()> {
     Ok(())
 }
 
-/// Two drawn entries change what they name, if there are two and neither is below the other.
+/// The entries above two names change what they name, if neither is below the other.
+fn swap_above(
+    twins: &mut Twins,
+    tally: &mut Tally,
+    (dir, name): (&Twin, &Name),
+    (other, other_name): (&Twin, &Name),
+) {
+    let name = twins.name_above(dir, name);
+    let other_name = twins.name_above(other, other_name);
+    let swapped = twins.swap_entries(dir, &name, other, &other_name);
+    tally.swap_entries.count(swapped);
+    twins.read(dir);
+    twins.read(other);
+}
+
+/// The same of drawn names, if there are two.
 fn swap_drawn(random: &mut Pcg32, twins: &mut Twins, tally: &mut Tally) {
     if let (Some(name), Some(other_name)) = (name(random), name(random)) {
         let (dir, other) = (directory(random, twins), directory(random, twins));
-        let name = twins.name_above(&dir, &name);
-        let other_name = twins.name_above(&other, &other_name);
-        let swapped = twins.swap_entries(&dir, &name, &other, &other_name);
-        tally.swap_entries.count(swapped);
-        twins.read(&dir);
-        twins.read(&other);
+        swap_above(twins, tally, (&dir, &name), (&other, &other_name));
     }
 }
 

@@ -6,7 +6,7 @@ ghost use Rattle.fs_names.specs.declared.limits.TheConstants.{NODE_LIMIT};
 use check_nodes::calls::{Linked, Plain};
 use check_nodes::looks::Looks;
 use fs_names::{Kind, Name};
-use fs_nodes::{NoNode, NodeNo, Store, plain};
+use fs_nodes::{NoNode, NodeNo};
 use std::alloc::{AllocError, Global};
 
 /// A node's number in each of the two stores.
@@ -48,12 +48,8 @@ impl Twins {
         let mut nodes = Vec::new(alloc);
         nodes.push(Twin::root())?;
         Ok(Twins {
-            linked: Linked {
-                store: Store::new(alloc, limit)?,
-            },
-            plain: Plain {
-                store: plain::Store::new(alloc, limit)?,
-            },
+            linked: Linked::new(alloc, limit)?,
+            plain: Plain::new(alloc, limit)?,
             nodes,
             limit,
             others: 0,
@@ -170,6 +166,24 @@ impl Twins {
         }
     }
 
+    /// The entry above a name goes, if it can.
+    pub fn unlink_above(&mut self, dir: &Twin, name: &Name) -> Option<bool> {
+        let there = self.name_above(dir, name);
+        self.unlink(dir, &there)
+    }
+
+    /// The entry above a name moves, if it can.
+    pub fn move_above(
+        &mut self,
+        from: &Twin,
+        name: &Name,
+        to: &Twin,
+        new_name: &Name,
+    ) -> Option<bool> {
+        let there = self.name_above(from, name);
+        self.move_entry(from, &there, to, new_name)
+    }
+
     /// Two entries change what they name, if they can. It answers whether they are of two directories.
     pub fn swap_entries(
         &mut self,
@@ -218,16 +232,9 @@ impl Twins {
     ) -> Result<Option<bool>, AllocError> {
         let old = self.linked.swap_content(alloc, file.linked, bytes)?;
         let other = self.plain.swap_content(alloc, file.plain, bytes)?;
-        let (same, made) = match (&old, &other) {
-            (Some(a), Some(b)) => (
-                a.as_slice() == b.as_slice(),
-                Some(!a.is_empty() && a.as_slice() != bytes),
-            ),
-            (None, None) => (true, None),
-            _ => (false, None),
-        };
+        let same = old == other;
         self.expect(same);
-        Ok(made)
+        Ok(old.map(|old| !old.is_empty() && old.as_slice() != bytes))
     }
 
     /// Looks an entry up. It answers whether there is one.
@@ -240,6 +247,12 @@ impl Twins {
         self.looks.count(steps);
         self.expect(same);
         node.is_some()
+    }
+
+    /// Looks up the entry above a name. It answers whether there is one.
+    pub fn find_above(&mut self, dir: &Twin, name: &Name) -> bool {
+        let there = self.name_above(dir, name);
+        self.find(dir, &there)
     }
 
     /// Whether the two stores say the same of a node.

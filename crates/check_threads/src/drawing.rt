@@ -1,7 +1,7 @@
 //! Drawn calls over few names. A rename or an exchange keeps the depth of what it moves, so each node can be named.
 
 use check_sessions::calls::path;
-use fs_calls::{Bytes, Call};
+use fs_calls::{Call, Data};
 use fs_names::Path;
 use rand_core::Rng;
 use rand_pcg::Pcg32;
@@ -68,12 +68,12 @@ fn exchange(alloc: Global, random: &mut Pcg32) -> Option<Call> {
 }
 
 /// Up to five letters.
-fn letters(alloc: Global, random: &mut Pcg32) -> Option<Bytes> {
+fn letters(alloc: Global, random: &mut Pcg32) -> Option<Data> {
     let mut bytes = Vec::new(alloc);
     for _ in 0..below(random, 6) {
         bytes.push(letter(random)).ok()?;
     }
-    Some(Bytes::new(bytes))
+    Data::new(bytes).ok()
 }
 
 fn write(alloc: Global, random: &mut Pcg32, path: Path) -> Option<Call> {

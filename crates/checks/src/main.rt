@@ -3,7 +3,8 @@
 //! worked tables are there to be read. The libraries say what they check; `data/` has a folder for the one that reads files.
 //! `checks time tree CALLS`, `checks time observers READS` and, with a script on standard input, `checks time threads` time
 //! parts of AtomFS (`bench`). `checks time ended TIMES` makes renames behind so many sessions that have ended, `checks time
-//! sessions TIMES` the sessions alone; `run` and `pools` do the same with runs of a pool.
+//! sessions TIMES` the sessions alone; `run` and `pools` do the same with runs of a pool. `checks time writes CALLS` keeps calls that
+//! write, for a look at the memory.
 #![tactic(auto)]
 
 use anyhow::{Result, bail};
@@ -63,6 +64,7 @@ fn time<R: Print + Threads + Wait + Clock + Sync>(
     match part {
         "tree" => bench::time_tree(rt, alloc, number),
         "observers" => bench::time_observers(rt, alloc, number),
+        "writes" => bench::keep_writes(rt, alloc, number),
         "sessions" => bench::time_ended(rt, alloc, Before::Session, number, false),
         "ended" => bench::time_ended(rt, alloc, Before::Session, number, true),
         "pools" => bench::time_ended(rt, alloc, Before::Run, number, false),

@@ -20,8 +20,6 @@ mod long;
 mod rooms;
 pub mod sizes;
 pub mod spare;
-#[cfg(test)]
-mod tests;
 
 pub use file::File;
 pub use sizes::{BLOCK, CHUNK, SPAN};

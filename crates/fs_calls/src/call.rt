@@ -1,6 +1,6 @@
 //! The calls on a tree.
 
-use fs_names::{Bytes, Path};
+use fs_names::{Data, Path};
 
 /// A call on a tree, by path.
 #[derive(Drop)]
@@ -25,7 +25,7 @@ pub enum Call {
     /// Asks for the bytes of a file from an offset on, and for no more than a count.
     Read(Path, u64, u64),
     /// Writes bytes into a file at an offset; a gap reads as zeros.
-    Write(Path, u64, Bytes),
+    Write(Path, u64, Data),
     /// Cuts a file to a size, or adds zeros up to it (POSIX.1-2017, XSH 3, truncate()).
     Truncate(Path, u64),
 }

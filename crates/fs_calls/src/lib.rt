@@ -22,7 +22,7 @@ pub mod target;
 
 pub use call::Call;
 pub use errno::Errno;
-pub use fs_names::Bytes;
+pub use fs_names::{Bytes, Data};
 pub use name_list::NameList;
 pub use path_errors::{exchange_error, rename_error};
 pub use reply::Reply;

@@ -9,7 +9,7 @@ ghost use Rattle.fs_calls.specs.code.Targets.{form_of, node_call};
 use crate::call::Call;
 use crate::errno::Errno;
 use fs_memory::Memory;
-use fs_names::{Bytes, Path};
+use fs_names::{Data, Path};
 use std::alloc::{AllocError, Global};
 
 /// What is done to an entry.
@@ -44,7 +44,7 @@ pub enum NodeCall<'a> {
     /// Bytes from an offset on are told, no more than a count.
     Read(u64, u64),
     /// Bytes are written at an offset.
-    Write(u64, &'a Bytes),
+    Write(u64, &'a Data),
     /// It is cut to a size, or made as long.
     Truncate(u64),
 }
@@ -110,7 +110,7 @@ fn same_path(one: &Path, other: &Path) -> bool
 }
 
 /// Whether the bytes are the same.
-fn same_bytes(one: &Bytes, other: &Bytes) -> bool
+fn same_bytes(one: &Data, other: &Data) -> bool
     ensures { IsTrue result ↔ one.now ≡ other.now }
 {
     one.same(other)
@@ -186,7 +186,7 @@ impl Call {
         }
     }
 
-    /// The same call again. The bytes of a write are copied by their own allocator, and nothing else takes memory.
+    /// The same call again, which shares its paths and the bytes that it writes. It takes no memory.
     pub fn copy(&self, _alloc: Global) -> Result<Call, AllocError>
         ensures { IfOk result (λ call. call ≡ self.now) }
     {

@@ -8,7 +8,7 @@ ghost use Rattle.fs_words.specs.code.Answers.{Gives};
 ghost use Rattle.fs_embed.specs.Requests.{asked, call_in, both_in};
 
 use fs_calls::Call;
-use fs_names::{Bytes, Limits, Path, PathFault};
+use fs_names::{Data, Limits, Path, PathFault};
 use fs_text::FaultKind;
 use fs_text::calls::call_at;
 use fs_text::lines::cut_words;
@@ -97,12 +97,11 @@ fn both_in(
 }
 
 /// The same bytes in memory of their own.
-fn copied(alloc: Global, bytes: &[u8]) -> Result<Bytes, FaultKind>
+fn copied(alloc: Global, bytes: &[u8]) -> Result<Data, FaultKind>
     ensures { Gives (λ copy. copy) result (Ok bytes.now) }
 {
-    let mut copy = Vec::new(alloc);
-    match copy.extend_from_slice(bytes) {
-        Ok(()) => Ok(Bytes::new(copy)),
+    match Data::from_slice(alloc, bytes) {
+        Ok(copy) => Ok(copy),
         Err(_) => Err(FaultKind::OutOfMemory),
     }
 }

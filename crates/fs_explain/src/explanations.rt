@@ -314,7 +314,7 @@ const NO_ORDER: &str = "\
 none: no journal explains the entries up to that return; one explains those before it
 
 next                atomfs linearize < FILE
-it tells            the line of the return, and its call
+it tells            the line of the return, its call, and what that could have replied
 
 next                atomfs linearize --front < FILE | atomfs draw > run.svg
 it shows            a journal that explains the entries before the return, and the return

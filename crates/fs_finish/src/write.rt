@@ -14,7 +14,7 @@ use crate::replies::Replies;
 use crate::room::{ByteRoom, Room};
 use crate::sights::sight_of;
 use fs_calls::ranges::put;
-use fs_calls::{Bytes, NodeCall, Reply};
+use fs_calls::{Data, NodeCall, Reply};
 use fs_nodes::{NodeNo, Store};
 
 /// The bytes of a vector, in one that has room for so many: their own, or else the buffer. Where they become more, their own
@@ -91,7 +91,7 @@ pub fn write(
     store: &mut Store,
     node: NodeNo,
     off: u64,
-    bytes: &Bytes,
+    bytes: &Data,
     most: usize,
     prepared: Room,
 ) -> Replies

@@ -1,6 +1,6 @@
 //! The tree.
 
-ghost use Rattle.std.specs.Prelude.{◌≡◌, true, IfOk, IsTrue};
+ghost use Rattle.std.specs.Prelude.{◌≡◌, true, length, IfOk, IsTrue};
 ghost use Rattle.std.specs.FinMap.{is_sorted};
 ghost use Rattle.fs_names.specs.Keys.{key_cmp};
 ghost use Rattle.fs_calls.specs.Outcomes.{after, called, reply, reply_at};
@@ -125,6 +125,13 @@ impl FlatTree {
             cells: copied(alloc, &self.cells)?,
             limits: self.limits,
         })
+    }
+
+    /// How many entries it has, with the root's.
+    pub fn len(&self) -> usize
+        ensures { result ≡ length self.now.tree }
+    {
+        self.cells.len()
     }
 
     /// Whether both were found to be one tree.

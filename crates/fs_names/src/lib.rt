@@ -13,6 +13,7 @@
 
 pub mod blocks;
 pub mod bytes;
+pub mod data;
 pub mod examples;
 pub mod fault;
 pub mod kind;
@@ -24,6 +25,7 @@ pub mod relations;
 mod scan;
 
 pub use bytes::Bytes;
+pub use data::Data;
 pub use fault::PathFault;
 pub use kind::Kind;
 pub use limits::{ENTRY_LIMIT, Limits, NODE_LIMIT, PATH_LIMIT};

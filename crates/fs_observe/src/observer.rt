@@ -1,6 +1,6 @@
 //! Readers that wait for nobody.
 
-ghost use Rattle.std.specs.Prelude.{◌≡◌, ◌∷◌, [], true, length, IfOk, OnErr, IsTrue};
+ghost use Rattle.std.specs.Prelude.{◌≡◌, ◌∷◌, [], true, false, ◌<◌, length, IfOk, OnErr, IsTrue};
 ghost use mathlib.Core.List.{IsPrefix};
 ghost use Rattle.fs_calls.specs.Outcomes.{next_start, reply_at};
 ghost use Rattle.fs_seq.specs.Looks.{is_look};
@@ -54,7 +54,8 @@ impl<N: Named> Stamp<N> {
 
     /// Whether the stamp's list is a beginning of that of another beginning of the history: it is where it is no longer.
     pub(crate) fn begins(&self, front: &Front<N>) -> bool
-        ensures { result ≡ true → IsPrefix self.now.list (calls_of front.now) }
+        ensures listed { result ≡ true → IsPrefix self.now.list (calls_of front.now) }
+        ensures longer { result ≡ false → length (calls_of front.now) < length self.now.list }
     {
         let _both = front.longer(&self.front);
         self.front.len() <= front.len()

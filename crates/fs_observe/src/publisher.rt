@@ -1,6 +1,6 @@
 //! The writer of what observers see.
 
-ghost use Rattle.std.specs.Prelude.{◌≡◌, true, ◌+◌, ◌<◌, ◌≤◌, ◌^◌, ◌++◌, ◌∷◌, [], drop, fold, length, Some, None, IfOk, IfSome, OnOk, OnErr, MatchResult};
+ghost use Rattle.std.specs.Prelude.{◌≡◌, true, false, ◌+◌, ◌<◌, ◌≤◌, ◌^◌, ◌++◌, ◌∷◌, [], drop, fold, length, Some, None, IfOk, IfSome, OnOk, OnErr, MatchResult};
 ghost use mathlib.Core.List.{IsPrefix};
 ghost use Rattle.left_right.specs.Sides.{view};
 ghost use Rattle.fs_observe.specs.Observed.{Knows};
@@ -222,7 +222,8 @@ impl<N: Named> Publisher<N> {
 
     /// Whether a stamp's list is a beginning of the calls that it has taken in. Each of this tree's is.
     pub fn begins_with(&self, stamp: &Stamp<N>) -> bool
-        ensures { result ≡ true → IsPrefix stamp.now.list self.now.taken }
+        ensures listed { result ≡ true → IsPrefix stamp.now.list self.now.taken }
+        ensures longer { result ≡ false → length self.now.taken < length stamp.now.list }
     {
         stamp.begins(&self.front)
     }

@@ -25,6 +25,8 @@ pub mod seq_tree;
 mod write;
 
 pub use from_rows::NotTree;
-pub use fs_calls::{Bytes, Call, EntryCall, Errno, NameList, NodeCall, PairCall, Reply, Target};
+pub use fs_calls::{
+    Bytes, Call, Data, EntryCall, Errno, NameList, NodeCall, PairCall, Reply, Target,
+};
 pub use rows::Row;
 pub use seq_tree::SeqTree;

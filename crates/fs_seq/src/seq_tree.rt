@@ -3,6 +3,7 @@
 ghost use Rattle.std.specs.Prelude.{◌≡◌, ◌≢◌, ℕ, true, None, Some, Err, map, IfOk, OnOk, OnErr, IsTrue};
 ghost use Rattle.fs_names.specs.Limits.{file_limit};
 ghost use Rattle.fs_calls.specs.Starts.{root_start};
+ghost use Rattle.fs_calls.specs.Tree.{IsTree};
 ghost use Rattle.fs_calls.specs.Outcomes.{reply_at, called};
 ghost use Rattle.fs_seq.specs.Memory.{needs_memory};
 ghost use Rattle.fs_seq.specs.Looks.{is_look};
@@ -12,7 +13,7 @@ ghost use Rattle.std.specs.List.{list_all};
 use crate::from_rows::{self, NotTree};
 use crate::rows::{self, Row};
 use crate::{create, exchange, queries, remove, rename, write};
-use fs_calls::{Bytes, Call, Reply};
+use fs_calls::{Call, Data, Reply};
 use fs_memory::Memory;
 use fs_names::{Limits, Path};
 use fs_slab::{Node, copying};
@@ -57,6 +58,14 @@ impl SeqTree {
             Ok(_) => Ok(SeqTree { nodes, limits }),
             Err(_) => Err(AllocError),
         }
+    }
+
+    /// Each is a tree: the root is a directory, and all else stands in one.
+    #[tactic(auto, using(crate::proofs::ForestTrees::forest_tree))]
+    pub fn is_a_tree(&self)
+        ensures { IsTree self.now.tree }
+    {
+        let _nodes = &self.nodes;
     }
 
     /// The limits that it keeps.
@@ -291,7 +300,7 @@ impl SeqTree {
         memory: &mut Memory,
         path: &Path,
         off: u64,
-        bytes: &Bytes,
+        bytes: &Data,
     ) -> Result<Reply, AllocError>
         ensures reply { IfOk result (λ r. r ≡ reply_at self.old (Call.Write path.now off bytes.now)) }
         ensures tree { OnOk result (self.new ≡ called self.old (Call.Write path.now off bytes.now)) }

@@ -10,7 +10,7 @@ ghost use Rattle.fs_slab.specs.code.Slots.{IsForest, shape_of, tree_of};
 ghost use Rattle.fs_seq.specs.code.Effects.{AnswersWithin, Rewrites, written_if_any};
 
 use fs_calls::ranges::put;
-use fs_calls::{Bytes, Call, NodeCall, Reply};
+use fs_calls::{Call, Data, NodeCall, Reply};
 use fs_memory::Memory;
 use fs_names::Path;
 use fs_slab::Node;
@@ -72,7 +72,7 @@ fn write_node(
     memory: &mut Memory,
     node: &mut Node,
     off: u64,
-    bytes: &Bytes,
+    bytes: &Data,
     most: usize,
 ) -> Result<Reply, AllocError>
     ensures given { IfOk result (Rewrites (place node.old) (place node.new) (calls.Write most off bytes.now)) }
@@ -132,7 +132,7 @@ pub fn write(
     nodes: &mut Slab<Node>,
     path: &Path,
     off: u64,
-    bytes: &Bytes,
+    bytes: &Data,
     most: usize,
 ) -> Result<Reply, AllocError>
     requires { IsForest (graph nodes.old) }

@@ -4,11 +4,12 @@ ghost use Rattle.std.specs.Prelude.{◌≡◌, ◌∷◌, [], map, option_map};
 ghost use Rattle.fs_names.specs.Limits.{name_limit};
 ghost use Rattle.fs_calls.specs.declared.call.Call.TheVariants.{Read, Write, Truncate};
 ghost use Rattle.fs_text.specs.Calls.{one_path, two_paths, a_number, two_numbers, number_and_bytes, a_number_at, arguments_at, call_of, form_of, argument_count, has_call_form};
+ghost use Rattle.fs_words.specs.Reading.{hex_at};
 ghost use Rattle.fs_words.specs.code.Answers.{Gives};
 ghost use Rattle.fs_text.specs.code.Forms.{call_on, call_on_both, form_meant};
 
 use fs_calls::{Call, PairCall};
-use fs_names::{Limits, Path};
+use fs_names::{Data, Limits, Path};
 use fs_words::FaultKind;
 use fs_words::recent::Recent;
 use fs_words::words::{hex_at, number_at, path_with};
@@ -166,6 +167,19 @@ fn read_at<'a>(
     }
 }
 
+/// The bytes that a call writes, by the word for them.
+fn data_at(alloc: Global, word: &[u8]) -> Result<Data, FaultKind>
+    ensures { Gives (λ bytes. bytes) result (hex_at word.now) }
+{
+    match hex_at(alloc, word) {
+        Ok(bytes) => match Data::new(bytes.into_vec()) {
+            Ok(data) => Ok(data),
+            Err(_) => Err(FaultKind::OutOfMemory),
+        },
+        Err(kind) => Err(kind),
+    }
+}
+
 fn write_at<'a>(
     alloc: Global,
     recent: &mut Recent<'a>,
@@ -180,7 +194,7 @@ fn write_at<'a>(
         Ok(both) => both,
         Err(kind) => return Err(kind),
     };
-    match hex_at(alloc, bytes) {
+    match data_at(alloc, bytes) {
         Ok(bytes) => Ok(Call::Write(path, off, bytes)),
         Err(kind) => Err(kind),
     }

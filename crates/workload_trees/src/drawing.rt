@@ -1,7 +1,7 @@
 //! What a job does, drawn from a number.
 
 use anyhow::Result;
-use fs_calls::Bytes;
+use fs_calls::Data;
 use itoa::Buffer;
 use rand_core::{Rng, SeedableRng};
 use rand_pcg::Pcg32;
@@ -73,8 +73,8 @@ impl Drawing {
     }
 
     /// The same, to be written.
-    pub fn content(&mut self, alloc: Global, count: usize) -> Result<Bytes> {
-        Ok(Bytes::new(Vec::from_slice(alloc, self.bytes(count))?))
+    pub fn content(&mut self, alloc: Global, count: usize) -> Result<Data> {
+        Ok(Data::from_slice(alloc, self.bytes(count))?)
     }
 
     /// Adds a slash and a name of at most 32 bytes to a path; different numbers below ten million make different names.

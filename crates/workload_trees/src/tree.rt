@@ -2,7 +2,7 @@
 
 use crate::digest::Digest;
 use anyhow::{Result, bail};
-use fs_calls::{Bytes, Call, Reply};
+use fs_calls::{Call, Data, Reply};
 use fs_core::{Core, Stepped};
 use fs_names::{Path, SeatNo};
 use fs_script::write_tree;
@@ -140,7 +140,7 @@ impl Tree {
         self.call(Call::Read(path, offset as u64, count as u64))
     }
 
-    pub fn write(&mut self, text: &[u8], offset: usize, bytes: Bytes) -> Result<()> {
+    pub fn write(&mut self, text: &[u8], offset: usize, bytes: Data) -> Result<()> {
         let path = self.path(text)?;
         self.call(Call::Write(path, offset as u64, bytes))
     }

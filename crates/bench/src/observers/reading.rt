@@ -1,6 +1,6 @@
 //! A told writer, and observers that read beside it.
 
-use fs_calls::{Bytes, Call, Reply};
+use fs_calls::{Call, Data, Reply};
 use fs_names::{Kind, Path};
 use fs_share::{AtomFs, Named, Observer, Open, Session};
 use std::alloc::Global;
@@ -19,7 +19,7 @@ fn file(alloc: Global) -> Option<Path> {
 }
 
 fn written(alloc: Global) -> Option<Call> {
-    let bytes = Bytes::new(Vec::from_slice(alloc, [b'x'; 32].as_slice()).ok()?);
+    let bytes = Data::from_slice(alloc, [b'x'; 32].as_slice()).ok()?;
     Some(Call::Write(file(alloc)?, 0, bytes))
 }
 

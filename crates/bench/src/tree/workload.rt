@@ -1,7 +1,7 @@
 //! Calls that are drawn as a busy tree sees them: most of them look, some write, few make, remove or change places.
 
 use anyhow::Result;
-use fs_calls::{Bytes, Call, Reply};
+use fs_calls::{Call, Data, Reply};
 use fs_names::Path;
 use fs_seq::SeqTree;
 use rand_core::{Rng, SeedableRng};
@@ -101,13 +101,13 @@ impl Workload {
         Ok((place, path))
     }
 
-    fn bytes(&mut self) -> Result<Bytes> {
+    fn bytes(&mut self) -> Result<Data> {
         let count = self.random.next_u32() % MOST_BYTES;
         let mut bytes = Vec::new(self.alloc);
         for _ in 0..count {
             bytes.push(b'x')?;
         }
-        Ok(Bytes::new(bytes))
+        Ok(Data::new(bytes)?)
     }
 
     /// A call that looks at a node.

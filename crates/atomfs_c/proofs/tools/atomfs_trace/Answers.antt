@@ -9,6 +9,6 @@ use Rattle.atomfs_c.proofs.tools.atomfs_trace.Goals as goal
 pub returns-in-Ok-clause-traced : goal.returns-in-Ok-clause-traced
 returns-in-Ok-clause-traced c below =
     let is : schedule_of c.args.schedule c.args.seed ≡ Some c.in-Some.by = search rules in
-    let (end, trace) = c.in-Ok.ensures.traced in
+    let trace = c.in-Ok.ensures.traced in
     subst (λ (o : Option Schedule). IsSomeAnd o (λ by. (e : RunEnd) × (x : List ℕ) × IsTraceOf by (is_set c.args.every) c.args.script.now e x × Tells c.tell.result x c.tell.new.count c.args.out.now c.tell.new.out)) (sym is)
-    (end, c.in-Ok.text.items, (rw c.is_set.ensures at trace), (rw c.as_slice.ensures.value at c.tell.ensures.tells))
+    (c.in-Ok.made.end, c.in-Ok.made.text.items, (rw c.is_set.ensures at trace), (rw c.as_slice.ensures.value at c.tell.ensures.tells))

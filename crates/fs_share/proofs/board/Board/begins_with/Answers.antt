@@ -9,4 +9,4 @@ use Rattle.fs_share.proofs.board.Board.begins_with.Goals as goal
 pub returns : goal.returns
 returns g c listed =
     subst (λ (l : List Call). IsPrefix c.args.stamp.now.list l) (ap (λ (b : Boarded). commits b.core.timeline) c.self.view_is)
-    (prefix_trans _ _ _ (c.begins_with.ensures listed) c.self.invariant.0.taken)
+    (prefix_trans _ _ _ (c.begins_with.ensures.listed listed) c.self.invariant.0.taken)
