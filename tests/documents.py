@@ -311,7 +311,7 @@ class Shown(Page):
 
     # The blocks of each page in a language, how many there are, and the file that has them run or compared; a drawing has none.
     BLOCKS = (
-        ("README.md", "", 3, "tests/documents.py"),
+        ("README.md", "", 4, "tests/documents.py, tests/histories.py"),
         ("README.md", "python", 1, "examples/embed/run"),
         ("README.md", "c", 1, "examples/embed/run"),
         ("docs/EMBEDDING.md", "c", 1, "examples/embed/run"),
