@@ -1,14 +1,13 @@
-/* Calls a second through the library for C, as lines and typed: embed_c CALLS, or embed_c --long CALLS. Of the names a
- * directory is made, looked at, renamed and removed, over and over; a write and a read have 4,000 bytes, and an eighth as many
- * of them are made. --long makes all of these, typed, on a tree that forgets behind each 10,000, on one with checkpoints there,
- * and, up to a million of them, on one that keeps all. It tells the processor's time for a call, and the most memory that the
- * process had, after the first 100,000 and in all. */
+/* Calls in a second of the processor through the library for C, as lines and typed: embed_c CALLS, or embed_c --long CALLS. Of
+ * the names a directory is made, looked at, renamed and removed, over and over; a write and a read have 4,000 bytes, and an
+ * eighth as many of them are made. --long makes all of these, typed, on a tree that forgets behind each 10,000, on one with
+ * checkpoints there, and, up to a million of them, on one that keeps all. It tells the processor's time for a call, and the most
+ * memory that the process had, after the first 100,000 and in all. */
 #include "atomfs.h"
 #include <stdio.h>
 #include <stdlib.h>
 #include <string.h>
 #include <sys/resource.h>
-#include <time.h>
 
 enum { PIECE = 4000, EVERY = 10000, EARLY = 100000, MOST_KEPT = 1000000 };
 enum journal { FORGOTTEN, HANDED_OUT, KEPT };
@@ -19,10 +18,17 @@ static struct atomfs_stat there;
 static char line[64 + 2 * PIECE], out[16 + 2 * PIECE], piece[PIECE];
 static size_t count;
 
-static double now(void) {
-    struct timespec t;
-    clock_gettime(CLOCK_MONOTONIC, &t);
-    return (double)t.tv_sec + (double)t.tv_nsec * 1e-9;
+static struct rusage used(void) {
+    struct rusage usage;
+    getrusage(RUSAGE_SELF, &usage);
+    return usage;
+}
+
+static long peak(void) { return used().ru_maxrss; }
+
+static double processor_seconds(void) {
+    struct rusage usage = used();
+    return (double)(usage.ru_utime.tv_sec + usage.ru_stime.tv_sec) + (double)(usage.ru_utime.tv_usec + usage.ru_stime.tv_usec) * 1e-6;
 }
 
 static uint8_t call_line(int length) {
@@ -86,26 +92,13 @@ static void measure(const char *name, uint8_t (*call)(long), long calls) {
     for (int round = 0; round < 3; round++) {
         long wrong = 0;
         open_tree();
-        double from = now();
+        double from = processor_seconds();
         for (long i = 0; i < calls; i++) wrong += call(i) != 0;
-        double speed = (double)calls / (now() - from);
+        double speed = (double)calls / (processor_seconds() - from);
         if (speed > best) best = speed;
         if (atomfs_close(&fs) || wrong) exit(1);
     }
     printf("C       %-13s %9.0f calls/s\n", name, best);
-}
-
-static struct rusage used(void) {
-    struct rusage usage;
-    getrusage(RUSAGE_SELF, &usage);
-    return usage;
-}
-
-static long peak(void) { return used().ru_maxrss; }
-
-static double processor_seconds(void) {
-    struct rusage usage = used();
-    return (double)(usage.ru_utime.tv_sec + usage.ru_stime.tv_sec) + (double)(usage.ru_utime.tv_usec + usage.ru_stime.tv_usec) * 1e-6;
 }
 
 static void checkpoint(void) {
