@@ -114,6 +114,7 @@ class Rows(Case):
             ("behind not", "not tree dir /none", RACE, Outcome(0, nothing, b"atomfs: calls 0, words 0, where not tree dir /none\n")),
             ("a call that is named stays", "not helped m#3 and tree dir /", RACE, Outcome(0, b"atomfs 1\n# two threads\nthread m\nmkdir /e\nthread r\nschedule\n# the rest\n", b"atomfs: calls 1, words 0, where not helped m#1 and tree dir /\n")),
             ("checkpoints go", "tree dir /a", b"atomfs 1\nthread m\nmkdir /a\nmkdir /b\nschedule\nm*5 !checkpoint m*9 !checkpoint finish\n", Outcome(0, b"atomfs 1\nthread m\nmkdir /a\nschedule\nm*5\n", b"atomfs: calls 1, words 1, where tree dir /a\n")),
+            ("a call that can go once a later one went", "tree dir /d", b"atomfs 1\nthread m\nmkdir /d\nmknod /d/f\nrmdir /d\nschedule\nfinish\n", Outcome(0, b"atomfs 1\nthread m\nmkdir /d\nschedule\nfinish\n", b"atomfs: calls 1, words 1, where tree dir /d\n")),
             ("version 2", "tree file /f 00", b"atomfs 2\nthread m\nmknod /f\nmkdir /a\nwrite /f 0 00\nschedule\nfinish\n", Outcome(0, b"atomfs 2\nthread m\nmknod /f\nwrite /f 0 00\nschedule\nfinish\n", b"atomfs: calls 2, words 1, where tree file /f 00\n")),
         ))
 
