@@ -96,5 +96,33 @@ class Scripts(harness.Case):
         self.each(((f"script_{number}", number) for number in range(SCRIPTS)), look)
 
 
+# How many files of `Ordered` there are, and how many of them stand in the directory before it has a tree beside its entries.
+FILES, FEW = 240, 32
+
+
+def priority(node):
+    """By which the entries of a large directory stand above one another in the tree beside them (`fs_nodes`): the number of a node, mixed."""
+    word = (node ^ node >> 16) * 0x7FEB352D % 2**32
+    word = (word ^ word >> 15) * 0x846CA68B % 2**32
+    return word ^ word >> 16
+
+
+class Ordered(harness.Case):
+    """Names that are made against the tree beside the entries of a directory."""
+
+    def test_an_entry_that_stays_in_the_tree(self):
+        """It is too far down to be found where it goes to another directory. A search that meets it begins in its own directory all the same."""
+        nodes = sorted(range(4, 4 + FILES), key=priority)
+        name = {node: f"{FILES - at:03}" for at, node in enumerate(nodes)}
+        calls = ["mkdir /d", "mkdir /s", "mkdir /e", *(f"mknod /s/{node:03}" for node in sorted(nodes))]
+        calls += [f"rename /s/{node:03} /d/{name[node]}" for node in nodes]
+        calls += [f"rename /d/{name[nodes[FEW]]} /e/left", *(f"rename /d/{name[node]} /s/{node:03}" for node in nodes[FILES // 2 :])]
+        calls += ["mknod /d/new", "readdir /d", "readdir /e"]
+        script = drawn.script([calls])
+        outcome = harness.run(script.encode(), "run")
+        self.same(script, outcome._replace(output=b""), harness.Outcome(0))
+        self.same(script, model.fault(outcome.output.decode(), {0: calls}), None)
+
+
 if __name__ == "__main__":
     unittest.main()
