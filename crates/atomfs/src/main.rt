@@ -12,9 +12,6 @@ ghost use Rattle.fs_arguments.specs.Commands.{IsWithin};
 ghost use Rattle.fs_sched.specs.declared.seeding.TheConstants.{SEED_LIMIT};
 ghost use Rattle.fs_find.specs.declared.finding.TheConstants.{SEARCH_LIMIT};
 
-#[cfg(test)]
-mod tests;
-
 use fs_arguments::{Format, Histories, Subcommand, parse};
 use fs_command::{
     Line, SharedLine, report, report_check, report_draw, report_file, report_find, report_from,
