@@ -853,11 +853,11 @@ def naming_call(call):
 
 
 def limits():
-    """The limits by their constants, and those of names and files, which are two numbers each."""
+    """The limits by their constants, and those that each set of limits has, which are two numbers each."""
     files = "fs_names/src/limits.rt", "fs_words/src/limits.rt", "fs_script/src/limits.rt", "fs_sched/src/schedule.rt", "fs_sched/src/seeding.rt"
     found = {name: [value] for file in files for name, value in constants(file).items()}
     values = [int(value) for value in re.findall(r"Limits::V[12] => ([\d_]+)", source("fs_names/src/limits.rt"))]
-    return found | {"name_limit": values[:2], "file_limit": values[2:]}
+    return found | {"name_limit": values[:2], "entry_limit": values[2:4], "file_limit": values[4:]}
 
 
 @functools.cache
@@ -884,7 +884,7 @@ class Touched(Sentences):
     HAVE = (
         *(("rename", file) for file in ("crates/fs_calls/src/table.rt", "crates/fs_calls/specs/Rows.antt", "crates/fs_machine/specs/Moves.antt", "tests/model.py", "embed/atomfs.h")),
         *(("PATH_LIMIT", file) for file in ("crates/fs_walk/src/walk.rt", "crates/fs_names/proofs/ReadingLemmas.antt", "tests/data/explained/TooManyNames")),
-        *(("ENTRY_LIMIT", file) for file in ("crates/fs_calls/src/ranges.rt", "crates/fs_calls/specs/Examples.antt", "crates/fs_seq/proofs/Spots.antt", "tests/data/transcripts/trees")),
+        *(("entry_limit", file) for file in ("crates/fs_calls/specs/Forms.antt", "crates/fs_calls/specs/Examples.antt", "crates/fs_seq/specs/Rows.antt", "tests/data/transcripts/trees")),
         *(("NODE_LIMIT", file) for file in ("crates/fs_nodes/src/store.rt", "crates/fs_laws/specs/Events.antt", "embed/atomfs.h", "docs/SPECIFICATION.md")),
         *(("TEXT_LIMIT", file) for file in ("crates/fs_io/specs/Devices.antt", "crates/fs_words/proofs/ReadLemmas.antt", "docs/FORMATS.md", "tests/data/explained/TooLarge")),
         *(("file_limit", file) for file in ("crates/fs_names/specs/Limits.antt", "crates/fs_calls/specs/Examples.antt", "tests/data/transcripts/trees", "embed/atomfs.h")),
@@ -1072,12 +1072,11 @@ class Numbers(Sentences):
         limits = constants("fs_names/src/limits.rt")
         rows = {spans(name)[0]: (first, second) for _, first, second, name in table(SPECIFICATION, "What", "`V1`", "`V2`", "Named by")}
         self.agrees("the limits", {name: number(first) for name, (first, _) in rows.items() if name in limits}, limits)
-        (name, longer), (file, larger) = (map(number, rows[f"Limits::{what}"]) for what in ("name", "file"))
+        (name, longer), (fewer, entries), (file, larger) = (map(number, rows[f"Limits::{what}"]) for what in ("name", "entries", "file"))
         source = (CRATES / "fs_names" / "src" / "limits.rt").read_text()
         found = [int(value) for value in re.findall(r"Limits::V[12] => ([\d_]+)", source)]
-        self.agrees("the two sets of limits", [name, longer, file, larger], found)
-        entries, names = limits["ENTRY_LIMIT"], limits["PATH_LIMIT"]
-        nodes = limits["NODE_LIMIT"]
+        self.agrees("the two sets of limits", [name, longer, fewer, entries, file, larger], found)
+        names, nodes = limits["PATH_LIMIT"], limits["NODE_LIMIT"]
         self.says(README, f"names of {longer} bytes, files of {larger:,}, {entries} entries in a directory, paths of {names} names, {nodes:,} nodes")
         self.says(README, f"Scripts `atomfs 1` and `atomfs_open` have names of {name} bytes and files of {file:,}")
         self.says(CHOOSING, f"{entries} entries in a directory, {larger:,} bytes in a file, {longer} in a name")

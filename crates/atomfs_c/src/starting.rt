@@ -1,7 +1,6 @@
 //! The exports that open a handle at a tree: one that is read from a text, or the one at which another handle stands.
 
 ghost use Rattle.std.specs.Prelude.{◌≡◌, ◌≢◌, ◌<◌, ◌≤◌, ◌⊎◌, ◌↔◌, None, Some, Ok, Err, IsSome, IsSomeAnd, length};
-ghost use Rattle.fs_names.specs.Limits.{file_limit};
 ghost use Rattle.fs_names.specs.declared.limits.TheConstants.{NODE_LIMIT};
 ghost use Rattle.fs_calls.specs.Outcomes.{next_start, play};
 ghost use Rattle.fs_calls.specs.Starts.{Start};
@@ -26,7 +25,7 @@ use std::alloc::Global;
 fn open_at(alloc: Global, handle: &mut Handle, start: SeqTree, limit: usize) -> u8
     requires least { 1 ≤ limit }
     requires most { limit ≤ NODE_LIMIT }
-    requires within { IsWithinLimits (file_limit start.limits) start.tree }
+    requires within { IsWithinLimits start.limits start.tree }
     ensures opened { result ≡ OK → IsSomeAnd handle.new.held.core (IsOpenedAt start limit) }
     ensures full { result ≡ FULL → limit < length start.tree }
     ensures only { (result ≡ OK) ⊎ (result ≡ FULL) ⊎ (result ≡ NO_MEMORY) }

@@ -4,7 +4,7 @@ use crate::starts::core_comes_out;
 use anyhow::{Result, bail, ensure};
 use fs_calls::Call;
 use fs_journal::check_from;
-use fs_names::{ENTRY_LIMIT, Kind, Limits, Name, PATH_LIMIT, Path};
+use fs_names::{Kind, Limits, Name, PATH_LIMIT, Path};
 use fs_seq::{NotTree, Row, SeqTree};
 use fs_text::read_entries;
 use fs_timeline::{FaultKind, Verdict};
@@ -194,11 +194,11 @@ fn compare_shape(
 
 /// Rows at the limits, and beyond each, by both sets.
 fn compare_limits(alloc: Global, limits: Limits) -> Result<()> {
-    let full = ENTRY_LIMIT + 1;
+    let most = limits.entries();
     let longer = limits.file().wrapping_add(1);
     for (shape, size, bad) in [
-        (Shape::Wide, ENTRY_LIMIT, None),
-        (Shape::Wide, full, Some(full + 1)),
+        (Shape::Wide, most, None),
+        (Shape::Wide, most + 1, Some(most + 2)),
         (Shape::Long, limits.file(), None),
         (Shape::Long, longer, Some(2)),
         (Shape::Deep, PATH_LIMIT + 6, None),

@@ -2,7 +2,7 @@
 
 use crate::calls::{is_lawful, path};
 use fs_calls::{Call, Reply};
-use fs_names::{CallNo, ENTRY_LIMIT, Kind, Limits, Name};
+use fs_names::{CallNo, Kind, Limits, Name};
 use fs_nodes::{NodeNo, Store};
 use fs_seq::SeqTree;
 use fs_share::Closed;
@@ -50,7 +50,7 @@ fn entry(alloc: Global, dir: &[u8], name: &Name, node: NodeNo) -> Option<Place> 
 /// Puts the entries of a directory on the stack.
 fn add_entries(alloc: Global, store: &Store, dir: &Place, stack: &mut Vec<Place>) -> Option<()> {
     let mut low: Option<Name> = None;
-    for _ in 0..=ENTRY_LIMIT {
+    for _ in 0..=store.entries(dir.node) {
         if !store.is_used(dir.node) || !store.is_dir(dir.node) {
             return None;
         }

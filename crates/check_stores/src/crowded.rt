@@ -4,7 +4,7 @@ use crate::drawing::below;
 use crate::twins::{Twin, Twins};
 use anyhow::{Result, ensure};
 use check_nodes::looks::Looks;
-use fs_names::{ENTRY_LIMIT, Kind, Name};
+use fs_names::{Kind, Limits, Name};
 use rand_core::{Rng, SeedableRng};
 use rand_pcg::Pcg32;
 use std::alloc::Global;
@@ -103,7 +103,7 @@ fn add_tree(twins: &mut Twins) -> Result<()> {
 
 /// Whether a directory may have one entry more.
 fn has_room(twins: &Twins, dir: &Twin) -> bool {
-    twins.entries(dir) < ENTRY_LIMIT
+    twins.entries(dir) < Limits::V2.entries()
 }
 
 /// A drawn call in two directories, each with a drawn name and that of the entry above it: far more entries come than go.

@@ -5,8 +5,10 @@ use Rattle.fs_names.specs.Failures.{check, first_failure}
 use Rattle.fs_names.specs.Names.{Name}
 use Rattle.fs_names.specs.Keys.{Key, is_root, is_proper_prefix, after_prefix, parent_of}
 use Rattle.fs_names.proofs.FailureLemmas.{or_else-none, check-none}
+use Rattle.fs_names.specs.Limits.{entry_limit, file_limit}
+use Rattle.fs_names.specs.declared.limits.Limits.{Limits}
 use Rattle.fs_calls.specs.Tree as tree
-use Rattle.fs_calls.specs.Tree.{Tree, Node, look, names_in, IsTree}
+use Rattle.fs_calls.specs.Tree.{Tree, Node, look, IsTree}
 use Rattle.fs_calls.specs.Sights.{tree_shapes, shape_of, is_there, is_missing, is_dir, is_file, has_entries, has_any, is_full}
 use Rattle.fs_calls.proofs.RowNames.{making}
 use Rattle.fs_calls.specs.Forms.{form, by_text}
@@ -44,14 +46,14 @@ or_second true b e = absurd (cc)
 or_second false b e = e
 
 -- a call without an error has none by its paths alone
-pub by_text_none : (most : ℕ) (t : Tree) (call : Call) → fault most t call ≡ None → by_text (form most call) ≡ None
+pub by_text_none : (limits : Limits) (t : Tree) (call : Call) → fault limits t call ≡ None → by_text (form limits call) ≡ None
 unfolding fault
-by_text_none most t call h = (or_else-none (by_text (form most call)) (row most t call) h).0
+by_text_none limits t call h = (or_else-none (by_text (form limits call)) (row limits t call) h).0
 
 -- and none by what is read
-row_none : (most : ℕ) (t : Tree) (call : Call) → fault most t call ≡ None → row most t call ≡ None
+row_none : (limits : Limits) (t : Tree) (call : Call) → fault limits t call ≡ None → row limits t call ≡ None
 unfolding fault
-row_none most t call h = (or_else-none (by_text (form most call)) (row most t call) h).1
+row_none limits t call h = (or_else-none (by_text (form limits call)) (row limits t call) h).1
 
 -- ---- shapes
 
@@ -87,9 +89,9 @@ pub record Makes (t : Tree) (p : Key) : Type 0 where
   pub absent : look t p ≡ None
 
 -- what both find, by their errors
-makes : (t : Tree) (p : Key) → IsTree t → check (is_root p) Eexist ≡ None → making (parents_resolution t p) (tree_shapes t (parent_of p)) (tree_shapes t p) ≡ None → Makes t p
-makes t p is text h =
-    let none = all_none (parents_resolution t p ∷ check (is_there (tree_shapes t p)) Eexist ∷ check (is_full (tree_shapes t (parent_of p))) Enospc ∷ []) h in
+makes : (most : ℕ) (t : Tree) (p : Key) → IsTree t → check (is_root p) Eexist ≡ None → making most (parents_resolution t p) (tree_shapes t (parent_of p)) (tree_shapes t p) ≡ None → Makes t p
+makes most t p is text h =
+    let none = all_none (parents_resolution t p ∷ check (is_there (tree_shapes t p)) Eexist ∷ check (is_full most (tree_shapes t (parent_of p))) Enospc ∷ []) h in
     record {
       named = check-none (is_root p) Eexist text;
       parent = parents_resolution-none t p is none.0;
@@ -97,12 +99,12 @@ makes t p is text h =
     }
 
 -- what mkdir finds
-pub mkdir_makes : (most : ℕ) (t : Tree) (p : Key) → IsTree t → fault most t (Mkdir p) ≡ None → Makes t p
-mkdir_makes most t p is h = makes t p is (by_text_none most t (Mkdir p) h) (row_none most t (Mkdir p) h)
+pub mkdir_makes : (limits : Limits) (t : Tree) (p : Key) → IsTree t → fault limits t (Mkdir p) ≡ None → Makes t p
+mkdir_makes limits t p is h = makes (entry_limit limits) t p is (by_text_none limits t (Mkdir p) h) (row_none limits t (Mkdir p) h)
 
 -- what mknod finds
-pub mknod_makes : (most : ℕ) (t : Tree) (p : Key) → IsTree t → fault most t (Mknod p) ≡ None → Makes t p
-mknod_makes most t p is h = makes t p is (by_text_none most t (Mknod p) h) (row_none most t (Mknod p) h)
+pub mknod_makes : (limits : Limits) (t : Tree) (p : Key) → IsTree t → fault limits t (Mknod p) ≡ None → Makes t p
+mknod_makes limits t p is h = makes (entry_limit limits) t p is (by_text_none limits t (Mknod p) h) (row_none limits t (Mknod p) h)
 
 -- unlink and rmdir find a node with nothing below it, which is not the root
 pub record Removes (t : Tree) (p : Key) : Type 0 where
@@ -111,23 +113,23 @@ pub record Removes (t : Tree) (p : Key) : Type 0 where
   pub bare : (x : Name) (rest : Key) → look t (p ++ x ∷ rest) ≡ None
 
 -- what unlink finds
-pub unlink_removes : (most : ℕ) (t : Tree) (p : Key) → IsTree t → fault most t (Unlink p) ≡ None → Removes t p
-unlink_removes most t p is h =
-    let none = all_none (parents_resolution t p ∷ check (is_missing (tree_shapes t p)) Enoent ∷ check (is_dir (tree_shapes t p)) Eperm ∷ []) (row_none most t (Unlink p) h) in
+pub unlink_removes : (limits : Limits) (t : Tree) (p : Key) → IsTree t → fault limits t (Unlink p) ≡ None → Removes t p
+unlink_removes limits t p is h =
+    let none = all_none (parents_resolution t p ∷ check (is_missing (tree_shapes t p)) Enoent ∷ check (is_dir (tree_shapes t p)) Eperm ∷ []) (row_none limits t (Unlink p) h) in
     let missing = check-none (is_missing (tree_shapes t p)) Enoent none.1.0 in
     let dir = check-none (is_dir (tree_shapes t p)) Eperm none.1.1.0 in
     record {
-      named = check-none (is_root p) Eperm (by_text_none most t (Unlink p) h);
+      named = check-none (is_root p) Eperm (by_text_none limits t (Unlink p) h);
       there = some_there t p (look t p) missing;
       bare = nothing_below t p is (no_directory t p (look t p) missing dir);
     }
 
 -- what rmdir finds
-pub rmdir_removes : (most : ℕ) (t : Tree) (p : Key) → IsTree t → fault most t (Rmdir p) ≡ None → Removes t p
-rmdir_removes most t p is h =
-    let none = all_none (parents_resolution t p ∷ check (is_missing (tree_shapes t p)) Enoent ∷ check (is_file (tree_shapes t p)) Enotdir ∷ check (has_entries (tree_shapes t p)) Enotempty ∷ []) (row_none most t (Rmdir p) h) in
+pub rmdir_removes : (limits : Limits) (t : Tree) (p : Key) → IsTree t → fault limits t (Rmdir p) ≡ None → Removes t p
+rmdir_removes limits t p is h =
+    let none = all_none (parents_resolution t p ∷ check (is_missing (tree_shapes t p)) Enoent ∷ check (is_file (tree_shapes t p)) Enotdir ∷ check (has_entries (tree_shapes t p)) Enotempty ∷ []) (row_none limits t (Rmdir p) h) in
     record {
-      named = check-none (is_root p) Ebusy (by_text_none most t (Rmdir p) h);
+      named = check-none (is_root p) Ebusy (by_text_none limits t (Rmdir p) h);
       there = some_there t p (look t p) (check-none (is_missing (tree_shapes t p)) Enoent none.1.0);
       bare = bare_below t p (look t p) is refl (check-none (has_entries (tree_shapes t p)) Enotempty none.1.1.1.0);
     }
@@ -148,12 +150,12 @@ writes t p checks is h =
     }
 
 -- what write finds
-pub write_writes : (most : ℕ) (t : Tree) (p : Key) (off : ℕ) (bytes : List ℕ) → IsTree t → fault most t (Write p off bytes) ≡ None → Writes t p
-write_writes most t p off bytes is h = writes t p (check (has_any bytes && nat_lt most (off + length bytes)) Efbig ∷ []) is (row_none most t (Write p off bytes) h)
+pub write_writes : (limits : Limits) (t : Tree) (p : Key) (off : ℕ) (bytes : List ℕ) → IsTree t → fault limits t (Write p off bytes) ≡ None → Writes t p
+write_writes limits t p off bytes is h = writes t p (check (has_any bytes && nat_lt (file_limit limits) (off + length bytes)) Efbig ∷ []) is (row_none limits t (Write p off bytes) h)
 
 -- what truncate finds
-pub truncate_writes : (most : ℕ) (t : Tree) (p : Key) (size : ℕ) → IsTree t → fault most t (Truncate p size) ≡ None → Writes t p
-truncate_writes most t p size is h = writes t p (check (nat_lt most size) Efbig ∷ []) is (row_none most t (Truncate p size) h)
+pub truncate_writes : (limits : Limits) (t : Tree) (p : Key) (size : ℕ) → IsTree t → fault limits t (Truncate p size) ≡ None → Writes t p
+truncate_writes limits t p size is h = writes t p (check (nat_lt (file_limit limits) size) Efbig ∷ []) is (row_none limits t (Truncate p size) h)
 
 -- a rename that moves finds a node, a directory for its new place, and nothing below that place; neither path is the
 -- root, and the node does not stand above its new place
@@ -166,12 +168,12 @@ pub record Renames (t : Tree) (p q : Key) : Type 0 where
   pub bare : (x : Name) (rest : Key) → look t (q ++ x ∷ rest) ≡ None
 
 -- what a rename finds
-pub rename_renames : (most : ℕ) (t : Tree) (p q : Key) → IsTree t → fault most t (Rename p q) ≡ None → p ≢ q → Renames t p q
-rename_renames most t p q is h other =
-    let text = all_none (check (is_root p || is_root q) Ebusy ∷ check (is_proper_prefix p q) Einval ∷ []) (by_text_none most t (Rename p q) h) in
+pub rename_renames : (limits : Limits) (t : Tree) (p q : Key) → IsTree t → fault limits t (Rename p q) ≡ None → p ≢ q → Renames t p q
+rename_renames limits t p q is h other =
+    let text = all_none (check (is_root p || is_root q) Ebusy ∷ check (is_proper_prefix p q) Einval ∷ []) (by_text_none limits t (Rename p q) h) in
     let roots = check-none (is_root p || is_root q) Ebusy text.0 in
-    let rest = place_errors (tree_shapes t p) (tree_shapes t q) (has_room (is_same (parent_of p) (parent_of q)) (tree_shapes t (parent_of q))) in
-    let none = all_none (parents_resolution t p ∷ parents_resolution t q ∷ check (is_missing (tree_shapes t p)) Enoent ∷ cond {A = List (Option Errno)} (is_same p q) [] rest) (row_none most t (Rename p q) h) in
+    let rest = place_errors (tree_shapes t p) (tree_shapes t q) (has_room (entry_limit limits) (is_same (parent_of p) (parent_of q)) (tree_shapes t (parent_of q))) in
+    let none = all_none (parents_resolution t p ∷ parents_resolution t q ∷ check (is_missing (tree_shapes t p)) Enoent ∷ cond {A = List (Option Errno)} (is_same p q) [] rest) (row_none limits t (Rename p q) h) in
     let replaced : AllNone rest = subst (λ b. AllNone (cond {A = List (Option Errno)} b [] rest)) (never_same p q other) none.1.1.1 in
     record {
       named = or_first (is_root p) (is_root q) roots;
@@ -191,12 +193,12 @@ pub record Exchanges (t : Tree) (p q : Key) : Type 0 where
   pub other_parent : look t (parent_of q) ≡ Some tree.Dir
 
 -- what an exchange finds
-pub exchange_exchanges : (most : ℕ) (t : Tree) (p q : Key) → IsTree t → fault most t (Exchange p q) ≡ None → p ≢ q → Exchanges t p q
-exchange_exchanges most t p q is h other =
-    let text = all_none (check (is_root p || is_root q) Ebusy ∷ check (is_proper_prefix p q || is_proper_prefix q p) Einval ∷ []) (by_text_none most t (Exchange p q) h) in
+pub exchange_exchanges : (limits : Limits) (t : Tree) (p q : Key) → IsTree t → fault limits t (Exchange p q) ≡ None → p ≢ q → Exchanges t p q
+exchange_exchanges limits t p q is h other =
+    let text = all_none (check (is_root p || is_root q) Ebusy ∷ check (is_proper_prefix p q || is_proper_prefix q p) Einval ∷ []) (by_text_none limits t (Exchange p q) h) in
     let roots = check-none (is_root p || is_root q) Ebusy text.0 in
     let above = check-none (is_proper_prefix p q || is_proper_prefix q p) Einval text.1.0 in
-    let none = all_none (parents_resolution t p ∷ parents_resolution t q ∷ check (is_missing (tree_shapes t p)) Enoent ∷ check (is_missing (tree_shapes t q)) Enoent ∷ []) (row_none most t (Exchange p q) h) in
+    let none = all_none (parents_resolution t p ∷ parents_resolution t q ∷ check (is_missing (tree_shapes t p)) Enoent ∷ check (is_missing (tree_shapes t q)) Enoent ∷ []) (row_none limits t (Exchange p q) h) in
     record {
       named = or_first (is_root p) (is_root q) roots;
       other_named = or_second (is_root p) (is_root q) roots;

@@ -1,5 +1,6 @@
 -- Lemmas on replies and effects.
-use Rattle.std.proofs.Common.{ℕ, ◌≡◌, Option, Some, None, refl}
+use Rattle.std.proofs.Common.{◌≡◌, Option, Some, None, refl}
+use Rattle.fs_names.specs.declared.limits.Limits.{Limits}
 use Rattle.fs_calls.specs.Tree.{Tree}
 use Rattle.fs_calls.specs.Laws.{ErrorsChangeNothing}
 use Rattle.fs_calls.specs.Outcomes.{fault, reply, after, success, change, replied, if_sound}
@@ -9,23 +10,23 @@ use Rattle.fs_calls.specs.declared.reply.Reply.TheVariants.{Failed}
 use Rattle.fs_calls.specs.declared.errno.Errno.{Errno}
 
 -- a call without an error that answers one all the same changes nothing: only a stat could
-success_changes_nothing : (most : ℕ) (t : Tree) (call : Call) (e : Errno) → success most t call ≡ Failed e → change most t call ≡ t
-success_changes_nothing most t (Mkdir p) e h = absurd (cc)
-success_changes_nothing most t (Mknod p) e h = absurd (cc)
-success_changes_nothing most t (Unlink p) e h = absurd (cc)
-success_changes_nothing most t (Rmdir p) e h = absurd (cc)
-success_changes_nothing most t (Rename p q) e h = absurd (cc)
-success_changes_nothing most t (Exchange p q) e h = absurd (cc)
-success_changes_nothing most t (Stat p) e h = refl
-success_changes_nothing most t (Readdir p) e h = refl
-success_changes_nothing most t (Read p off count) e h = refl
-success_changes_nothing most t (Write p off bytes) e h = absurd (cc)
-success_changes_nothing most t (Truncate p size) e h = absurd (cc)
+success_changes_nothing : (limits : Limits) (t : Tree) (call : Call) (e : Errno) → success limits t call ≡ Failed e → change limits t call ≡ t
+success_changes_nothing limits t (Mkdir p) e h = absurd (cc)
+success_changes_nothing limits t (Mknod p) e h = absurd (cc)
+success_changes_nothing limits t (Unlink p) e h = absurd (cc)
+success_changes_nothing limits t (Rmdir p) e h = absurd (cc)
+success_changes_nothing limits t (Rename p q) e h = absurd (cc)
+success_changes_nothing limits t (Exchange p q) e h = absurd (cc)
+success_changes_nothing limits t (Stat p) e h = refl
+success_changes_nothing limits t (Readdir p) e h = refl
+success_changes_nothing limits t (Read p off count) e h = refl
+success_changes_nothing limits t (Write p off bytes) e h = absurd (cc)
+success_changes_nothing limits t (Truncate p size) e h = absurd (cc)
 
-by_fault : (most : ℕ) (found : Option Errno) (t : Tree) (call : Call) (e : Errno) → replied found (success most t call) ≡ Failed e → if_sound found t (change most t call) ≡ t
-by_fault most None t call e h = success_changes_nothing most t call e h
-by_fault most (Some f) t call e h = refl
+by_fault : (limits : Limits) (found : Option Errno) (t : Tree) (call : Call) (e : Errno) → replied found (success limits t call) ≡ Failed e → if_sound found t (change limits t call) ≡ t
+by_fault limits None t call e h = success_changes_nothing limits t call e h
+by_fault limits (Some f) t call e h = refl
 
 pub errors_change_nothing : ErrorsChangeNothing
 unfolding reply after
-errors_change_nothing most t call e h = by_fault most (fault most t call) t call e h
+errors_change_nothing limits t call e h = by_fault limits (fault limits t call) t call e h

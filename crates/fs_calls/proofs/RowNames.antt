@@ -1,28 +1,28 @@
 -- The rows of the calls by name, for proofs that speak of one row.
-use Rattle.std.proofs.Common.{◌≡◌, ℕ, false, List, [], ◌∷◌, Option, Some, None, refl}
+use Rattle.std.proofs.Common.{◌≡◌, ℕ, List, [], ◌∷◌, Option, Some, None, refl}
 use Rattle.fs_names.specs.Failures.{check, first_failure}
 use Rattle.fs_names.specs.Keys.{Key, has_more}
 use Rattle.fs_names.specs.Names.{Name}
-use Rattle.fs_names.specs.Shapes.{Shape, Dir, is_full}
+use Rattle.fs_names.specs.Shapes.{Shape, Dir}
 use Rattle.fs_calls.specs.Forms.{Mkdir, Unlink, Rmdir, NodeCall, Stat, Readdir, Read, Write, Truncate}
 use Rattle.fs_calls.specs.Rows.{node_fault, entry_fault, node_row}
 use Rattle.fs_calls.specs.declared.errno.Errno.{Errno}
 use Rattle.fs_calls.specs.declared.errno.Errno.TheVariants.{Einval}
 
 -- mkdir and mknod
-abbrev pub making : Option Errno → Option Shape → Option Shape → Option Errno
-making parent dir there = entry_fault Mkdir parent (is_full dir) there
+abbrev pub making : ℕ → Option Errno → Option Shape → Option Shape → Option Errno
+making most parent dir there = entry_fault (Mkdir most) parent dir there
 
 -- unlink and rmdir do not ask whether the directory is full
 abbrev pub unlinking : Option Errno → Option Shape → Option Errno
-unlinking parent there = entry_fault Unlink parent false there
+unlinking parent there = entry_fault Unlink parent None there
 
 abbrev pub removing : Option Errno → Option Shape → Option Errno
-removing parent there = entry_fault Rmdir parent false there
+removing parent there = entry_fault Rmdir parent None there
 
 -- readdir, read, write, truncate
 abbrev pub listing : Option Errno → Option Shape → Option Errno
-listing found there = node_fault Readdir found there
+listing found there = node_fault (Readdir 0) found there
 
 abbrev pub reading : Option Errno → Option Shape → Option Errno
 reading found there = node_fault (Read 0 0 0) found there
@@ -40,7 +40,7 @@ if_below rest = first_failure (check (has_more rest) Einval ∷ [])
 -- a directory gets no bytes
 pub on_dir : (c : NodeCall) (names : List Name) → (node_row c None (Some (Dir names))).1 ≡ None
 on_dir Stat names = refl
-on_dir Readdir names = refl
+on_dir (Readdir most) names = refl
 on_dir (Read most off count) names = refl
 on_dir (Write most off bytes) names = refl
 on_dir (Truncate most size) names = refl

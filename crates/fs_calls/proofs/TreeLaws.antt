@@ -3,8 +3,8 @@ use Rattle.std.proofs.Common.{◌≡◌, ◌≢◌, ℕ, Bool, true, false, cond
 use Rattle.std.proofs.lemmas.Float.{T_from_true}
 use Rattle.fs_names.specs.Names.{Name}
 use Rattle.fs_names.specs.Keys.{Key, same_key, is_root, after_prefix}
-use Rattle.fs_names.specs.Limits.{file_limit}
 use Rattle.fs_names.proofs.Lemmas.{after_prefix-exact, after_prefix-append}
+use Rattle.fs_names.specs.declared.limits.Limits.{Limits}
 use Rattle.fs_calls.specs.Tree.{Tree, Node, Dir, File, look, root_tree, inserted, removed, renamed, exchanged, exchanged_key, IsTree}
 use Rattle.fs_calls.specs.Sights.{tree_shapes, has_any, bytes_of}
 use Rattle.fs_calls.specs.Starts.{Start}
@@ -203,30 +203,30 @@ keep true t new is may = is
 keep false t new is may = may refl
 
 -- the change of a call without an error
-tree-change : (most : ℕ) (t : Tree) (call : Call) → IsTree t → fault most t call ≡ None → IsTree (change most t call)
-tree-change most t (Mkdir p) is h = made t p Dir is (mkdir_makes most t p is h)
-tree-change most t (Mknod p) is h = made t p (File []) is (mknod_makes most t p is h)
-tree-change most t (Unlink p) is h = gone t p is (unlink_removes most t p is h)
-tree-change most t (Rmdir p) is h = gone t p is (rmdir_removes most t p is h)
-tree-change most t (Rename p q) is h = keep (is_same p q) t (renamed t p q) is (λ other. tree-renamed t p q is (rename_renames most t p q is h (only_same p q other)))
-tree-change most t (Exchange p q) is h = keep (is_same p q) t (exchanged t p q) is (λ other. tree-exchanged t p q is (exchange_exchanges most t p q is h (only_same p q other)))
-tree-change most t (Stat p) is h = is
-tree-change most t (Readdir p) is h = is
-tree-change most t (Read p off count) is h = is
-tree-change most t (Write p off bytes) is h =
-    let new : IsTree (inserted t p (File (written (bytes_of (tree_shapes t p)) off bytes))) = rewritten t p (File (written (bytes_of (tree_shapes t p)) off bytes)) is (write_writes most t p off bytes is h) in
+tree-change : (limits : Limits) (t : Tree) (call : Call) → IsTree t → fault limits t call ≡ None → IsTree (change limits t call)
+tree-change limits t (Mkdir p) is h = made t p Dir is (mkdir_makes limits t p is h)
+tree-change limits t (Mknod p) is h = made t p (File []) is (mknod_makes limits t p is h)
+tree-change limits t (Unlink p) is h = gone t p is (unlink_removes limits t p is h)
+tree-change limits t (Rmdir p) is h = gone t p is (rmdir_removes limits t p is h)
+tree-change limits t (Rename p q) is h = keep (is_same p q) t (renamed t p q) is (λ other. tree-renamed t p q is (rename_renames limits t p q is h (only_same p q other)))
+tree-change limits t (Exchange p q) is h = keep (is_same p q) t (exchanged t p q) is (λ other. tree-exchanged t p q is (exchange_exchanges limits t p q is h (only_same p q other)))
+tree-change limits t (Stat p) is h = is
+tree-change limits t (Readdir p) is h = is
+tree-change limits t (Read p off count) is h = is
+tree-change limits t (Write p off bytes) is h =
+    let new : IsTree (inserted t p (File (written (bytes_of (tree_shapes t p)) off bytes))) = rewritten t p (File (written (bytes_of (tree_shapes t p)) off bytes)) is (write_writes limits t p off bytes is h) in
     elim (has_any bytes) as (λ b. IsTree (filled t p (cond {A = Option (List ℕ)} b (Some (written (bytes_of (tree_shapes t p)) off bytes)) None))) [ true ↦ new | false ↦ is ]
-tree-change most t (Truncate p size) is h = rewritten t p (File (resized (bytes_of (tree_shapes t p)) size)) is (truncate_writes most t p size is h)
+tree-change limits t (Truncate p size) is h = rewritten t p (File (resized (bytes_of (tree_shapes t p)) size)) is (truncate_writes limits t p size is h)
 
 -- the tree after a call, by its first error
-by_fault : (most : ℕ) (t : Tree) (call : Call) (found : Option Errno) → IsTree t → fault most t call ≡ found → IsTree (if_sound found t (change most t call))
-by_fault most t call None is h = tree-change most t call is h
-by_fault most t call (Some e) is h = is
+by_fault : (limits : Limits) (t : Tree) (call : Call) (found : Option Errno) → IsTree t → fault limits t call ≡ found → IsTree (if_sound found t (change limits t call))
+by_fault limits t call None is h = tree-change limits t call is h
+by_fault limits t call (Some e) is h = is
 
 -- after a call, a tree is a tree
 pub stays_a_tree : StaysATree
 unfolding after
-stays_a_tree most t call is = by_fault most t call (fault most t call) is refl
+stays_a_tree limits t call is = by_fault limits t call (fault limits t call) is refl
 
 -- ---- trees that were played
 
@@ -246,7 +246,7 @@ tree_root = record {
 -- after several calls, a tree is a tree
 played_from : (start : Start) (calls : List Call) → IsTree start.tree → IsTree (play start calls)
 played_from start [] is = is
-played_from start (call ∷ calls) is = played_from (called start call) calls (stays_a_tree (file_limit start.limits) start.tree call is)
+played_from start (call ∷ calls) is = played_from (called start call) calls (stays_a_tree start.limits start.tree call is)
 
 -- what was played is a tree, with directories above all that stands in it
 pub played_trees_are_trees : PlayedTreesAreTrees
@@ -255,9 +255,9 @@ played_trees_are_trees = (tree_root, λ start calls tree. let is = played_from s
 -- ---- renames
 
 -- what a rename without an error leaves
-after_done : (most : ℕ) (t : Tree) (p q : Key) → fault most t (Rename p q) ≡ None → p ≢ q → after most t (Rename p q) ≡ renamed t p q
+after_done : (limits : Limits) (t : Tree) (p q : Key) → fault limits t (Rename p q) ≡ None → p ≢ q → after limits t (Rename p q) ≡ renamed t p q
 unfolding after
-after_done most t p q h other = ap (λ found. if_sound found t (change most t (Rename p q))) h ∙ ap (λ b. cond {A = Tree} b t (renamed t p q)) (never_same p q other)
+after_done limits t p q h other = ap (λ found. if_sound found t (change limits t (Rename p q))) h ∙ ap (λ b. cond {A = Tree} b t (renamed t p q)) (never_same p q other)
 
 -- a call on a path and itself leaves the tree, with an error or without
 onto_itself : (t new : Tree) (p : Key) (found : Option Errno) → if_sound found t (cond {A = Tree} (is_same p p) t new) ≡ t
@@ -268,10 +268,10 @@ onto_itself t new p (Some e) = refl
 pub renames_move : RenamesMove
 unfolding after
 renames_move = record {
-  moved = λ most t p q is h other.
-      let new = after_done most t p q h other in
-      subst (λ s. IsMoved t s p q) (sym new) (is_moved t p q (rename_renames most t p q is h other));
-  onto_itself = λ most t p. onto_itself t (renamed t p p) p (fault most t (Rename p p));
+  moved = λ limits t p q is h other.
+      let new = after_done limits t p q h other in
+      subst (λ s. IsMoved t s p q) (sym new) (is_moved t p q (rename_renames limits t p q is h other));
+  onto_itself = λ limits t p. onto_itself t (renamed t p p) p (fault limits t (Rename p p));
 }
 
 -- ---- exchanges
@@ -285,16 +285,16 @@ is_exchanged t p q may = record {
 }
 
 -- what an exchange without an error leaves
-after_exchange : (most : ℕ) (t : Tree) (p q : Key) → fault most t (Exchange p q) ≡ None → p ≢ q → after most t (Exchange p q) ≡ exchanged t p q
+after_exchange : (limits : Limits) (t : Tree) (p q : Key) → fault limits t (Exchange p q) ≡ None → p ≢ q → after limits t (Exchange p q) ≡ exchanged t p q
 unfolding after
-after_exchange most t p q h other = ap (λ found. if_sound found t (change most t (Exchange p q))) h ∙ ap (λ b. cond {A = Tree} b t (exchanged t p q)) (never_same p q other)
+after_exchange limits t p q h other = ap (λ found. if_sound found t (change limits t (Exchange p q))) h ∙ ap (λ b. cond {A = Tree} b t (exchanged t p q)) (never_same p q other)
 
 -- two nodes change places
 pub exchanges_swap : ExchangesSwap
 unfolding after
 exchanges_swap = record {
-  swapped = λ most t p q is h other.
-      let new = after_exchange most t p q h other in
-      subst (λ s. IsExchanged t s p q) (sym new) (is_exchanged t p q (exchange_exchanges most t p q is h other));
-  with_itself = λ most t p. onto_itself t (exchanged t p p) p (fault most t (Exchange p p));
+  swapped = λ limits t p q is h other.
+      let new = after_exchange limits t p q h other in
+      subst (λ s. IsExchanged t s p q) (sym new) (is_exchanged t p q (exchange_exchanges limits t p q is h other));
+  with_itself = λ limits t p. onto_itself t (exchanged t p p) p (fault limits t (Exchange p p));
 }

@@ -1,7 +1,8 @@
 -- What holds of the definitions: laws, each proved as the contract of a function of the module `laws`.
-use Rattle.std.specs.Prelude.{◌≡◌, ◌≢◌, ℕ, List, ◌∷◌, ◌++◌, Some, None}
+use Rattle.std.specs.Prelude.{◌≡◌, ◌≢◌, List, ◌∷◌, ◌++◌, Some, None}
 use Rattle.fs_names.specs.Names.{Name}
 use Rattle.fs_names.specs.Keys.{Key, after_prefix}
+use Rattle.fs_names.specs.declared.limits.Limits.{Limits}
 use Rattle.fs_calls.specs.Tree.{Tree, Node, Dir, look, IsTree, root_tree}
 use Rattle.fs_calls.specs.Starts.{Start, start_tree}
 use Rattle.fs_calls.specs.Outcomes.{fault, reply, after, play}
@@ -12,11 +13,11 @@ use Rattle.fs_calls.specs.declared.reply.Reply.TheVariants.{Failed}
 
 -- a call whose reply is an error leaves the tree
 abbrev pub ErrorsChangeNothing : Type 0
-ErrorsChangeNothing = (most : ℕ) (t : Tree) (call : Call) (e : Errno) → reply most t call ≡ Failed e → after most t call ≡ t
+ErrorsChangeNothing = (limits : Limits) (t : Tree) (call : Call) (e : Errno) → reply limits t call ≡ Failed e → after limits t call ≡ t
 
 -- after a call, a tree is a tree
 abbrev pub StaysATree : Type 0
-StaysATree = (most : ℕ) (t : Tree) (call : Call) → IsTree t → IsTree (after most t call)
+StaysATree = (limits : Limits) (t : Tree) (call : Call) → IsTree t → IsTree (after limits t call)
 
 -- what has something below it is a directory
 abbrev pub HasDirectoriesAbove : Tree → Type 0
@@ -38,8 +39,8 @@ pub record IsMoved (old new : Tree) (p q : Key) : Type 0 where
 
 -- a rename without an error moves a node, with all below it, and one onto itself changes nothing
 pub record RenamesMove : Type 0 where
-  pub moved : (most : ℕ) (t : Tree) (p q : Key) → IsTree t → fault most t (Rename p q) ≡ None → p ≢ q → IsMoved t (after most t (Rename p q)) p q
-  pub onto_itself : (most : ℕ) (t : Tree) (p : Key) → after most t (Rename p p) ≡ t
+  pub moved : (limits : Limits) (t : Tree) (p q : Key) → IsTree t → fault limits t (Rename p q) ≡ None → p ≢ q → IsMoved t (after limits t (Rename p q)) p q
+  pub onto_itself : (limits : Limits) (t : Tree) (p : Key) → after limits t (Rename p p) ≡ t
 
 -- the second tree has at each of p and q, and below it, what the first has at the other one, and all else as it was
 pub record IsExchanged (old new : Tree) (p q : Key) : Type 0 where
@@ -49,5 +50,5 @@ pub record IsExchanged (old new : Tree) (p q : Key) : Type 0 where
 
 -- an exchange without an error lets two nodes change places, each with all below it, and one of a path with itself changes nothing
 pub record ExchangesSwap : Type 0 where
-  pub swapped : (most : ℕ) (t : Tree) (p q : Key) → IsTree t → fault most t (Exchange p q) ≡ None → p ≢ q → IsExchanged t (after most t (Exchange p q)) p q
-  pub with_itself : (most : ℕ) (t : Tree) (p : Key) → after most t (Exchange p p) ≡ t
+  pub swapped : (limits : Limits) (t : Tree) (p q : Key) → IsTree t → fault limits t (Exchange p q) ≡ None → p ≢ q → IsExchanged t (after limits t (Exchange p q)) p q
+  pub with_itself : (limits : Limits) (t : Tree) (p : Key) → after limits t (Exchange p p) ≡ t

@@ -2,14 +2,13 @@
 use Rattle.std.specs.Prelude.{ℕ, List, [], ◌∷◌, if◌then◌else◌, Option, Some, None}
 use Rattle.fs_names.specs.Failures.{or_else}
 use Rattle.fs_names.specs.Keys.{Key, parent_of}
-use Rattle.fs_names.specs.Limits.{file_limit}
+use Rattle.fs_names.specs.declared.limits.Limits.{Limits}
 use Rattle.fs_calls.specs.Tree as tree
 use Rattle.fs_calls.specs.Tree.{Tree, Node, inserted, removed, renamed, exchanged}
 use Rattle.fs_calls.specs.Starts.{Start, start_tree}
 use Rattle.fs_calls.specs.Sights.{Shape, Dir, File, tree_shapes}
 use Rattle.fs_calls.specs.Sights.{resolve, resolve_dir, is_same, row_in}
-use Rattle.fs_calls.specs.Forms.{form, by_text, new_shape, Form, AtNode, AtEntry, AtPair}
-use Rattle.fs_calls.specs.declared.target.PairCall.TheVariants as pairs
+use Rattle.fs_calls.specs.Forms.{form, by_text, new_shape, Form, AtNode, AtEntry, AtPair, Rename, Exchange}
 use Rattle.fs_calls.specs.Rows.{node_reply, new_bytes, Edit, Keep, Add, Remove, edit_of}
 use Rattle.fs_calls.specs.declared.call.Call.{Call}
 use Rattle.fs_calls.specs.declared.reply.Reply.{Reply}
@@ -28,8 +27,8 @@ parents_resolution t p = resolve_dir (tree_shapes t) (parent_of p)
 abbrev pub reply_of : Tree → Form → Reply
 reply_of t (AtNode c p) = node_reply c (tree_shapes t p)
 reply_of t (AtEntry c p) = answer.Done
-reply_of t (AtPair pairs.Rename p q) = answer.Done
-reply_of t (AtPair pairs.Exchange p q) = answer.Done
+reply_of t (AtPair (Rename most) p q) = answer.Done
+reply_of t (AtPair Exchange p q) = answer.Done
 
 -- the file at a key has new bytes from now on; None: the tree stays
 abbrev pub filled : Tree → Key → Option (List ℕ) → Tree
@@ -51,24 +50,24 @@ edited t p Remove = removed t p
 abbrev pub change_of : Tree → Form → Tree
 change_of t (AtNode c p) = filled t p (new_bytes c (tree_shapes t p))
 change_of t (AtEntry c p) = edited t p (edit_of (new_shape c))
-change_of t (AtPair pairs.Rename p q) = if is_same p q then t else renamed t p q
-change_of t (AtPair pairs.Exchange p q) = if is_same p q then t else exchanged t p q
+change_of t (AtPair (Rename most) p q) = if is_same p q then t else renamed t p q
+change_of t (AtPair Exchange p q) = if is_same p q then t else exchanged t p q
 
 -- the first error behind those that the paths decide alone
-abbrev pub row : ℕ → Tree → Call → Option Errno
-row most t call = row_in (tree_shapes t) (form most call)
+abbrev pub row : Limits → Tree → Call → Option Errno
+row limits t call = row_in (tree_shapes t) (form limits call)
 
 -- the reply to a call, if it has no error
-abbrev pub success : ℕ → Tree → Call → Reply
-success most t call = reply_of t (form most call)
+abbrev pub success : Limits → Tree → Call → Reply
+success limits t call = reply_of t (form limits call)
 
 -- the tree after a call, if it has no error
-abbrev pub change : ℕ → Tree → Call → Tree
-change most t call = change_of t (form most call)
+abbrev pub change : Limits → Tree → Call → Tree
+change limits t call = change_of t (form limits call)
 
--- the first error of a call, where a file has at most so many bytes
-unfoldable pub fault : ℕ → Tree → Call → Option Errno
-fault most t call = or_else (by_text (form most call)) (row most t call)
+-- the first error of a call by these limits
+unfoldable pub fault : Limits → Tree → Call → Option Errno
+fault limits t call = or_else (by_text (form limits call)) (row limits t call)
 
 -- an error is the reply, and else what a call without one replies
 abbrev pub replied : Option Errno → Reply → Reply
@@ -81,20 +80,20 @@ if_sound None old new = new
 if_sound (Some e) old new = old
 
 -- what a call replies on a tree
-unfoldable pub reply : ℕ → Tree → Call → Reply
-reply most t call = replied (fault most t call) (success most t call)
+unfoldable pub reply : Limits → Tree → Call → Reply
+reply limits t call = replied (fault limits t call) (success limits t call)
 
 -- the tree after a call
-unfoldable pub after : ℕ → Tree → Call → Tree
-after most t call = if_sound (fault most t call) t (change most t call)
+unfoldable pub after : Limits → Tree → Call → Tree
+after limits t call = if_sound (fault limits t call) t (change limits t call)
 
 -- what a call replies at a start
 abbrev pub reply_at : Start → Call → Reply
-reply_at start call = reply (file_limit start.limits) (start_tree start) call
+reply_at start call = reply start.limits (start_tree start) call
 
 -- the start that a call leaves: the tree after it, by the same limits
 abbrev pub called : Start → Call → Start
-called start call = record { limits = start.limits; tree = after (file_limit start.limits) (start_tree start) call }
+called start call = record { limits = start.limits; tree = after start.limits (start_tree start) call }
 
 -- the tree after a list of calls, from a start
 abbrev pub play : Start → List Call → Tree

@@ -15,17 +15,17 @@ use Rattle.fs_calls.specs.declared.reply.Reply.TheVariants as answer
 -- a call on a node, by what stands at the path
 abbrev pub node_errors : NodeCall → Option Shape → List (Option Errno)
 node_errors Stat there = []
-node_errors Readdir there = check (is_file there) Enotdir ∷ []
+node_errors (Readdir most) there = check (is_file there) Enotdir ∷ []
 node_errors (Read most off count) there = check (is_dir there) Eisdir ∷ []
 node_errors (Write most off bytes) there = check (is_dir there) Eisdir ∷ check (has_any bytes && nat_lt most (off + length bytes)) Efbig ∷ []
 node_errors (Truncate most size) there = check (is_dir there) Eisdir ∷ check (nat_lt most size) Efbig ∷ []
 
--- a call on an entry, by whether its directory is full and what stands at the path
-abbrev pub entry_errors : EntryCall → Bool → Option Shape → List (Option Errno)
-entry_errors Mkdir full there = check (is_there there) Eexist ∷ check full Enospc ∷ []
-entry_errors Mknod full there = check (is_there there) Eexist ∷ check full Enospc ∷ []
-entry_errors Unlink full there = check (is_missing there) Enoent ∷ check (is_dir there) Eperm ∷ []
-entry_errors Rmdir full there = check (is_missing there) Enoent ∷ check (is_file there) Enotdir ∷ check (has_entries there) Enotempty ∷ []
+-- a call on an entry, by its directory and what stands at the path
+abbrev pub entry_errors : EntryCall → Option Shape → Option Shape → List (Option Errno)
+entry_errors (Mkdir most) dir there = check (is_there there) Eexist ∷ check (is_full most dir) Enospc ∷ []
+entry_errors (Mknod most) dir there = check (is_there there) Eexist ∷ check (is_full most dir) Enospc ∷ []
+entry_errors Unlink dir there = check (is_missing there) Enoent ∷ check (is_dir there) Eperm ∷ []
+entry_errors Rmdir dir there = check (is_missing there) Enoent ∷ check (is_file there) Enotdir ∷ check (has_entries there) Enotempty ∷ []
 
 -- the new path of a rename, by what stands at both paths and whether the new one has room
 abbrev pub place_errors : Option Shape → Option Shape → Bool → List (Option Errno)
@@ -45,8 +45,8 @@ abbrev pub rename_errors : Option Shape → Bool → Option Shape → Bool → L
 rename_errors moved same_path there room = check (is_missing moved) Enoent ∷ (if same_path then [] else place_errors moved there room)
 
 -- an entry has room in the directory from which it comes, and in one that is not full
-abbrev pub has_room : Bool → Option Shape → Bool
-has_room one_parent dir = one_parent || not (is_full dir)
+abbrev pub has_room : ℕ → Bool → Option Shape → Bool
+has_room most one_parent dir = one_parent || not (is_full most dir)
 
 -- a parent's resolution, by that of its path and what stands there
 abbrev pub as_dir : Option Errno → Option Shape → Option Errno
@@ -57,8 +57,8 @@ abbrev pub node_fault : NodeCall → Option Errno → Option Shape → Option Er
 node_fault c found there = first_failure (found ∷ check (is_missing there) Enoent ∷ node_errors c there)
 
 -- the same of a call on an entry, behind the resolution of its parent
-abbrev pub entry_fault : EntryCall → Option Errno → Bool → Option Shape → Option Errno
-entry_fault c parent full there = first_failure (parent ∷ entry_errors c full there)
+abbrev pub entry_fault : EntryCall → Option Errno → Option Shape → Option Shape → Option Errno
+entry_fault c parent dir there = first_failure (parent ∷ entry_errors c dir there)
 
 -- the same of a rename, behind the resolutions of both parents
 abbrev pub rename_fault : Option Errno → Option Errno → Option Shape → Bool → Option Shape → Bool → Option Errno
@@ -70,7 +70,7 @@ exchange_errors one other = check (is_missing one) Enoent ∷ check (is_missing 
 
 -- a call on two entries, by the same as a rename
 abbrev pub pair_errors : PairCall → Option Shape → Bool → Option Shape → Bool → List (Option Errno)
-pair_errors Rename one same_path other room = rename_errors one same_path other room
+pair_errors (Rename most) one same_path other room = rename_errors one same_path other room
 pair_errors Exchange one same_path other room = exchange_errors one other
 
 -- the first error of an exchange, behind the resolutions of both parents
@@ -88,7 +88,7 @@ status (Some (File bytes)) = answer.Stat kind.File (length bytes)
 -- a call on a node; all other calls reply Done
 abbrev pub node_reply : NodeCall → Option Shape → Reply
 node_reply Stat there = status there
-node_reply Readdir there = answer.Names (names_of there)
+node_reply (Readdir most) there = answer.Names (names_of there)
 node_reply (Read most off count) there = answer.Bytes (take count (drop off (bytes_of there)))
 node_reply (Write most off bytes) there = answer.Wrote (length bytes)
 node_reply (Truncate most size) there = answer.Done
@@ -104,7 +104,7 @@ resized old size = take size old ++ replicate (size - length old) 0
 -- the new bytes of a file, if any
 abbrev pub new_bytes : NodeCall → Option Shape → Option (List ℕ)
 new_bytes Stat there = None
-new_bytes Readdir there = None
+new_bytes (Readdir most) there = None
 new_bytes (Read most off count) there = None
 new_bytes (Write most off bytes) there = if has_any bytes then Some (written (bytes_of there) off bytes) else None
 new_bytes (Truncate most size) there = Some (resized (bytes_of there) size)
@@ -131,9 +131,9 @@ answered None unchanged reply change = (reply, change)
 abbrev pub node_row : NodeCall → Option Errno → Option Shape → Reply × Option (List ℕ)
 node_row c found there = answered (node_fault c found there) None (node_reply c there) (new_bytes c there)
 
--- a call on an entry, by the parent's resolution, whether it is full, and what the name stands for
-abbrev pub entry_row : EntryCall → Option Errno → Bool → Option Shape → Reply × Edit
-entry_row c parent full there = answered (entry_fault c parent full there) Keep answer.Done (edit_of (new_shape c))
+-- a call on an entry, by the parent's resolution, the parent, and what the name stands for
+abbrev pub entry_row : EntryCall → Option Errno → Option Shape → Option Shape → Reply × Edit
+entry_row c parent dir there = answered (entry_fault c parent dir there) Keep answer.Done (edit_of (new_shape c))
 
 -- a rename, by both parents' resolutions and what p and q stand for: whether it really moves
 abbrev pub rename_row : Option Errno → Option Errno → Option Shape → Bool → Option Shape → Bool → Reply × Bool

@@ -4,8 +4,7 @@ use Rattle.fs_names.specs.Keys.{Key, after_prefix, parent_of, is_end}
 pub use Rattle.fs_names.specs.Shapes.{Shape, Dir, File, is_there, is_missing, is_dir, is_file, names_of, bytes_of, has_any, has_entries, is_full}
 use Rattle.fs_calls.specs.Tree as tree
 use Rattle.fs_calls.specs.Tree.{Tree, Node, look, names_in}
-use Rattle.fs_calls.specs.Forms.{Form, AtNode, AtEntry, AtPair}
-use Rattle.fs_calls.specs.declared.target.PairCall.TheVariants as pairs
+use Rattle.fs_calls.specs.Forms.{Form, AtNode, AtEntry, AtPair, Rename, Exchange}
 use Rattle.fs_calls.specs.Rows.{as_dir, node_fault, entry_fault, rename_fault, exchange_fault, has_room}
 use Rattle.fs_calls.specs.declared.errno.Errno.{Errno}
 use Rattle.fs_calls.specs.declared.errno.Errno.TheVariants.{Enoent, Enotdir}
@@ -47,6 +46,6 @@ is_same p q = is_end (after_prefix p q)
 -- the first error of a call's row
 abbrev pub row_in : Sight → Form → Option Errno
 row_in sight (AtNode c p) = node_fault c (resolve sight p) (sight p)
-row_in sight (AtEntry c p) = entry_fault c (resolve_dir sight (parent_of p)) (is_full (sight (parent_of p))) (sight p)
-row_in sight (AtPair pairs.Rename p q) = rename_fault (resolve_dir sight (parent_of p)) (resolve_dir sight (parent_of q)) (sight p) (is_same p q) (sight q) (has_room (is_same (parent_of p) (parent_of q)) (sight (parent_of q)))
-row_in sight (AtPair pairs.Exchange p q) = exchange_fault (resolve_dir sight (parent_of p)) (resolve_dir sight (parent_of q)) (sight p) (sight q)
+row_in sight (AtEntry c p) = entry_fault c (resolve_dir sight (parent_of p)) (sight (parent_of p)) (sight p)
+row_in sight (AtPair (Rename most) p q) = rename_fault (resolve_dir sight (parent_of p)) (resolve_dir sight (parent_of q)) (sight p) (is_same p q) (sight q) (has_room most (is_same (parent_of p) (parent_of q)) (sight (parent_of q)))
+row_in sight (AtPair Exchange p q) = exchange_fault (resolve_dir sight (parent_of p)) (resolve_dir sight (parent_of q)) (sight p) (sight q)

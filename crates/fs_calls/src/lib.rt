@@ -3,8 +3,8 @@
 //! A `Call` is one of the eleven calls with its paths; `Call::target` tells what it looks at: a node, an entry, or two entries.
 //! A `Reply` is what it answers. Both hold no bare vector, so that two that say the same are equal in a contract.
 //! The crate has no tree that runs: it says what one has to answer. `specs/Tree.antt` is the tree as a sorted list,
-//! `specs/Rows.antt` the table, `specs/Outcomes.antt` reads a tree and answers by it (`reply`, `after`), with the most bytes
-//! that a file may have; `play` goes on from a `Start`, which has the limits beside the tree. A `Call` has no limit in it.
+//! `specs/Rows.antt` the table, `specs/Outcomes.antt` reads a tree and answers by it (`reply`, `after`), by a set
+//! of limits; `play` goes on from a `Start`, which has the limits beside the tree. A `Call` has no limit in it.
 //! The module `laws` has what holds of these definitions, `examples` has worked rows that the check computes.
 #![tactic(auto)]
 

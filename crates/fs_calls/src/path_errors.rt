@@ -1,10 +1,11 @@
 //! The errors that the paths of a call decide alone.
 
 ghost use Rattle.std.specs.Prelude.{ℕ, ◌≡◌};
+ghost use Rattle.fs_names.specs.declared.limits.Limits.{Limits};
+ghost use Rattle.fs_names.specs.declared.limits.Limits.TheVariants.{V1};
 ghost use Rattle.fs_calls.specs.Forms.{form, by_text, root_error};
-ghost use Rattle.fs_calls.specs.code.Targets.{form_of};
+ghost use Rattle.fs_calls.specs.code.Targets.{form_of, entry_call, pair_call};
 ghost use Rattle.fs_calls.specs.Forms as forms;
-ghost use Rattle.fs_calls.specs.declared.target.PairCall.TheVariants as pairs;
 
 use crate::call::Call;
 use crate::calls;
@@ -39,7 +40,8 @@ macro_rules! path_errors {
 
 /// The error of a call on two entries that its paths alone decide, if any.
 fn pair_error(pair: PairCall, path: &Path, new_path: &Path) -> Option<Errno>
-    ensures { result ≡ by_text (forms.AtPair pair path.now new_path.now) }
+    ensures each { (limits : Limits) → result ≡ by_text (forms.AtPair (pair_call limits pair) path.now new_path.now) }
+    ensures by_text { result ≡ by_text (forms.AtPair (pair_call V1 pair) path.now new_path.now) }
 {
     calls!(path_errors(pair, path, new_path))
 }
@@ -47,7 +49,7 @@ fn pair_error(pair: PairCall, path: &Path, new_path: &Path) -> Option<Errno>
 /// The error of a rename that its paths alone decide, if any: `EBUSY` where either is the root, `EINVAL` where the
 /// new path is below the old one (POSIX.1-2017, XSH 3, rename()).
 pub fn rename_error(path: &Path, new_path: &Path) -> Option<Errno>
-    ensures { result ≡ by_text (forms.AtPair pairs.Rename path.now new_path.now) }
+    ensures { (most : ℕ) → result ≡ by_text (forms.AtPair (forms.Rename most) path.now new_path.now) }
 {
     pair_error(PairCall::Rename, path, new_path)
 }
@@ -55,7 +57,7 @@ pub fn rename_error(path: &Path, new_path: &Path) -> Option<Errno>
 /// The error of an exchange that its paths alone decide, if any: `EBUSY` where either is the root, `EINVAL` where one is
 /// below the other.
 pub fn exchange_error(path: &Path, other: &Path) -> Option<Errno>
-    ensures { result ≡ by_text (forms.AtPair pairs.Exchange path.now other.now) }
+    ensures { result ≡ by_text (forms.AtPair forms.Exchange path.now other.now) }
 {
     pair_error(PairCall::Exchange, path, other)
 }
@@ -74,14 +76,14 @@ macro_rules! root_errors {
 
 /// The error of a call on the root's entry.
 pub fn root_error(entry: EntryCall) -> Errno
-    ensures { result ≡ root_error entry }
+    ensures { (limits : Limits) → result ≡ root_error (entry_call limits entry) }
 {
     calls!(root_errors(entry))
 }
 
 /// The error that the paths of a target alone decide.
 fn target_error(aim: Target<'_>) -> Option<Errno>
-    ensures { (most : ℕ) → result ≡ by_text (form_of most aim.entry) }
+    ensures { (limits : Limits) → result ≡ by_text (form_of limits aim.entry) }
 {
     match aim {
         Target::Entry(entry, path) if path.is_empty() => Some(root_error(entry)),
@@ -93,7 +95,7 @@ fn target_error(aim: Target<'_>) -> Option<Errno>
 impl Call {
     /// The error that its paths alone decide, if any: it holds on every tree, and comes before all others.
     pub fn error_by_paths(&self) -> Option<Errno>
-        ensures { (most : ℕ) → result ≡ by_text (form most self.now) }
+        ensures { (limits : Limits) → result ≡ by_text (form limits self.now) }
     {
         target_error(self.target())
     }

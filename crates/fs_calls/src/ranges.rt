@@ -3,8 +3,6 @@
 
 ghost use Rattle.std.specs.Prelude.{◌≡◌, ◌≤◌, ◌+◌, ◌++◌, take, drop, length, nat_le};
 
-use fs_names::ENTRY_LIMIT;
-
 /// The bytes from an offset on, and no more than a count.
 pub fn part(bytes: &[u8], off: u64, count: u64) -> &[u8]
     ensures { result.now ≡ take count (drop off bytes.now) }
@@ -33,11 +31,11 @@ pub fn fits_size(most: usize, size: u64) -> bool
     size <= most as u64
 }
 
-/// Whether a directory with so many entries can have no more.
-pub fn is_full(entries: usize) -> bool
-    ensures { result ≡ nat_le ENTRY_LIMIT entries }
+/// Whether a directory that has at most so many entries can have no more than these.
+pub fn is_full(most: usize, entries: usize) -> bool
+    ensures { result ≡ nat_le most entries }
 {
-    entries >= ENTRY_LIMIT
+    entries >= most
 }
 
 /// Puts bytes over those from an offset on.

@@ -2,16 +2,20 @@
 
 ghost use Rattle.std.specs.Prelude.{◌≡◌, Option, None, if◌then◌else◌};
 ghost use Rattle.fs_names.specs.Failures.{first_failure};
-ghost use Rattle.fs_names.specs.Shapes.{Shape, is_there, is_missing, is_dir, is_file, has_entries};
+ghost use Rattle.fs_names.specs.Limits.{entry_limit};
+ghost use Rattle.fs_names.specs.Shapes.{Shape, is_there, is_missing, is_dir, is_file, has_entries, is_full};
+ghost use Rattle.fs_names.specs.declared.limits.Limits.{Limits};
+ghost use Rattle.fs_names.specs.declared.limits.Limits.TheVariants.{V1};
 ghost use Rattle.fs_calls.specs.declared.errno.Errno.TheVariants.{Enotdir, Enoent};
 ghost use Rattle.fs_calls.specs.Rows.{entry_errors, node_fault, pair_errors};
 ghost use Rattle.fs_calls.specs.code.Seen.{sight};
-ghost use Rattle.fs_calls.specs.code.Targets.{node_call};
+ghost use Rattle.fs_calls.specs.code.Targets.{node_call, entry_call, pair_call};
 
 use crate::calls;
 use crate::errno::Errno;
 use crate::ranges::{fits, fits_size};
 use crate::target::{EntryCall, NodeCall, PairCall};
+use fs_names::Limits;
 
 /// What a row of errors asks of a place: what stands there.
 #[derive(Clone, Copy, Debug, PartialEq, Eq)]
@@ -94,7 +98,7 @@ macro_rules! entry_errors {
 impl EntryCall {
     /// The error of a call on an entry, by what stands there and by whether its directory has all entries that it can have.
     pub fn error(self, there: Sight, full: bool) -> Option<Errno>
-        ensures { (s : Option Shape) → sight s ≡ there → result ≡ first_failure (entry_errors self full s) }
+        ensures { (limits : Limits) (dir s : Option Shape) → full ≡ is_full (entry_limit limits) dir → sight s ≡ there → result ≡ first_failure (entry_errors (entry_call limits self) dir s) }
     {
         calls!(entry_errors(self, there, full))
     }
@@ -142,7 +146,7 @@ macro_rules! pair_errors {
 impl PairCall {
     /// The error of a call on two entries, by what is seen of them.
     pub fn error(self, seen: PairSight) -> Option<Errno>
-        ensures { (s t : Option Shape) → sight s ≡ seen.first → sight t ≡ seen.second → result ≡ first_failure (pair_errors self s seen.same_path t seen.has_room) }
+        ensures { (s t : Option Shape) → sight s ≡ seen.first → sight t ≡ seen.second → result ≡ first_failure (pair_errors (pair_call V1 self) s seen.same_path t seen.has_room) }
     {
         calls!(pair_errors(self, seen))
     }
@@ -169,11 +173,11 @@ macro_rules! node_errors {
 }
 
 impl NodeCall<'_> {
-    /// The error of a call on a node, by the most bytes that a file has and by what stands there.
-    pub fn error(self, most: usize, there: Sight) -> Option<Errno>
-        ensures { (s : Option Shape) → sight s ≡ there → result ≡ node_fault (node_call most self.entry) None s }
+    /// The error of a call on a node by these limits, by what stands there.
+    pub fn error(self, limits: Limits, there: Sight) -> Option<Errno>
+        ensures { (s : Option Shape) → sight s ≡ there → result ≡ node_fault (node_call limits self.entry) None s }
     {
-        calls!(node_errors(self, most, there))
+        calls!(node_errors(self, limits.file(), there))
     }
 }
 

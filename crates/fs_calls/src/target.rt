@@ -1,10 +1,12 @@
 //! What a call looks at: a node, an entry of a directory, or two entries; and by these, a call made again and two calls
 //! compared.
 
-ghost use Rattle.std.specs.Prelude.{ℕ, ◌≡◌, ◌≢◌, ◌↔◌, IfOk, OnOk, OnErr, IsTrue};
+ghost use Rattle.std.specs.Prelude.{◌≡◌, ◌≢◌, ◌↔◌, IfOk, OnOk, OnErr, IsTrue};
+ghost use Rattle.fs_names.specs.declared.limits.Limits.{Limits};
+ghost use Rattle.fs_names.specs.declared.limits.Limits.TheVariants.{V1};
 ghost use Rattle.fs_calls.specs.Forms.{form, by_text};
 ghost use Rattle.fs_calls.specs.Forms as forms;
-ghost use Rattle.fs_calls.specs.code.Targets.{form_of, node_call};
+ghost use Rattle.fs_calls.specs.code.Targets.{form_of, node_call, entry_call, pair_call};
 
 use crate::call::Call;
 use crate::errno::Errno;
@@ -62,7 +64,7 @@ pub enum Target<'a> {
 
 /// The call that does this to a node.
 fn on_node(memory: &mut Memory, node: NodeCall<'_>, path: Path) -> Result<Call, AllocError>
-    ensures ok { IfOk result (λ call. form 0 call ≡ forms.AtNode (node_call 0 node.entry) path) }
+    ensures ok { IfOk result (λ call. form V1 call ≡ forms.AtNode (node_call V1 node.entry) path) }
     ensures granted { OnOk result (memory.new ≡ memory.old) }
     ensures refused { OnErr result (memory.new ≢ memory.old) }
 {
@@ -81,7 +83,7 @@ fn on_node(memory: &mut Memory, node: NodeCall<'_>, path: Path) -> Result<Call, 
 
 /// The call that does this to an entry.
 fn on_entry(entry: EntryCall, path: Path) -> Call
-    ensures { form 0 result ≡ forms.AtEntry entry path }
+    ensures { form V1 result ≡ forms.AtEntry (entry_call V1 entry) path }
 {
     match entry {
         EntryCall::Mkdir => Call::Mkdir(path),
@@ -93,7 +95,7 @@ fn on_entry(entry: EntryCall, path: Path) -> Call
 
 /// The call that does this to two entries.
 fn on_pair(pair: PairCall, from: Path, to: Path) -> Call
-    ensures { form 0 result ≡ forms.AtPair pair from to }
+    ensures { form V1 result ≡ forms.AtPair (pair_call V1 pair) from to }
 {
     match pair {
         PairCall::Rename => Call::Rename(from, to),
@@ -118,7 +120,7 @@ fn same_bytes(one: &Data, other: &Data) -> bool
 
 /// Whether the same is done to a node.
 fn same_node(one: NodeCall<'_>, other: NodeCall<'_>) -> bool
-    ensures { IsTrue result ↔ node_call 0 one.entry ≡ node_call 0 other.entry }
+    ensures { IsTrue result ↔ node_call V1 one.entry ≡ node_call V1 other.entry }
 {
     match one {
         NodeCall::Stat => matches!(other, NodeCall::Stat),
@@ -134,22 +136,24 @@ fn same_node(one: NodeCall<'_>, other: NodeCall<'_>) -> bool
 }
 
 /// Whether the same is done to an entry.
+#[tactic(auto, using(crate::proofs::FormLemmas::same_entry_call))]
 fn same_entry(one: EntryCall, other: EntryCall) -> bool
-    ensures { IsTrue result ↔ one ≡ other }
+    ensures { IsTrue result ↔ entry_call V1 one ≡ entry_call V1 other }
 {
     one == other
 }
 
 /// Whether the same is done to two entries.
+#[tactic(auto, using(crate::proofs::FormLemmas::same_pair_call))]
 fn same_pair(one: PairCall, other: PairCall) -> bool
-    ensures { IsTrue result ↔ one ≡ other }
+    ensures { IsTrue result ↔ pair_call V1 one ≡ pair_call V1 other }
 {
     one == other
 }
 
 /// Whether what is looked at, and what is done there, are the same.
 fn same_target(one: Target<'_>, other: Target<'_>) -> bool
-    ensures { IsTrue result ↔ form_of 0 one.entry ≡ form_of 0 other.entry }
+    ensures { IsTrue result ↔ form_of V1 one.entry ≡ form_of V1 other.entry }
 {
     match (one, other) {
         (Target::Node(node, path), Target::Node(other_node, other_path)) => {
@@ -168,8 +172,8 @@ fn same_target(one: Target<'_>, other: Target<'_>) -> bool
 impl Call {
     /// What it looks at.
     pub fn target(&self) -> Target<'_>
-        ensures each { (most : ℕ) → form_of most result ≡ form most self.now }
-        ensures by_text { form_of 0 result ≡ form 0 self.now }
+        ensures each { (limits : Limits) → form_of limits result ≡ form limits self.now }
+        ensures by_text { form_of V1 result ≡ form V1 self.now }
     {
         match self {
             Call::Mkdir(path) => Target::Entry(EntryCall::Mkdir, path),

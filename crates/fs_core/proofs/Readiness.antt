@@ -4,14 +4,13 @@ use Rattle.std.specs.Prelude.{slice_get, slice_set, IsSome, IfSome, is_some, Ok,
 use mathlib.Core.Path.{fun_ext}
 use Rattle.std.proofs.lemmas.Option.{slice_get_within, slice_get_read}
 use Rattle.fs_names.specs.declared.limits.Limits.{Limits}
+use Rattle.fs_names.specs.declared.limits.Limits.TheVariants.{V1}
 use Rattle.fs_names.specs.declared.limits.TheConstants.{NODE_LIMIT}
 use Rattle.fs_names.specs.Shapes.{Shape, Dir, File, is_there, has_entries}
 use Rattle.fs_calls.specs.Starts.{Start}
-use Rattle.fs_calls.specs.Forms.{form, Form, AtNode, AtEntry, AtPair, new_shape, reserves, reserved_by}
-use Rattle.fs_calls.specs.declared.target.EntryCall.{EntryCall}
-use Rattle.fs_calls.specs.declared.target.EntryCall.TheVariants.{Mkdir, Mknod, Unlink, Rmdir}
+use Rattle.fs_calls.specs.Forms.{form, Form, AtNode, AtEntry, AtPair, new_shape, reserves, reserved_by, EntryCall, Mkdir, Mknod, Unlink, Rmdir}
 use Rattle.fs_calls.specs.declared.call.Call.{Call}
-use Rattle.fs_nodes.specs.Graphs.{Graph, IsGraph, set_at, reserved_in, released_in, empty_graph}
+use Rattle.fs_nodes.specs.Graphs.{Graph, IsGraph, set_at, reserved_in, released_in}
 use Rattle.fs_nodes.specs.Stores.{Places}
 use Rattle.fs_nodes.specs.Seen.{seen}
 use Rattle.fs_nodes.specs.Stores.{graph_of}
@@ -58,8 +57,8 @@ reserved_below graph new limit limits call w most b = go (reserved_by call) b
 
 -- a kind's node is empty
 new_empty : (c : EntryCall) (shape : Shape) → new_shape c ≡ Some shape → has_entries (Some shape) ≡ false
-new_empty Mkdir shape e = let z : Dir [] ≡ shape = cc in ap (λ (s : Shape). has_entries (Some s)) (sym z)
-new_empty Mknod shape e = let z : File [] ≡ shape = cc in ap (λ (s : Shape). has_entries (Some s)) (sym z)
+new_empty (Mkdir most) shape e = let z : Dir [] ≡ shape = cc in ap (λ (s : Shape). has_entries (Some s)) (sym z)
+new_empty (Mknod most) shape e = let z : File [] ≡ shape = cc in ap (λ (s : Shape). has_entries (Some s)) (sym z)
 new_empty Unlink shape e = cc
 new_empty Rmdir shape e = cc
 
@@ -100,7 +99,7 @@ cancel_spare graph new limit limits call w is b = go (reserved_by call) refl b
     go (Some shape) e (m, less, free, is_w, is_new) n f =
         let z : ◌≡◌ {A = Option ℕ} (Some m) (Some n) = ap (λ (x : OpValue). x.reserved) (sym is_w) ∙ f in
         let y : m ≡ n = cc in
-        subst (IsSpare new) y (subst (λ (g : Graph). IsSpare g m) (sym is_new) (spare_new graph m shape is free (reserves_empty (form 0 call) shape e)))
+        subst (IsSpare new) y (subst (λ (g : Graph). IsSpare g m) (sym is_new) (spare_new graph m shape is free (reserves_empty (form V1 call) shape e)))
 
 pub cancel_start : (graph new : Graph) (limit : ℕ) (limits : Limits) (call : Call) (w : OpValue) → BegunAs graph limit limits call (reserved_by call) w new → w.holdings ≡ None
 cancel_start graph new limit limits call w b = go (reserved_by call) b

@@ -4,45 +4,46 @@ use Rattle.std.specs.Prelude.{slice_get, IsTrue}
 use Rattle.std.specs.List.{list_all}
 use Rattle.std.proofs.lemmas.List.{map-append, take_more}
 use Rattle.std.proofs.lemmas.Option.{slice_get_within, get_or_from_slice_get}
+use Rattle.fs_names.specs.declared.limits.Limits.{Limits}
 use Rattle.fs_calls.specs.Tree.{Tree, root_tree}
 use Rattle.fs_seq.specs.declared.rows.Row.{Row}
 use Rattle.fs_seq.specs.Rows.{row_of, is_first, is_plain, fits, misfit, misfit_from, IsWithinLimits}
 use Rattle.fs_seq.proofs.Fitting.{fitting_rows_are_trees, root_first}
 
 -- the rows of a tree within the limits fit
-pub rows_fit : (most : ℕ) (rows : List Row) (t : Tree) → map row_of rows ≡ t → IsTrue (list_all is_plain rows) → IsWithinLimits most t → misfit most rows ≡ None
-rows_fit most rows t e plain within = (fitting_rows_are_trees most rows).1 (subst (IsWithinLimits most) (sym e) within, plain)
+pub rows_fit : (limits : Limits) (rows : List Row) (t : Tree) → map row_of rows ≡ t → IsTrue (list_all is_plain rows) → IsWithinLimits limits t → misfit limits rows ≡ None
+rows_fit limits rows t e plain within = (fitting_rows_are_trees limits rows).1 (subst (IsWithinLimits limits) (sym e) within, plain)
 
 -- each behind those before it
-fits_behind : (most : ℕ) (before : Tree) (place : ℕ) (rows : List Row) (i : ℕ) (row : Row) → misfit_from most before place rows ≡ None → slice_get rows i ≡ Some row → fits most (before ++ map row_of (take i rows)) row ≡ true
-fits_behind most before place [] i row e at = cc
-fits_behind most before place (r ∷ rows) zero row e at = go (fits most before r) refl e
+fits_behind : (limits : Limits) (before : Tree) (place : ℕ) (rows : List Row) (i : ℕ) (row : Row) → misfit_from limits before place rows ≡ None → slice_get rows i ≡ Some row → fits limits (before ++ map row_of (take i rows)) row ≡ true
+fits_behind limits before place [] i row e at = cc
+fits_behind limits before place (r ∷ rows) zero row e at = go (fits limits before r) refl e
   where
     same : r ≡ row
     same = cc
 
-    go : (b : Bool) → fits most before r ≡ b → cond {A = Option ℕ} b (misfit_from most (before ++ row_of r ∷ []) (place + 1) rows) (Some place) ≡ None → fits most (before ++ []) row ≡ true
-    go true f e = ap (λ (t : Tree). fits most t row) (append-nil before) ∙ ap (fits most before) (sym same) ∙ f
+    go : (b : Bool) → fits limits before r ≡ b → cond {A = Option ℕ} b (misfit_from limits (before ++ row_of r ∷ []) (place + 1) rows) (Some place) ≡ None → fits limits (before ++ []) row ≡ true
+    go true f e = ap (λ (t : Tree). fits limits t row) (append-nil before) ∙ ap (fits limits before) (sym same) ∙ f
     go false f e = cc
-fits_behind most before place (r ∷ rows) (suc i) row e at = go (fits most before r) e (λ h. fits_behind most (before ++ row_of r ∷ []) (place + 1) rows i row h at)
+fits_behind limits before place (r ∷ rows) (suc i) row e at = go (fits limits before r) e (λ h. fits_behind limits (before ++ row_of r ∷ []) (place + 1) rows i row h at)
   where
-    go : (b : Bool) → cond {A = Option ℕ} b (misfit_from most (before ++ row_of r ∷ []) (place + 1) rows) (Some place) ≡ None → (misfit_from most (before ++ row_of r ∷ []) (place + 1) rows ≡ None → fits most ((before ++ row_of r ∷ []) ++ map row_of (take i rows)) row ≡ true) → fits most (before ++ row_of r ∷ map row_of (take i rows)) row ≡ true
-    go true e later = ap (λ (t : Tree). fits most t row) (sym (append_assoc before (row_of r ∷ []) (map row_of (take i rows)))) ∙ later e
+    go : (b : Bool) → cond {A = Option ℕ} b (misfit_from limits (before ++ row_of r ∷ []) (place + 1) rows) (Some place) ≡ None → (misfit_from limits (before ++ row_of r ∷ []) (place + 1) rows ≡ None → fits limits ((before ++ row_of r ∷ []) ++ map row_of (take i rows)) row ≡ true) → fits limits (before ++ row_of r ∷ map row_of (take i rows)) row ≡ true
+    go true e later = ap (λ (t : Tree). fits limits t row) (sym (append_assoc before (row_of r ∷ []) (map row_of (take i rows)))) ∙ later e
     go false e later = cc
 
-pub fits_each : (most : ℕ) (rows : List Row) (i : ℕ) (row : Row) → misfit most rows ≡ None → 1 ≤ i → slice_get rows i ≡ Some row → fits most (map row_of (take i rows)) row ≡ true
-fits_each most [] i row e one at = cc
-fits_each most (r ∷ rows) zero row e one at = absurd (omega (arith, one))
-fits_each most (r ∷ rows) (suc i) row e one at = go (is_first r) e
+pub fits_each : (limits : Limits) (rows : List Row) (i : ℕ) (row : Row) → misfit limits rows ≡ None → 1 ≤ i → slice_get rows i ≡ Some row → fits limits (map row_of (take i rows)) row ≡ true
+fits_each limits [] i row e one at = cc
+fits_each limits (r ∷ rows) zero row e one at = absurd (omega (arith, one))
+fits_each limits (r ∷ rows) (suc i) row e one at = go (is_first r) e
   where
-    go : (b : Bool) → cond {A = Option ℕ} b (misfit_from most (row_of r ∷ []) 2 rows) (Some 1) ≡ None → fits most (row_of r ∷ map row_of (take i rows)) row ≡ true
-    go true e = fits_behind most (row_of r ∷ []) 2 rows i row e at
+    go : (b : Bool) → cond {A = Option ℕ} b (misfit_from limits (row_of r ∷ []) 2 rows) (Some 1) ≡ None → fits limits (row_of r ∷ map row_of (take i rows)) row ≡ true
+    go true e = fits_behind limits (row_of r ∷ []) 2 rows i row e at
     go false e = cc
 
 -- the first is the root
-pub first_is_root : (most : ℕ) (rows : List Row) → misfit most rows ≡ None → map row_of (take 1 rows) ≡ root_tree
-first_is_root most [] e = cc
-first_is_root most (r ∷ rows) e = let u = root_first (row_of r ∷ map row_of rows) ((fitting_rows_are_trees most (r ∷ rows)).0 e).0.tree in cc
+pub first_is_root : (limits : Limits) (rows : List Row) → misfit limits rows ≡ None → map row_of (take 1 rows) ≡ root_tree
+first_is_root limits [] e = cc
+first_is_root limits (r ∷ rows) e = let u = root_first (row_of r ∷ map row_of rows) ((fitting_rows_are_trees limits (r ∷ rows)).0 e).0.tree in cc
 
 -- and each further one comes behind
 pub one_more_row : (rows : List Row) (i : ℕ) (row : Row) → slice_get rows i ≡ Some row → map row_of (take (i + 1) rows) ≡ map row_of (take i rows) ++ row_of row ∷ []

@@ -4,13 +4,12 @@ use Rattle.std.specs.Prelude.{nat_le}
 use Rattle.std.proofs.lemmas.Bool.Decides.{nat_tests}
 use mathlib.Core.Path.{fun_ext}
 use Rattle.fs_names.specs.Keys.{Key, parent_of}
-use Rattle.fs_names.specs.Limits.{file_limit}
+use Rattle.fs_names.specs.Limits.{file_limit, entry_limit}
 use Rattle.fs_names.specs.Names.{Name, inserted_name, has_name}
 use Rattle.fs_names.specs.Shapes.{Shape, Dir, File, is_dir, is_full, is_there, names_of}
 use Rattle.fs_names.specs.declared.kind.Kind.{Kind}
 use Rattle.fs_names.specs.declared.kind.Kind.TheVariants as kinds
 use Rattle.fs_names.specs.declared.limits.Limits.{Limits}
-use Rattle.fs_names.specs.declared.limits.TheConstants.{ENTRY_LIMIT}
 use Rattle.fs_calls.specs.Tree as trees
 use Rattle.fs_calls.specs.Tree.{Tree, Node, IsTree, root_tree, look, inserted, names_in}
 use Rattle.fs_calls.specs.Sights.{tree_shapes, shape_of}
@@ -48,11 +47,11 @@ no_names : (kind : Kind) (bytes : List ℕ) (names : List Name) → shape_of_kin
 no_names kinds.Dir bytes names e = cc
 no_names kinds.File bytes names e = cc
 
-few_bytes : (most : ℕ) (kind : Kind) (bytes others : List ℕ) → may_have most kind bytes ≡ true → shape_of_kind kind bytes ≡ File others → length others ≤ most
-few_bytes most kinds.Dir bytes others may e = cc
-few_bytes most kinds.File bytes others may e =
+few_bytes : (limits : Limits) (kind : Kind) (bytes others : List ℕ) → may_have limits kind bytes ≡ true → shape_of_kind kind bytes ≡ File others → length others ≤ file_limit limits
+few_bytes limits kinds.Dir bytes others may e = cc
+few_bytes limits kinds.File bytes others may e =
     let same : bytes ≡ others = cc in
-    let small : nat_le (length others) most ≡ true = ap (λ (bs : List ℕ). nat_le (length bs) most) (sym same) ∙ may in
+    let small : nat_le (length others) (file_limit limits) ≡ true = ap (λ (bs : List ℕ). nat_le (length bs) (file_limit limits)) (sym same) ∙ may in
     grind (arith, nat_tests)
 
 -- ---- where a row fits
@@ -64,26 +63,26 @@ dir_there t k (Some trees.Dir) e h = e
 dir_there t k (Some (trees.File bytes)) e h = let none : is_dir (tree_shapes t k) ≡ false = ap (λ (o : Option Node). is_dir (shape_of t k o)) e in cc
 
 -- one that is not full has room for one more
-room_for : (t : Tree) (k : Key) → look t k ≡ Some trees.Dir → not (is_full (tree_shapes t k)) ≡ true → length (names_in t k) + 1 ≤ ENTRY_LIMIT
-room_for t k there room =
-    let full : not (nat_le 256 (length (names_in t k))) ≡ true = sym (ap (λ (o : Option Node). not (is_full (shape_of t k o))) there) ∙ room in
+room_for : (most : ℕ) (t : Tree) (k : Key) → look t k ≡ Some trees.Dir → not (is_full most (tree_shapes t k)) ≡ true → length (names_in t k) + 1 ≤ most
+room_for most t k there room =
+    let full : not (nat_le most (length (names_in t k))) ≡ true = sym (ap (λ (o : Option Node). not (is_full most (shape_of t k o))) there) ∙ room in
     grind (arith, nat_tests)
 
 -- a row that fits has a name
-pub fits_named : (most : ℕ) (t : Tree) (row : Row) → fits most t row ≡ true → key_of row ≢ []
-fits_named most t row fit e =
+pub fits_named : (limits : Limits) (t : Tree) (row : Row) → fits limits t row ≡ true → key_of row ≢ []
+fits_named limits t row fit e =
     let no = not_below_root (last_key t) (key_of row) (ap length e) in
     let yes = first_holds _ _ (first_holds _ _ (first_holds _ _ fit)) in
     let z : true ≡ false = sym yes ∙ no in
     cc
 
-module _ (limit : ℕ) (limits : Limits) (t : Tree) (g : Graph) (start : IsStart limit (record { limits = limits; tree = t }) g) (row : Row) (d : Key) (x : Name) (split : key_of row ≡ d ++ x ∷ []) (fit : fits (file_limit limits) t row ≡ true) where
+module _ (limit : ℕ) (limits : Limits) (t : Tree) (g : Graph) (start : IsStart limit (record { limits = limits; tree = t }) g) (row : Row) (d : Key) (x : Name) (split : key_of row ≡ d ++ x ∷ []) (fit : fits limits t row ≡ true) where
   parent_is : parent_of (key_of row) ≡ d
   parent_is = ap parent_of split ∙ parent_of-snoc d x
 
   -- all keys so far are below the row's
   all : AllBelow t (d ++ x ∷ [])
-  all = subst (AllBelow t) split (all_below t (key_of row) (true_T start.tree.sorted) (in_order (file_limit limits) t row fit))
+  all = subst (AllBelow t) split (all_below t (key_of row) (true_T start.tree.sorted) (in_order limits t row fit))
 
   none : look t (d ++ x ∷ []) ≡ None
   none = look-above t (d ++ x ∷ []) all
@@ -91,8 +90,8 @@ module _ (limit : ℕ) (limits : Limits) (t : Tree) (g : Graph) (start : IsStart
   there : look t d ≡ Some trees.Dir
   there = dir_there t d (look t d) refl (ap (λ (k : Key). is_dir (tree_shapes t k)) (sym parent_is) ∙ second_holds _ _ (first_holds _ _ (first_holds _ _ fit)))
 
-  has_room : length (names_in t d) + 1 ≤ ENTRY_LIMIT
-  has_room = room_for t d there (ap (λ (k : Key). not (is_full (tree_shapes t k))) (sym parent_is) ∙ second_holds _ _ (first_holds _ _ fit))
+  has_room : length (names_in t d) + 1 ≤ entry_limit limits
+  has_room = room_for (entry_limit limits) t d there (ap (λ (k : Key). not (is_full (entry_limit limits) (tree_shapes t k))) (sym parent_is) ∙ second_holds _ _ (first_holds _ _ fit))
 
   -- the directory's number
   at_dir : (dir : ℕ) × (numbers g d ≡ Some dir) × (g.shape dir ≡ Some (Dir (names_in t d)))
@@ -112,10 +111,10 @@ module _ (limit : ℕ) (limits : Limits) (t : Tree) (g : Graph) (start : IsStart
           cc
 
 -- a row that fits can be added
-pub can_add : (limit : ℕ) (limits : Limits) (t : Tree) (g : Graph) (row : Row) → IsStart limit (record { limits = limits; tree = t }) g → fits (file_limit limits) t row ≡ true → CanAdd g row
+pub can_add : (limit : ℕ) (limits : Limits) (t : Tree) (g : Graph) (row : Row) → IsStart limit (record { limits = limits; tree = t }) g → fits limits t row ≡ true → CanAdd g row
 can_add limit limits t g row start fit = record {
   is_graph = start.is_graph;
-  named = fits_named (file_limit limits) t row fit;
+  named = fits_named limits t row fit;
   place = λ d x split. (
       let p = at_dir limit limits t g start row d x split fit in
       (p.0, p.1, subst (λ (o : Option Shape). IsTrue (is_dir o)) (sym p.2) refl, absent limit limits t g start row d x split fit p.0 p.1));
@@ -123,7 +122,7 @@ can_add limit limits t g row start fit = record {
 
 -- ---- a row that was added
 
-module _ (limit : ℕ) (limits : Limits) (t : Tree) (g : Graph) (start : IsStart limit (record { limits = limits; tree = t }) g) (row : Row) (d : Key) (x : Name) (split : key_of row ≡ d ++ x ∷ []) (fit : fits (file_limit limits) t row ≡ true) (dir n : ℕ) (parent : numbers g d ≡ Some dir) (unused : g.shape n ≡ None) (within : n < limit) where
+module _ (limit : ℕ) (limits : Limits) (t : Tree) (g : Graph) (start : IsStart limit (record { limits = limits; tree = t }) g) (row : Row) (d : Key) (x : Name) (split : key_of row ≡ d ++ x ∷ []) (fit : fits limits t row ≡ true) (dir n : ℕ) (parent : numbers g d ≡ Some dir) (unused : g.shape n ≡ None) (within : n < limit) where
   abbrev pub reserved : Graph
   reserved = reserved_in n (shape_of_row row) g
 
@@ -212,13 +211,13 @@ module _ (limit : ℕ) (limits : Limits) (t : Tree) (g : Graph) (start : IsStart
     spelled = spelled_new;
     is_graph = new_is;
     bounded = record {
-      entries = λ m names e. in_use (λ m s. (names : List Name) → s ≡ Dir names → length names ≤ ENTRY_LIMIT)
-          (λ names e. let z : inserted_name x (names_in t d) ≡ names = cc in let a : length (inserted_name x (names_in t d)) ≤ length (names_in t d) + 1 = one_more x (names_in t d) in let b : length (names_in t d) + 1 ≤ ENTRY_LIMIT = has_room limit limits t g start row d x split fit in subst (λ (ns : List Name). length ns ≤ ENTRY_LIMIT) z (omega (arith, a, b)))
-          (λ names e. subst (λ (ns : List Name). length ns ≤ ENTRY_LIMIT) (sym (no_names row.kind row.bytes.items names e)) (omega arith))
+      entries = λ m names e. in_use (λ m s. (names : List Name) → s ≡ Dir names → length names ≤ entry_limit limits)
+          (λ names e. let z : inserted_name x (names_in t d) ≡ names = cc in let a : length (inserted_name x (names_in t d)) ≤ length (names_in t d) + 1 = one_more x (names_in t d) in let b : length (names_in t d) + 1 ≤ entry_limit limits = has_room limit limits t g start row d x split fit in subst (λ (ns : List Name). length ns ≤ entry_limit limits) z (omega (arith, a, b)))
+          (λ names e. subst (λ (ns : List Name). length ns ≤ entry_limit limits) (sym (no_names row.kind row.bytes.items names e)) (omega arith))
           (λ m s e names f. start.bounded.entries m names (e ∙ ap (λ (s : Shape). Some s) f)) m (Dir names) e names refl;
       bytes = λ m bytes e. in_use (λ m s. (bytes : List ℕ) → s ≡ File bytes → length bytes ≤ file_limit limits)
           (λ bytes e. cc)
-          (λ bytes e. few_bytes (file_limit limits) row.kind row.bytes.items bytes (second_holds _ _ fit) e)
+          (λ bytes e. few_bytes limits row.kind row.bytes.items bytes (second_holds _ _ fit) e)
           (λ m s e bytes f. start.bounded.bytes m bytes (e ∙ ap (λ (s : Shape). Some s) f)) m (File bytes) e bytes refl;
     };
     rising = λ m names e. in_use (λ m s. (names : List Name) → s ≡ Dir names → AreRising names)
@@ -278,7 +277,7 @@ used_most f (suc k) = by (f k) (used_most f k)
 
 -- ---- what an added row leaves
 
-pub added_starts : (limit : ℕ) (limits : Limits) (t : Tree) (g after : Graph) (row : Row) (node : ℕ) → IsStart limit (record { limits = limits; tree = t }) g → fits (file_limit limits) t row ≡ true → IsAdded limit g after row node → IsStart limit (record { limits = limits; tree = t ++ row_of row ∷ [] }) after
+pub added_starts : (limit : ℕ) (limits : Limits) (t : Tree) (g after : Graph) (row : Row) (node : ℕ) → IsStart limit (record { limits = limits; tree = t }) g → fits limits t row ≡ true → IsAdded limit g after row node → IsStart limit (record { limits = limits; tree = t ++ row_of row ∷ [] }) after
 added_starts limit limits t g after row node start fit a = subst (λ (h : Graph). IsStart limit (record { limits = limits; tree = t ++ row_of row ∷ [] }) h) (sym a.added) (start_new limit limits t g start row a.above a.name a.split fit a.dir node a.parent a.free a.within)
 
 -- one number more is in use

@@ -2,6 +2,7 @@
 use Rattle.std.proofs.Common.{◌≡◌, ℕ, ◌+◌, ◌-◌, ◌<◌, Bool, true, false, cond, eqb, [], ◌∷◌, ◌++◌, Option, Some, None, length, refl, sym, ap, ◌∙◌, arith}
 use Rattle.std.specs.Prelude.{slice_get, slice_set}
 use Rattle.std.proofs.lemmas.Option.{slice_get_within}
+use Rattle.fs_names.specs.declared.limits.Limits.{Limits}
 use Rattle.fs_calls.specs.declared.reply.Reply.{Reply}
 use Rattle.fs_names.specs.Shapes.{Shape}
 use Rattle.fs_nodes.specs.Graphs.{Graph, set_at, released_in}
@@ -20,7 +21,7 @@ use Rattle.fs_timeline.specs.Timeline.{commit_count}
 use Rattle.fs_machine.specs.States.{Step, IsChosen, NoneBelow, Run, Stepping}
 use Rattle.fs_machine.specs.declared.answers.Stepped.TheVariants.{Took, LetGo, Helped, Committed, CarriedOut, Returned}
 use Rattle.fs_machine.specs.declared.moves.Moved.{Moved}
-use Rattle.fs_laws.specs.Invariants.{Invariant, most_bytes}
+use Rattle.fs_laws.specs.Invariants.{Invariant, limits_of}
 use Rattle.fs_laws.proofs.states.Agreement.{run_accounts}
 use Rattle.fs_laws.proofs.states.Headline.{run_keeps}
 use Rattle.fs_laws.proofs.finish.Limits.{finish_resizes, own_limited}
@@ -203,9 +204,9 @@ graph_made m seat r st e = e ∙ ap (λ (x : Rattle.fs_machine.specs.Finishes.Ef
 fewer_made : (m : CoreValue) (seat : ℕ) (r : Running) → Run (state_of m) → slice_get m.seats seat ≡ Some (Some r) → (st : Places) → graph_of st ≡ graph_after (graph_of m.store) r.op → (q : ℕ) (t : Shape) → (graph_of st).shape q ≡ Some t → (u : Shape) × ((graph_of m.store).shape q ≡ Some u)
 fewer_made m seat r run on st graph q t e =
     let inv : Invariant (state_of m) = run_keeps (state_of m) run in
-    let most : ℕ = most_bytes (state_of m) in
+    let limits : Limits = limits_of (state_of m) in
     let own = inv.own r.call (record_of seat r.place r.op) (call_on m seat r run on) in
-    (finish_resizes most (graph_of m.store) inv.is_graph (run_accounts (state_of m) run).within (record_of seat r.place r.op) (own_limited most (graph_of m.store) (record_of seat r.place r.op) own) own.well).to_old q t
+    (finish_resizes limits (graph_of m.store) inv.is_graph (run_accounts (state_of m) run).within (record_of seat r.place r.op) (own_limited limits (graph_of m.store) (record_of seat r.place r.op) own) own.well).to_old q t
     (ap (λ (g : Graph). g.shape q) (sym (graph_made m seat r st graph)) ∙ e)
 
 -- a walking call that finishes

@@ -1,7 +1,6 @@
 //! The checkpoint: the timeline begins again at the tree that its commits play, and its entries are handed out.
 
 ghost use Rattle.std.specs.Prelude.{◌≡◌, ◌≢◌, [], IfOk, IfErr, OnOk, OnErr, Err};
-ghost use Rattle.fs_names.specs.Limits.{file_limit};
 ghost use Rattle.fs_calls.specs.Outcomes.{next_start};
 ghost use Rattle.fs_seq.specs.Rows.{IsWithinLimits};
 ghost use Rattle.fs_timeline.specs.Timeline.{commits};
@@ -80,7 +79,7 @@ impl Core {
     pub fn prepare(&self, alloc: Global) -> Result<SeqTree, NoCheckpoint>
         ensures rest { OnOk result (IsAtRest self.now) }
         ensures tree { IfOk result (λ tree. tree ≡ next_start self.now.start (commits self.now.timeline)) }
-        ensures within { IfOk result (λ tree. IsWithinLimits (file_limit tree.limits) tree.tree) }
+        ensures within { IfOk result (λ tree. IsWithinLimits tree.limits tree.tree) }
         ensures why { IfErr result (IsWhyNot self.now) }
     {
         self.prepare_counted(alloc, &mut Memory::new())
@@ -94,7 +93,7 @@ impl Core {
     ) -> Result<SeqTree, NoCheckpoint>
         ensures rest { OnOk result (IsAtRest self.now) }
         ensures tree { IfOk result (λ tree. tree ≡ next_start self.now.start (commits self.now.timeline)) }
-        ensures within { IfOk result (λ tree. IsWithinLimits (file_limit tree.limits) tree.tree) }
+        ensures within { IfOk result (λ tree. IsWithinLimits tree.limits tree.tree) }
         ensures why { IfErr result (IsWhyNot self.now) }
         ensures granted { result ≢ Err NoCheckpoint.OutOfMemory → memory.new ≡ memory.old }
         ensures refused { result ≡ Err NoCheckpoint.OutOfMemory → memory.new ≢ memory.old }

@@ -5,7 +5,6 @@ ghost use Rattle.fs_nodes.specs.Graphs.{numbers, reserved_in};
 ghost use Rattle.fs_nodes.specs.Seen.{seen};
 ghost use Rattle.fs_nodes.specs.Stores.{graph_of, child, shape, in_use, IsUnlinked};
 ghost use Rattle.fs_names.specs.Shapes.{File};
-ghost use Rattle.fs_names.specs.Limits.{file_limit};
 ghost use Rattle.fs_names.specs.declared.limits.TheConstants.{NODE_LIMIT};
 ghost use Rattle.fs_seq.specs.Rows.{IsWithinLimits};
 ghost use Rattle.fs_locks.specs.Holding.{holder, room};
@@ -104,7 +103,7 @@ fn add_row(store: &mut Store, holders: &mut Holders, row: &Row) -> Result<(), No
 pub fn filled(alloc: Global, start: &SeqTree, limit: usize) -> Result<(Store, Holders), NoNode>
     requires least { 1 ≤ limit }
     requires most { limit ≤ NODE_LIMIT }
-    requires within { IsWithinLimits (file_limit start.now.limits) start.now.tree }
+    requires within { IsWithinLimits start.now.limits start.now.tree }
     ensures start { IfOk result (λ made. IsStart limit start.now (graph_of made.0)) }
     ensures limit { IfOk result (λ made. (seen made.0).limit ≡ limit) }
     ensures holders { IfOk result (λ made. holder made.1 ≡ λ n. None) }

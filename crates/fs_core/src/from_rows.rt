@@ -1,7 +1,6 @@
 //! A core that begins at a tree.
 
 ghost use Rattle.std.specs.Prelude.{◌≡◌, ◌≢◌, ◌≤◌, ◌<◌, ℕ, [], None, Some, Err, map, length, IfOk, OnOk};
-ghost use Rattle.fs_names.specs.Limits.{file_limit};
 ghost use Rattle.fs_names.specs.declared.limits.TheConstants.{NODE_LIMIT};
 ghost use Rattle.fs_calls.specs.Sights.{tree_shapes};
 ghost use Rattle.fs_seq.specs.Rows.{misfit, row_of, IsWithinLimits};
@@ -37,7 +36,7 @@ impl Core {
     pub fn from_tree(alloc: Global, start: SeqTree, limit: usize) -> Result<Core, NoStart>
         requires least { 1 ≤ limit }
         requires most { limit ≤ NODE_LIMIT }
-        requires within { IsWithinLimits (file_limit start.limits) start.tree }
+        requires within { IsWithinLimits start.limits start.tree }
         ensures start { IfOk result (λ core. core.start ≡ start) }
         ensures spelled { IfOk result (λ core. graph_shapes (graph_of core.store) ≡ tree_shapes start.tree) }
         ensures state { IfOk result (λ core. state_of core ≡ fresh limit start (graph_of core.store)) }
@@ -73,10 +72,10 @@ impl Core {
         ensures entries { IfOk result (λ core. core.timeline ≡ []) }
         ensures seats { IfOk result (λ core. core.seats ≡ []) }
         ensures refusals { IfOk result (λ core. core.refusals ≡ 0) }
-        ensures fits { OnOk result (misfit (file_limit limits) rows.now ≡ None) }
+        ensures fits { OnOk result (misfit limits rows.now ≡ None) }
         ensures few { OnOk result (length rows.now ≤ limit) }
-        ensures bad { (place : ℕ) → result ≡ Err (NoStart.Bad place) → misfit (file_limit limits) rows.now ≡ Some place }
-        ensures many { result ≡ Err NoStart.TooManyNodes → (misfit (file_limit limits) rows.now ≡ None) × (limit < length rows.now) }
+        ensures bad { (place : ℕ) → result ≡ Err (NoStart.Bad place) → misfit limits rows.now ≡ Some place }
+        ensures many { result ≡ Err NoStart.TooManyNodes → (misfit limits rows.now ≡ None) × (limit < length rows.now) }
     {
         match SeqTree::from_rows(alloc, rows, limits) {
             Ok(start) => Core::from_tree(alloc, start, limit),

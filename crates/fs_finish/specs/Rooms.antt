@@ -1,6 +1,5 @@
 -- The room that a call makes when it begins, so that its finish takes no memory.
 use Rattle.std.specs.Prelude.{ℕ, ◌≤◌, ◌+◌, length, min}
-use Rattle.fs_names.specs.declared.limits.TheConstants.{ENTRY_LIMIT}
 use Rattle.fs_calls.specs.Forms.{NodeCall, Stat, Readdir, Read, Write, Truncate, Form, AtNode, AtEntry, AtPair}
 use Rattle.fs_finish.specs.declared.room.Room.{Room}
 use Rattle.fs_finish.specs.declared.room.Room.TheVariants.{Nothing, Content, Copies, Lists}
@@ -19,17 +18,17 @@ FitsCopies n Nothing = ⊥
 FitsCopies n (Content room) = ⊥
 FitsCopies n (Lists a b) = ⊥
 
--- two buffers for the names of a directory
-abbrev pub FitsLists : Room → Type 0
-FitsLists (Lists a b) = (ENTRY_LIMIT ≤ a) × (ENTRY_LIMIT ≤ b)
-FitsLists Nothing = ⊥
-FitsLists (Content room) = ⊥
-FitsLists (Copies a b) = ⊥
+-- two buffers for this many names
+abbrev pub FitsLists : ℕ → Room → Type 0
+FitsLists n (Lists a b) = (n ≤ a) × (n ≤ b)
+FitsLists n Nothing = ⊥
+FitsLists n (Content room) = ⊥
+FitsLists n (Copies a b) = ⊥
 
 -- what a call on a node needs
 abbrev pub SufficesFor : NodeCall → Room → Type 0
 SufficesFor Stat room = Unit {0}
-SufficesFor Readdir room = FitsLists room
+SufficesFor (Readdir most) room = FitsLists most room
 SufficesFor (Read most off count) room = FitsCopies (min count most) room
 SufficesFor (Write most off bytes) room = FitsContent most (off + length bytes) room
 SufficesFor (Truncate most size) room = FitsContent most size room

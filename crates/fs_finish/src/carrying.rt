@@ -24,24 +24,24 @@ use crate::replies::Replies;
 use crate::room::Room;
 use crate::write::{truncate, write};
 use fs_calls::{NodeCall, Target, calls};
-use fs_names::Path;
+use fs_names::{Limits, Path};
 use fs_nodes::{NodeNo, Store};
 
 /// How a call on a node is carried out there.
 macro_rules! carried {
-    (stat(), $store:expr, $node:expr, $most:expr, $prepared:expr) => { stat($store, $node, $most) };
-    ($does:ident($($arg:ident),*), $store:expr, $node:expr, $most:expr, $prepared:expr) => { $does($store, $node, $($arg,)* $most, $prepared) };
+    (stat(), $store:expr, $node:expr, $limits:expr, $prepared:expr) => { stat($store, $node, $limits) };
+    ($does:ident($($arg:ident),*), $store:expr, $node:expr, $limits:expr, $prepared:expr) => { $does($store, $node, $($arg,)* $limits, $prepared) };
 }
 
 /// How the calls on a node are carried out, by what the table says that each does.
 macro_rules! node_effects {
-    (($call:expr, $store:expr, $node:expr, $most:expr, $prepared:expr)
+    (($call:expr, $store:expr, $node:expr, $limits:expr, $prepared:expr)
         entries $entries:tt
         pairs $pairs:tt
         nodes { $($name:ident $(($($arg:ident),*))? { [$($does:tt)*] $errors:tt })* }
     ) => {
         match $call {
-            $(NodeCall::$name $(($($arg),*))? => carried!($($does)*, $store, $node, $most, $prepared),)*
+            $(NodeCall::$name $(($($arg),*))? => carried!($($does)*, $store, $node, $limits, $prepared),)*
         }
     };
 }
@@ -50,16 +50,16 @@ macro_rules! node_effects {
 fn answer(
     call: NodeCall<'_>,
     node: NodeNo,
-    most: usize,
+    limits: Limits,
     prepared: Room,
     store: &mut Store,
 ) -> Replies
-    requires bounded { TellsWithin (graph_of store.old) (node_call most call) }
-    requires room { SufficesFor (node_call most call) prepared }
-    ensures reply { result ≡ (node_row (node_call most call.entry) None (shape store.old node)).0 }
-    ensures change { seen store.new ≡ record (seen store.old) { graph = refilled node (node_row (node_call most call.entry) None (shape store.old node)).1 (graph_of store.old) } }
+    requires bounded { TellsWithin (graph_of store.old) (node_call limits call) }
+    requires room { SufficesFor (node_call limits call) prepared }
+    ensures reply { result ≡ (node_row (node_call limits call.entry) None (shape store.old node)).0 }
+    ensures change { seen store.new ≡ record (seen store.old) { graph = refilled node (node_row (node_call limits call.entry) None (shape store.old node)).1 (graph_of store.old) } }
 {
-    calls!(node_effects(call, store, node, most, prepared))
+    calls!(node_effects(call, store, node, limits, prepared))
 }
 
 /// A call answers at a node.
@@ -67,17 +67,20 @@ fn answer_at(
     aim: Target<'_>,
     node: NodeNo,
     reserved: Option<NodeNo>,
-    most: usize,
+    limits: Limits,
     prepared: Room,
     store: &mut Store,
 ) -> Finish
-    requires bounded { IsToldWithin (graph_of store.old) (form_of most aim) }
-    requires room { Suffices (form_of most aim) prepared }
-    ensures made { IsEffect (answered_at (graph_of store.old) (form_of most aim.entry) node reserved) result (graph_of store.new) }
+    requires bounded { IsToldWithin (graph_of store.old) (form_of limits aim) }
+    requires room { Suffices (form_of limits aim) prepared }
+    ensures made { IsEffect (answered_at (graph_of store.old) (form_of limits aim.entry) node reserved) result (graph_of store.new) }
     ensures rest { seen store.new ≡ record (seen store.old) { graph = graph_of store.new } }
 {
     match aim {
-        Target::Node(call, _) => Finish::kept(answer(call, node, most, prepared, store), reserved),
+        Target::Node(call, _) => Finish::kept(
+            answer(call, node, limits, prepared, store),
+            reserved,
+        ),
         Target::Entry(_, _) | Target::Pair(_, _, _) => Finish::kept(Replies::done(), reserved),
     }
 }
@@ -123,27 +126,27 @@ fn swap_along(
 }
 
 /// Does what a plan says, of a call at this target and, if it is on two entries, with this route, that has this number reserved and
-/// this room prepared, where a file has at most so many bytes.
+/// this room prepared, by these limits.
 pub fn carry_out(
     aim: Target<'_>,
     plan: Plan,
     route: Route,
     reserved: Option<NodeNo>,
-    most: usize,
+    limits: Limits,
     prepared: Room,
     store: &mut Store,
 ) -> Finish
-    requires bounded { IsToldWithin (graph_of store.old) (form_of most aim) }
-    requires room { Suffices (form_of most aim) prepared }
-    requires can { CanCarryOut (seen store.old) (form_of most aim) route reserved plan }
-    ensures made { IsEffect (carried (graph_of store.old) (form_of most aim.entry) route reserved plan) result (graph_of store.new) }
+    requires bounded { IsToldWithin (graph_of store.old) (form_of limits aim) }
+    requires room { Suffices (form_of limits aim) prepared }
+    requires can { CanCarryOut (seen store.old) (form_of limits aim) route reserved plan }
+    ensures made { IsEffect (carried (graph_of store.old) (form_of limits aim.entry) route reserved plan) result (graph_of store.new) }
     ensures rest { seen store.new ≡ record (seen store.old) { graph = graph_of store.new } }
 {
     let (first, second) = (first_path(aim), second_path(aim));
     match plan {
         Plan::Fails(errno) => Finish::failed(errno, reserved),
         Plan::Stays => Finish::kept(Replies::done(), reserved),
-        Plan::Answers(node) => answer_at(aim, node, reserved, most, prepared, store),
+        Plan::Answers(node) => answer_at(aim, node, reserved, limits, prepared, store),
         Plan::Adds(dir) => add(store, dir, first.last_name(), reserved),
         Plan::Removes(dir) => remove(store, dir, first.last_name(), reserved),
         Plan::Moves(node) => move_along(first, second, route.moving(node, false), reserved, store),

@@ -1,12 +1,13 @@
 //! How the calls on an entry finish at its directory.
 
 ghost use Rattle.std.specs.Prelude.{◌≡◌, ◌≢◌, false, None, IfSome, IsSome, IsTrue};
-ghost use Rattle.fs_names.specs.Shapes.{is_dir, is_there, has_entries, is_full};
+ghost use Rattle.fs_names.specs.Shapes.{is_dir, is_there, has_entries};
 ghost use Rattle.fs_nodes.specs.Graphs.{then_at};
 ghost use Rattle.fs_nodes.specs.Seen.{seen, IsReal};
 ghost use Rattle.fs_nodes.specs.Stores.{child, shape, graph_of};
 ghost use Rattle.fs_calls.specs.Forms.{new_shape};
 ghost use Rattle.fs_calls.specs.Rows.{as_dir, entry_fault};
+ghost use Rattle.fs_calls.specs.code.Targets.{entry_call};
 ghost use Rattle.fs_finish.specs.Endings.{IsEffect};
 ghost use Rattle.fs_finish.specs.Plans.{entry_plan, added, removed};
 ghost use Rattle.fs_machine.specs.OpValues.{SpareIf};
@@ -18,18 +19,25 @@ use crate::replies::Replies;
 use crate::sights::sight_at;
 use fs_calls::ranges::is_full;
 use fs_calls::{EntryCall, Errno, calls};
-use fs_names::Name;
+use fs_names::{Limits, Name};
 use fs_nodes::{NodeNo, Store};
 
-/// Why a call on an entry fails at a node that should be its directory, by what the name stands for there.
-fn fault(store: &Store, dir: NodeNo, entry: EntryCall, there: Option<NodeNo>) -> Option<Errno>
+/// Why a call on an entry fails at a node that should be its directory, by these limits and what the name stands for there.
+fn fault(
+    store: &Store,
+    limits: Limits,
+    dir: NodeNo,
+    entry: EntryCall,
+    there: Option<NodeNo>,
+) -> Option<Errno>
     requires used { IfSome there (λ node. IsTrue (is_there (shape store.now node))) }
-    ensures { result ≡ entry_fault entry (as_dir None (shape store.now dir)) (is_full (shape store.now dir)) (then_at there (shape store.now)) }
+    ensures { result ≡ entry_fault (entry_call limits entry) (as_dir None (shape store.now dir)) (shape store.now dir) (then_at there (shape store.now)) }
 {
     if let Some(errno) = dir_fault(store, dir) {
         return Some(errno);
     }
-    entry.error(sight_at(store, there), is_full(store.entries(dir)))
+    let full = is_full(limits.entries(), store.entries(dir));
+    entry.error(sight_at(store, there), full)
 }
 
 /// The plan of what a call on an entry does.
@@ -54,12 +62,18 @@ macro_rules! entry_plans {
     };
 }
 
-/// What a call on an entry does at a node that should be its directory, by what the name stands for there.
-pub fn entry_plan(store: &Store, dir: NodeNo, entry: EntryCall, there: Option<NodeNo>) -> Plan
+/// What a call on an entry does at a node that should be its directory, by these limits and what the name stands for there.
+pub fn entry_plan(
+    store: &Store,
+    limits: Limits,
+    dir: NodeNo,
+    entry: EntryCall,
+    there: Option<NodeNo>,
+) -> Plan
     requires used { IfSome there (λ node. IsTrue (is_there (shape store.now node))) }
-    ensures { result ≡ entry_plan (entry_fault entry (as_dir None (shape store.now dir)) (is_full (shape store.now dir)) (then_at there (shape store.now))) (new_shape entry) dir }
+    ensures { result ≡ entry_plan (entry_fault (entry_call limits entry) (as_dir None (shape store.now dir)) (shape store.now dir) (then_at there (shape store.now))) (new_shape (entry_call limits entry)) dir }
 {
-    if let Some(errno) = fault(store, dir, entry, there) {
+    if let Some(errno) = fault(store, limits, dir, entry, there) {
         return Plan::Fails(errno);
     }
     calls!(entry_plans(entry, dir))

@@ -2,6 +2,7 @@
 
 ghost use Rattle.std.specs.Prelude.{ℕ, ◌≡◌};
 ghost use Rattle.fs_names.specs.Keys.{after_prefix, is_proper_prefix, parent_of, is_end};
+ghost use Rattle.fs_names.specs.declared.limits.Limits.{Limits};
 ghost use Rattle.fs_calls.specs.code.Targets.{form_of};
 ghost use Rattle.fs_finish.specs.Paths.{first_path, second_path};
 
@@ -10,7 +11,7 @@ use fs_names::Path;
 
 /// The path that a call walks first.
 pub fn first_path<'a>(aim: Target<'a>) -> &'a Path
-    ensures { (most : ℕ) → result.now ≡ first_path (form_of most aim.entry) }
+    ensures { (limits : Limits) → result.now ≡ first_path (form_of limits aim.entry) }
 {
     match aim {
         Target::Node(_, path) | Target::Entry(_, path) | Target::Pair(_, path, _) => path,
@@ -19,7 +20,7 @@ pub fn first_path<'a>(aim: Target<'a>) -> &'a Path
 
 /// The path that it walks second: for all calls but those on two entries the same one.
 pub fn second_path<'a>(aim: Target<'a>) -> &'a Path
-    ensures { (most : ℕ) → result.now ≡ second_path (form_of most aim.entry) }
+    ensures { (limits : Limits) → result.now ≡ second_path (form_of limits aim.entry) }
 {
     match aim {
         Target::Node(_, path) | Target::Entry(_, path) | Target::Pair(_, _, path) => path,

@@ -1,6 +1,7 @@
 //! How the calls that change nothing finish at their node.
 
 ghost use Rattle.std.specs.Prelude.{◌≡◌, ◌≤◌, [], None, length, take, drop, vec_capacity};
+ghost use Rattle.fs_names.specs.Limits.{entry_limit, file_limit};
 ghost use Rattle.fs_names.specs.Shapes.{names_of, is_dir};
 ghost use Rattle.fs_nodes.specs.Stores.{shape, graph_of};
 ghost use Rattle.fs_calls.specs.Forms as calls;
@@ -15,7 +16,7 @@ use crate::sights::sight_of;
 use fs_calls::ranges::part;
 use fs_calls::rows::step_error;
 use fs_calls::{Errno, NameList, NodeCall, Reply};
-use fs_names::{Kind, Name};
+use fs_names::{Kind, Limits, Name};
 use fs_nodes::{NodeNo, Store};
 
 /// Why a walk with names left ends at a node.
@@ -44,10 +45,10 @@ fn told(kind: Kind, size: usize) -> Replies
 }
 
 /// The kind of the node and its size.
-pub fn stat(store: &Store, node: NodeNo, most: usize) -> Replies
+pub fn stat(store: &Store, node: NodeNo, limits: Limits) -> Replies
     ensures { result ≡ (node_row calls.Stat None (shape store.now node)).0 }
 {
-    match NodeCall::Stat.error(most, sight_of(store, node)) {
+    match NodeCall::Stat.error(limits, sight_of(store, node)) {
         Some(errno) => Replies::failed(errno),
         None if store.is_dir(node) => told(Kind::Dir, store.entries(node)),
         None => told(Kind::File, store.content(node).len()),
@@ -79,38 +80,38 @@ fn names(store: &Store, dir: NodeNo, room: NameRoom) -> NameList
 }
 
 /// All names of the directory.
-pub fn readdir(store: &Store, node: NodeNo, most: usize, prepared: Room) -> Replies
-    requires bounded { DirsWithin (graph_of store.now) }
-    requires room { SufficesFor calls.Readdir prepared }
-    ensures { result ≡ (node_row calls.Readdir None (shape store.now node)).0 }
+pub fn readdir(store: &Store, node: NodeNo, limits: Limits, prepared: Room) -> Replies
+    requires bounded { DirsWithin (entry_limit limits) (graph_of store.now) }
+    requires room { SufficesFor (calls.Readdir (entry_limit limits)) prepared }
+    ensures { result ≡ (node_row (calls.Readdir (entry_limit limits)) None (shape store.now node)).0 }
 {
     let Room::Lists(one, other) = prepared else {
         unreachable!();
     };
-    if let Some(errno) = NodeCall::Readdir.error(most, sight_of(store, node)) {
+    if let Some(errno) = NodeCall::Readdir.error(limits, sight_of(store, node)) {
         return Replies::failed(errno);
     }
     let names_told = Reply::Names(names(store, node, one));
     Replies::new(names_told, Reply::Names(names(store, node, other)))
 }
 
-/// The bytes of the file from an offset on, and no more than a count; no file has more than the most.
+/// The bytes of the file from an offset on, and no more than a count; no file has more than the limit.
 pub fn read(
     store: &Store,
     node: NodeNo,
     off: u64,
     count: u64,
-    most: usize,
+    limits: Limits,
     prepared: Room,
 ) -> Replies
-    requires bounded { FilesWithin most (graph_of store.now) }
-    requires room { SufficesFor (calls.Read most off count) prepared }
-    ensures { result ≡ (node_row (calls.Read most off count) None (shape store.now node)).0 }
+    requires bounded { FilesWithin (file_limit limits) (graph_of store.now) }
+    requires room { SufficesFor (calls.Read (file_limit limits) off count) prepared }
+    ensures { result ≡ (node_row (calls.Read (file_limit limits) off count) None (shape store.now node)).0 }
 {
     let Room::Copies(one, other) = prepared else {
         unreachable!();
     };
-    if let Some(errno) = NodeCall::Read(off, count).error(most, sight_of(store, node)) {
+    if let Some(errno) = NodeCall::Read(off, count).error(limits, sight_of(store, node)) {
         return Replies::failed(errno);
     }
     let asked = part(store.content(node), off, count);

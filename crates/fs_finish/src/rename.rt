@@ -1,6 +1,7 @@
 //! How a rename finishes at its two directories.
 
 ghost use Rattle.std.specs.Prelude.{◌≡◌, ◌||◌, ℕ, List, not, false, None, Some, IfSome, IsTrue, is_some};
+ghost use Rattle.fs_names.specs.Limits.{entry_limit};
 ghost use Rattle.fs_names.specs.Shapes.{is_dir, is_there, has_entries, is_full};
 ghost use Rattle.fs_nodes.specs.Graphs.{moved_in, then_at, IsReached};
 ghost use Rattle.fs_nodes.specs.Seen.{seen, IsReal};
@@ -19,12 +20,13 @@ use crate::sights::sight_at;
 use fs_calls::ranges::is_full;
 use fs_calls::rows::PairSight;
 use fs_calls::{PairCall, Sight};
-use fs_names::Name;
+use fs_names::{Limits, Name};
 use fs_nodes::{NodeNo, Store};
 
-/// What the row of a rename asks, by what stands for both names in the two directories.
+/// What the row of a rename asks, by these limits and what stands for both names in the two directories.
 fn sights(
     store: &Store,
+    limits: Limits,
     moved: Option<NodeNo>,
     dest: NodeNo,
     there: Option<NodeNo>,
@@ -33,7 +35,7 @@ fn sights(
     ensures first { result.first ≡ sight (then_at moved (shape store.now)) }
     ensures second { result.second ≡ sight (there_by paths.above (then_at there (shape store.now))) }
     ensures same { result.same_path ≡ paths.same }
-    ensures room { result.has_room ≡ (paths.one_parent || not (is_full (shape store.now dest))) }
+    ensures room { result.has_room ≡ (paths.one_parent || not (is_full (entry_limit limits) (shape store.now dest))) }
 {
     let second = match paths.above {
         true => Sight::Dir,
@@ -43,13 +45,14 @@ fn sights(
         first: sight_at(store, moved),
         second,
         same_path: paths.same,
-        has_room: paths.one_parent || !is_full(store.entries(dest)),
+        has_room: paths.one_parent || !is_full(limits.entries(), store.entries(dest)),
     }
 }
 
-/// What a rename does, by what stands for both names in the two directories.
+/// What a rename does, by these limits and what stands for both names in the two directories.
 pub fn rename_plan(
     store: &Store,
+    limits: Limits,
     moved: Option<NodeNo>,
     dest: NodeNo,
     there: Option<NodeNo>,
@@ -58,10 +61,11 @@ pub fn rename_plan(
     requires moved { IfSome moved (λ node. IsTrue (is_there (shape store.now node))) }
     requires used { IfSome there (λ node. IsTrue (is_there (shape store.now node))) }
     ensures { result ≡ pair_plan
-        (rename_fault None None (then_at moved (shape store.now)) paths.same (there_by paths.above (then_at there (shape store.now))) (paths.one_parent || not (is_full (shape store.now dest))))
+        (rename_fault None None (then_at moved (shape store.now)) paths.same (there_by paths.above (then_at there (shape store.now))) (paths.one_parent || not (is_full (entry_limit limits) (shape store.now dest))))
         paths.same (moving (is_some there) moved) }
 {
-    if let Some(errno) = PairCall::Rename.error(sights(store, moved, dest, there, paths)) {
+    let seen = sights(store, limits, moved, dest, there, paths);
+    if let Some(errno) = PairCall::Rename.error(seen) {
         return Plan::Fails(errno);
     }
     match &moved {

@@ -8,7 +8,7 @@ ghost use Rattle.fs_finish.specs.Rooms.{Suffices, SufficesFor, FitsContent, Fits
 use fs_calls::ranges::fits;
 use fs_calls::{Bytes, Call, NodeCall, Target};
 use fs_memory::Memory;
-use fs_names::{ENTRY_LIMIT, Name};
+use fs_names::{Limits, Name};
 use std::alloc::{AllocError, Global};
 use std::marker::Model;
 
@@ -148,14 +148,14 @@ fn copies(alloc: Global, memory: &mut Memory, most: usize, count: u64) -> Result
     Ok(Room::Copies(one, other))
 }
 
-/// Room for two times as many names as a directory may have.
-fn lists(alloc: Global, memory: &mut Memory) -> Result<Room, AllocError>
-    ensures ok { IfOk result FitsLists }
+/// Room for two times so many names.
+fn lists(alloc: Global, memory: &mut Memory, count: usize) -> Result<Room, AllocError>
+    ensures ok { IfOk result (FitsLists count) }
     ensures granted { OnOk result (memory.new ≡ memory.old) }
     ensures refused { OnErr result (memory.new ≢ memory.old) }
 {
-    let one = NameRoom::new(alloc, memory, ENTRY_LIMIT)?;
-    let other = NameRoom::new(alloc, memory, ENTRY_LIMIT)?;
+    let one = NameRoom::new(alloc, memory, count)?;
+    let other = NameRoom::new(alloc, memory, count)?;
     Ok(Room::Lists(one, other))
 }
 
@@ -163,25 +163,25 @@ fn lists(alloc: Global, memory: &mut Memory) -> Result<Room, AllocError>
 fn room_on(
     alloc: Global,
     memory: &mut Memory,
-    most: usize,
+    limits: Limits,
     call: NodeCall<'_>,
 ) -> Result<Room, AllocError>
-    ensures ok { IfOk result (SufficesFor (node_call most call.entry)) }
+    ensures ok { IfOk result (SufficesFor (node_call limits call.entry)) }
     ensures granted { OnOk result (memory.new ≡ memory.old) }
     ensures refused { OnErr result (memory.new ≢ memory.old) }
 {
     match call {
         NodeCall::Stat => Ok(Room::Nothing),
-        NodeCall::Readdir => lists(alloc, memory),
-        NodeCall::Read(_, count) => copies(alloc, memory, most, count),
+        NodeCall::Readdir => lists(alloc, memory, limits.entries()),
+        NodeCall::Read(_, count) => copies(alloc, memory, limits.file(), count),
         NodeCall::Write(off, bytes) => content(
             alloc,
             memory,
-            most,
+            limits.file(),
             off,
             bytes.as_slice().len() as u64,
         ),
-        NodeCall::Truncate(size) => content(alloc, memory, most, 0, size),
+        NodeCall::Truncate(size) => content(alloc, memory, limits.file(), 0, size),
     }
 }
 
@@ -189,31 +189,31 @@ fn room_on(
 fn room_at(
     alloc: Global,
     memory: &mut Memory,
-    most: usize,
+    limits: Limits,
     aim: Target<'_>,
 ) -> Result<Room, AllocError>
-    ensures ok { IfOk result (Suffices (form_of most aim.entry)) }
+    ensures ok { IfOk result (Suffices (form_of limits aim.entry)) }
     ensures granted { OnOk result (memory.new ≡ memory.old) }
     ensures refused { OnErr result (memory.new ≢ memory.old) }
 {
     match aim {
-        Target::Node(call, _) => room_on(alloc, memory, most, call),
+        Target::Node(call, _) => room_on(alloc, memory, limits, call),
         Target::Entry(_, _) | Target::Pair(_, _, _) => Ok(Room::Nothing),
     }
 }
 
 impl Room {
-    /// What the finish of a call needs, where a file has at most so many bytes. The only error is out of memory.
+    /// What the finish of a call needs, by these limits. The only error is out of memory.
     pub fn new(
         alloc: Global,
         memory: &mut Memory,
-        most: usize,
+        limits: Limits,
         call: &Call,
     ) -> Result<Room, AllocError>
-        ensures ok { IfOk result (Suffices (form most call.now)) }
+        ensures ok { IfOk result (Suffices (form limits call.now)) }
         ensures granted { OnOk result (memory.new ≡ memory.old) }
         ensures refused { OnErr result (memory.new ≢ memory.old) }
     {
-        room_at(alloc, memory, most, call.target())
+        room_at(alloc, memory, limits, call.target())
     }
 }

@@ -2,6 +2,7 @@
 
 ghost use Rattle.std.specs.Prelude.{◌≡◌, ◌≤◌, ◌+◌, ℕ, List, [], None, length, IsTrue, vec_capacity};
 ghost use Rattle.fs_names.specs.Shapes.{bytes_of, is_file};
+ghost use Rattle.fs_names.specs.Limits.{file_limit};
 ghost use Rattle.fs_nodes.specs.Graphs.{content_in};
 ghost use Rattle.fs_nodes.specs.Seen.{seen};
 ghost use Rattle.fs_nodes.specs.Stores.{shape, graph_of};
@@ -15,6 +16,7 @@ use crate::room::{ByteRoom, Room};
 use crate::sights::sight_of;
 use fs_calls::ranges::put;
 use fs_calls::{Data, NodeCall, Reply};
+use fs_names::Limits;
 use fs_nodes::{NodeNo, Store};
 
 /// The bytes of a vector, in one that has room for so many: their own, or else the buffer. Where they become more, their own
@@ -86,23 +88,24 @@ fn resize(store: &mut Store, file: NodeNo, size: usize, buffer: ByteRoom)
     store.swap_content(file, content);
 }
 
-/// Writes bytes into the file, which has at most so many bytes after it.
+/// Writes bytes into the file, which keeps these limits.
+#[tactic(auto, using(fs_names::proofs::LimitLemmas::small_files))]
 pub fn write(
     store: &mut Store,
     node: NodeNo,
     off: u64,
     bytes: &Data,
-    most: usize,
+    limits: Limits,
     prepared: Room,
 ) -> Replies
-    requires room { SufficesFor (calls.Write most off bytes.now) prepared }
-    ensures reply { result ≡ (node_row (calls.Write most off bytes.now) None (shape store.old node)).0 }
-    ensures change { seen store.new ≡ record (seen store.old) { graph = refilled node (node_row (calls.Write most off bytes.now) None (shape store.old node)).1 (graph_of store.old) } }
+    requires room { SufficesFor (calls.Write (file_limit limits) off bytes.now) prepared }
+    ensures reply { result ≡ (node_row (calls.Write (file_limit limits) off bytes.now) None (shape store.old node)).0 }
+    ensures change { seen store.new ≡ record (seen store.old) { graph = refilled node (node_row (calls.Write (file_limit limits) off bytes.now) None (shape store.old node)).1 (graph_of store.old) } }
 {
     let Room::Content(buffer) = prepared else {
         unreachable!();
     };
-    if let Some(errno) = NodeCall::Write(off, bytes).error(most, sight_of(store, node)) {
+    if let Some(errno) = NodeCall::Write(off, bytes).error(limits, sight_of(store, node)) {
         return Replies::failed(errno);
     }
     let count = bytes.as_slice().len() as u64;
@@ -112,16 +115,23 @@ pub fn write(
     Replies::new(Reply::Wrote(count), Reply::Wrote(count))
 }
 
-/// Cuts the file to a size, or adds zeros up to it; it has at most so many bytes after it.
-pub fn truncate(store: &mut Store, node: NodeNo, size: u64, most: usize, prepared: Room) -> Replies
-    requires room { SufficesFor (calls.Truncate most size) prepared }
-    ensures reply { result ≡ (node_row (calls.Truncate most size) None (shape store.old node)).0 }
-    ensures change { seen store.new ≡ record (seen store.old) { graph = refilled node (node_row (calls.Truncate most size) None (shape store.old node)).1 (graph_of store.old) } }
+/// Cuts the file to a size, or adds zeros up to it; it keeps these limits.
+#[tactic(auto, using(fs_names::proofs::LimitLemmas::small_files))]
+pub fn truncate(
+    store: &mut Store,
+    node: NodeNo,
+    size: u64,
+    limits: Limits,
+    prepared: Room,
+) -> Replies
+    requires room { SufficesFor (calls.Truncate (file_limit limits) size) prepared }
+    ensures reply { result ≡ (node_row (calls.Truncate (file_limit limits) size) None (shape store.old node)).0 }
+    ensures change { seen store.new ≡ record (seen store.old) { graph = refilled node (node_row (calls.Truncate (file_limit limits) size) None (shape store.old node)).1 (graph_of store.old) } }
 {
     let Room::Content(buffer) = prepared else {
         unreachable!();
     };
-    if let Some(errno) = NodeCall::Truncate(size).error(most, sight_of(store, node)) {
+    if let Some(errno) = NodeCall::Truncate(size).error(limits, sight_of(store, node)) {
         return Replies::failed(errno);
     }
     resize(store, node, size as usize, buffer);

@@ -1,21 +1,22 @@
 -- The entries after a change.
-use Rattle.std.proofs.Common.{◌≡◌, ℕ, Bool, true, false, cond, not, List, [], ◌∷◌, ◌++◌, map, length, Some, None, Option, refl, sym, ap, subst, ◌∙◌, arith, T}
+use Rattle.std.proofs.Common.{◌≡◌, ℕ, Bool, true, false, cond, List, [], ◌∷◌, ◌++◌, map, length, Some, None, Option, refl, sym, ap, subst, ◌∙◌, arith, T}
 use Rattle.std.specs.Prelude.{nat_eq}
 use Rattle.std.specs.FinMap.{put, is_sorted}
 use Rattle.std.proofs.lemmas.Bool.Decides.{nat_tests}
-use Rattle.fs_names.specs.Keys.{Key, key_cmp, same_key}
+use Rattle.fs_names.specs.Keys.{Key, key_cmp}
 use Rattle.fs_names.specs.declared.kind.Kind.TheVariants as kinds
+use Rattle.fs_names.specs.declared.limits.Limits.{Limits}
+use Rattle.fs_names.specs.declared.limits.Limits.TheVariants.{V1}
 use Rattle.fs_calls.specs.Tree.{Tree, Node, File, from_list, inserted, removed, renamed, exchanged}
 use Rattle.fs_calls.specs.Sights.{tree_shapes, bytes_of, is_same}
 use Rattle.fs_calls.specs.Rows.{Edit, Keep, Add, Remove, edit_of, new_bytes, written, resized}
-use Rattle.fs_calls.specs.Forms.{Form, form, new_shape, AtNode, AtEntry, AtPair}
+use Rattle.fs_calls.specs.Forms.{Form, form, new_shape, AtNode, AtEntry, AtPair, Rename, Exchange}
 use Rattle.fs_calls.specs.Forms as forms
 use Rattle.fs_calls.specs.Outcomes.{fault, reply, reply_of, replied, success, after, change, change_of, if_sound, filled, edited, node_of}
 use Rattle.fs_calls.specs.declared.call.Call.{Call}
 use Rattle.fs_calls.specs.declared.call.Call.TheVariants as calls
 use Rattle.fs_calls.specs.declared.errno.Errno.{Errno}
 use Rattle.fs_calls.specs.declared.reply.Reply.{Reply}
-use Rattle.fs_calls.specs.declared.target.PairCall.TheVariants.{Rename, Exchange}
 use Rattle.fs_calls.proofs.LookLemmas.{sorted-inserted, sorted-removed, sorted-from_list}
 use Rattle.fs_seq.specs.Rows.{node_of_kind}
 use Rattle.fs_flat.specs.code.Cells.{without_key, moved_cell, swapped_cell, is_failed}
@@ -81,41 +82,41 @@ cut_to size old content t new k p same was is e =
 -- a call that has no error and still replies one leaves the tree as it is
 lookup_stays : (t : Tree) (f : Form) → is_failed (reply_of t f) ≡ true → t ≡ change_of t f
 lookup_stays t (AtNode forms.Stat p) h = refl
-lookup_stays t (AtNode forms.Readdir p) h = absurd (cc)
+lookup_stays t (AtNode (forms.Readdir most) p) h = absurd (cc)
 lookup_stays t (AtNode (forms.Read m off count) p) h = absurd (cc)
 lookup_stays t (AtNode (forms.Write m off bytes) p) h = absurd (cc)
 lookup_stays t (AtNode (forms.Truncate m size) p) h = absurd (cc)
 lookup_stays t (AtEntry c p) h = absurd (cc)
-lookup_stays t (AtPair Rename p q) h = absurd (cc)
+lookup_stays t (AtPair (Rename most) p q) h = absurd (cc)
 lookup_stays t (AtPair Exchange p q) h = absurd (cc)
 
-pub stays : (most : ℕ) (t new : Tree) (call : Call) (r : Reply) → r ≡ reply most t call → is_failed r ≡ true → new ≡ t → new ≡ after most t call
+pub stays : (limits : Limits) (t new : Tree) (call : Call) (r : Reply) → r ≡ reply limits t call → is_failed r ≡ true → new ≡ t → new ≡ after limits t call
 unfolding reply after
-stays most t new call r is failed e = e ∙ by (fault most t call) (ap is_failed (sym is) ∙ failed)
+stays limits t new call r is failed e = e ∙ by (fault limits t call) (ap is_failed (sym is) ∙ failed)
   where
-    by : (o : Option Errno) → is_failed (replied o (success most t call)) ≡ true → t ≡ if_sound o t (change most t call)
-    by None h = lookup_stays t (form most call) h
+    by : (o : Option Errno) → is_failed (replied o (success limits t call)) ≡ true → t ≡ if_sound o t (change limits t call)
+    by None h = lookup_stays t (form limits call) h
     by (Some e) h = refl
 
 -- no limit of files changes what a call without an error makes
-change_any : (most : ℕ) (t : Tree) (call : Call) → change 0 t call ≡ change most t call
-change_any most t (calls.Mkdir p) = refl
-change_any most t (calls.Mknod p) = refl
-change_any most t (calls.Unlink p) = refl
-change_any most t (calls.Rmdir p) = refl
-change_any most t (calls.Rename p q) = refl
-change_any most t (calls.Exchange p q) = refl
-change_any most t (calls.Stat p) = refl
-change_any most t (calls.Readdir p) = refl
-change_any most t (calls.Read p off count) = refl
-change_any most t (calls.Write p off bytes) = refl
-change_any most t (calls.Truncate p size) = refl
+change_any : (limits : Limits) (t : Tree) (call : Call) → change V1 t call ≡ change limits t call
+change_any limits t (calls.Mkdir p) = refl
+change_any limits t (calls.Mknod p) = refl
+change_any limits t (calls.Unlink p) = refl
+change_any limits t (calls.Rmdir p) = refl
+change_any limits t (calls.Rename p q) = refl
+change_any limits t (calls.Exchange p q) = refl
+change_any limits t (calls.Stat p) = refl
+change_any limits t (calls.Readdir p) = refl
+change_any limits t (calls.Read p off count) = refl
+change_any limits t (calls.Write p off bytes) = refl
+change_any limits t (calls.Truncate p size) = refl
 
-pub changes : (most : ℕ) (t new : Tree) (call : Call) (r : Reply) → r ≡ reply most t call → is_failed r ≡ false → new ≡ change 0 t call → new ≡ after most t call
+pub changes : (limits : Limits) (t new : Tree) (call : Call) (r : Reply) → r ≡ reply limits t call → is_failed r ≡ false → new ≡ change V1 t call → new ≡ after limits t call
 unfolding reply after
-changes most t new call r is fine e = e ∙ change_any most t call ∙ by (fault most t call) (ap is_failed (sym is) ∙ fine)
+changes limits t new call r is fine e = e ∙ change_any limits t call ∙ by (fault limits t call) (ap is_failed (sym is) ∙ fine)
   where
-    by : (o : Option Errno) → is_failed (replied o (success most t call)) ≡ false → change most t call ≡ if_sound o t (change most t call)
+    by : (o : Option Errno) → is_failed (replied o (success limits t call)) ≡ false → change limits t call ≡ if_sound o t (change limits t call)
     by None h = refl
     by (Some e) h = absurd (cc)
 
@@ -144,13 +145,13 @@ exchanged_rises t p q = sorted-from_list (map (swapped_cell p q) t)
 change_rises : (t : Tree) (f : Form) → T (is_sorted key_cmp t) → T (is_sorted key_cmp (change_of t f))
 change_rises t (AtNode c p) h = filled_rises t p (new_bytes c (tree_shapes t p)) h
 change_rises t (AtEntry c p) h = edited_rises t p (edit_of (new_shape c)) h
-change_rises t (AtPair Rename p q) h = either_rises (is_same p q) t (renamed t p q) h (renamed_rises t p q)
+change_rises t (AtPair (Rename most) p q) h = either_rises (is_same p q) t (renamed t p q) h (renamed_rises t p q)
 change_rises t (AtPair Exchange p q) h = either_rises (is_same p q) t (exchanged t p q) h (exchanged_rises t p q)
 
 sound_rises : (o : Option Errno) (t u : Tree) → T (is_sorted key_cmp t) → T (is_sorted key_cmp u) → T (is_sorted key_cmp (if_sound o t u))
 sound_rises None t u h g = g
 sound_rises (Some e) t u h g = h
 
-pub after_sorted : (most : ℕ) (t new : Tree) (call : Call) → is_sorted key_cmp t ≡ true → new ≡ after most t call → is_sorted key_cmp new ≡ true
+pub after_sorted : (limits : Limits) (t new : Tree) (call : Call) → is_sorted key_cmp t ≡ true → new ≡ after limits t call → is_sorted key_cmp new ≡ true
 unfolding after
-after_sorted most t new call h e = ap (is_sorted key_cmp) e ∙ T_true _ (sound_rises (fault most t call) t (change most t call) (true_T _ h) (change_rises t (form most call) (true_T _ h)))
+after_sorted limits t new call h e = ap (is_sorted key_cmp) e ∙ T_true _ (sound_rises (fault limits t call) t (change limits t call) (true_T _ h) (change_rises t (form limits call) (true_T _ h)))

@@ -1,7 +1,10 @@
 -- The first error of a call, by what was found.
-use Rattle.std.proofs.Common.{◌≡◌, ℕ, Bool, Some, None, Option, refl, ap, ◌∙◌}
+use Rattle.std.proofs.Common.{◌≡◌, Bool, Some, None, Option, refl, ap, ◌∙◌}
 use Rattle.fs_names.specs.Keys.{Key, parent_of}
 use Rattle.fs_names.specs.Failures.{or_else, first_failure}
+use Rattle.fs_names.specs.declared.limits.Limits.{Limits}
+use Rattle.fs_names.specs.declared.limits.Limits.TheVariants.{V1}
+use Rattle.fs_names.specs.Limits.{entry_limit}
 use Rattle.fs_calls.specs.Tree.{Tree}
 use Rattle.fs_calls.specs.Forms.{Form, form, by_text, AtNode, AtEntry, AtPair}
 use Rattle.fs_calls.specs.Forms as forms
@@ -9,6 +12,7 @@ use Rattle.fs_calls.specs.Rows.{entry_errors, entry_fault, node_fault, pair_erro
 use Rattle.fs_calls.specs.Sights.{Sight, Shape, tree_shapes, row_in, resolve, resolve_dir, is_full, is_same}
 use Rattle.fs_calls.specs.Outcomes.{fault, reply, success, replied}
 use Rattle.fs_calls.specs.code.Seen.{sight}
+use Rattle.fs_calls.specs.code.Targets.{entry_call, pair_call}
 use Rattle.fs_calls.specs.declared.rows.Sight.{Sight as Seen}
 use Rattle.fs_calls.specs.declared.rows.PairSight.{PairSight}
 use Rattle.fs_calls.specs.declared.call.Call.{Call}
@@ -30,22 +34,22 @@ node_there sh c k r there h is by = by (sh k) is ∙ ap (λ o. node_fault c o (s
 
 -- ---- a call on an entry
 
-pub entry_lost : (sh : Sight) (c : EntryCall) (k d : Key) (e : Errno) → d ≡ parent_of k → Some e ≡ resolve_dir sh d → Some e ≡ row_in sh (AtEntry c k)
-entry_lost sh c k d e above h = ap (λ o. entry_fault c o (is_full (sh (parent_of k))) (sh k)) (h ∙ ap (resolve_dir sh) above)
+pub entry_lost : (sh : Sight) (limits : Limits) (c : EntryCall) (k d : Key) (e : Errno) → d ≡ parent_of k → Some e ≡ resolve_dir sh d → Some e ≡ row_in sh (AtEntry (entry_call limits c) k)
+entry_lost sh limits c k d e above h = ap (λ o. entry_fault (entry_call limits c) o (sh (parent_of k)) (sh k)) (h ∙ ap (resolve_dir sh) above)
 
-pub entry_there : (sh : Sight) (c : EntryCall) (k d : Key) (r : Option Errno) (there : Seen) (full : Bool) → d ≡ parent_of k → None ≡ resolve_dir sh d → sight (sh k) ≡ there → full ≡ is_full (sh d)
-    → ((s : Option Shape) → sight s ≡ there → r ≡ first_failure (entry_errors c full s)) → r ≡ row_in sh (AtEntry c k)
-entry_there sh c k d r there full above h is filled by =
-    by (sh k) is
-    ∙ (λ i. entry_fault c ((h ∙ ap (resolve_dir sh) above) i) ((filled ∙ ap (λ z. is_full (sh z)) above) i) (sh k))
+pub entry_there : (sh : Sight) (limits : Limits) (c : EntryCall) (k d : Key) (r : Option Errno) (there : Seen) (full : Bool) → d ≡ parent_of k → None ≡ resolve_dir sh d → sight (sh k) ≡ there → full ≡ is_full (entry_limit limits) (sh d)
+    → ((l : Limits) (dir s : Option Shape) → full ≡ is_full (entry_limit l) dir → sight s ≡ there → r ≡ first_failure (entry_errors (entry_call l c) dir s)) → r ≡ row_in sh (AtEntry (entry_call limits c) k)
+entry_there sh limits c k d r there full above h is filled by =
+    by limits (sh d) (sh k) filled is
+    ∙ (λ i. entry_fault (entry_call limits c) ((h ∙ ap (resolve_dir sh) above) i) (sh (above i)) (sh k))
 
 -- ---- a call on two entries
 
 -- its row, by the resolutions of both parents and what is seen
-pair_row : (sh : Sight) (c : PairCall) (p q : Key)
-    → or_else (resolve_dir sh (parent_of p)) (or_else (resolve_dir sh (parent_of q)) (first_failure (pair_errors c (sh p) (is_same p q) (sh q) (has_room (is_same (parent_of p) (parent_of q)) (sh (parent_of q)))))) ≡ row_in sh (AtPair c p q)
-pair_row sh Rename p q = refl
-pair_row sh Exchange p q = refl
+pair_row : (sh : Sight) (limits : Limits) (c : PairCall) (p q : Key)
+    → or_else (resolve_dir sh (parent_of p)) (or_else (resolve_dir sh (parent_of q)) (first_failure (pair_errors (pair_call limits c) (sh p) (is_same p q) (sh q) (has_room (entry_limit limits) (is_same (parent_of p) (parent_of q)) (sh (parent_of q)))))) ≡ row_in sh (AtPair (pair_call limits c) p q)
+pair_row sh limits Rename p q = refl
+pair_row sh limits Exchange p q = refl
 
 -- the first of both parents' errors
 pub dirs_first : (sh : Sight) (k l d : Key) (e : Errno) → d ≡ parent_of k → Some e ≡ resolve_dir sh d → Some e ≡ or_else (resolve_dir sh (parent_of k)) (resolve_dir sh (parent_of l))
@@ -60,59 +64,64 @@ first_of_three None b c = refl
 first_of_three (Some e) b c = refl
 
 -- its row, by the errors of both parents and what is seen
-by_dirs : (sh : Sight) (c : PairCall) (p q : Key)
-    → or_else (or_else (resolve_dir sh (parent_of p)) (resolve_dir sh (parent_of q))) (first_failure (pair_errors c (sh p) (is_same p q) (sh q) (has_room (is_same (parent_of p) (parent_of q)) (sh (parent_of q))))) ≡ row_in sh (AtPair c p q)
-by_dirs sh c p q = first_of_three (resolve_dir sh (parent_of p)) (resolve_dir sh (parent_of q)) _ ∙ pair_row sh c p q
+by_dirs : (sh : Sight) (limits : Limits) (c : PairCall) (p q : Key)
+    → or_else (or_else (resolve_dir sh (parent_of p)) (resolve_dir sh (parent_of q))) (first_failure (pair_errors (pair_call limits c) (sh p) (is_same p q) (sh q) (has_room (entry_limit limits) (is_same (parent_of p) (parent_of q)) (sh (parent_of q))))) ≡ row_in sh (AtPair (pair_call limits c) p q)
+by_dirs sh limits c p q = first_of_three (resolve_dir sh (parent_of p)) (resolve_dir sh (parent_of q)) _ ∙ pair_row sh limits c p q
 
-pub pair_lost : (sh : Sight) (c : PairCall) (p q k l : Key) (e : Errno) → k ≡ p → l ≡ q → Some e ≡ or_else (resolve_dir sh (parent_of k)) (resolve_dir sh (parent_of l)) → Some e ≡ row_in sh (AtPair c p q)
-pair_lost sh c p q k l e one two h =
-    ap (λ o. or_else o (first_failure (pair_errors c (sh p) (is_same p q) (sh q) (has_room (is_same (parent_of p) (parent_of q)) (sh (parent_of q))))))
+pub pair_lost : (sh : Sight) (limits : Limits) (c : PairCall) (p q k l : Key) (e : Errno) → k ≡ p → l ≡ q → Some e ≡ or_else (resolve_dir sh (parent_of k)) (resolve_dir sh (parent_of l)) → Some e ≡ row_in sh (AtPair (pair_call limits c) p q)
+pair_lost sh limits c p q k l e one two h =
+    ap (λ o. or_else o (first_failure (pair_errors (pair_call limits c) (sh p) (is_same p q) (sh q) (has_room (entry_limit limits) (is_same (parent_of p) (parent_of q)) (sh (parent_of q))))))
     (h ∙ (λ i. or_else (resolve_dir sh (parent_of (one i))) (resolve_dir sh (parent_of (two i)))))
-    ∙ by_dirs sh c p q
+    ∙ by_dirs sh limits c p q
 
-pub pair_there : (sh : Sight) (c : PairCall) (p q k l : Key) (r : Option Errno) (seen : PairSight) → k ≡ p → l ≡ q → None ≡ or_else (resolve_dir sh (parent_of k)) (resolve_dir sh (parent_of l))
-    → sight (sh k) ≡ seen.first → sight (sh l) ≡ seen.second → seen.same_path ≡ is_same p q → seen.has_room ≡ has_room (is_same (parent_of p) (parent_of q)) (sh (parent_of l))
-    → ((s t : Option Shape) → sight s ≡ seen.first → sight t ≡ seen.second → r ≡ first_failure (pair_errors c s seen.same_path t seen.has_room)) → r ≡ row_in sh (AtPair c p q)
-pair_there sh c p q k l r seen one two h first second same room by =
-    by (sh k) (sh l) first second
-    ∙ (λ i. first_failure (pair_errors c (sh (one i)) (same i) (sh (two i)) ((room ∙ ap (λ z. has_room (is_same (parent_of p) (parent_of q)) (sh (parent_of z))) two) i)))
-    ∙ ap (λ o. or_else o (first_failure (pair_errors c (sh p) (is_same p q) (sh q) (has_room (is_same (parent_of p) (parent_of q)) (sh (parent_of q))))))
+-- a row of errors of a call on two entries is one by all limits
+same_errors : (limits : Limits) (c : PairCall) (s : Option Shape) (same : Bool) (t : Option Shape) (room : Bool) → pair_errors (pair_call V1 c) s same t room ≡ pair_errors (pair_call limits c) s same t room
+same_errors limits Rename s same t room = refl
+same_errors limits Exchange s same t room = refl
+
+pub pair_there : (sh : Sight) (limits : Limits) (c : PairCall) (p q k l : Key) (r : Option Errno) (seen : PairSight) → k ≡ p → l ≡ q → None ≡ or_else (resolve_dir sh (parent_of k)) (resolve_dir sh (parent_of l))
+    → sight (sh k) ≡ seen.first → sight (sh l) ≡ seen.second → seen.same_path ≡ is_same p q → seen.has_room ≡ has_room (entry_limit limits) (is_same (parent_of p) (parent_of q)) (sh (parent_of l))
+    → ((s t : Option Shape) → sight s ≡ seen.first → sight t ≡ seen.second → r ≡ first_failure (pair_errors (pair_call V1 c) s seen.same_path t seen.has_room)) → r ≡ row_in sh (AtPair (pair_call limits c) p q)
+pair_there sh limits c p q k l r seen one two h first second same room by =
+    by (sh k) (sh l) first second ∙ ap first_failure (same_errors limits c (sh k) seen.same_path (sh l) seen.has_room)
+    ∙ (λ i. first_failure (pair_errors (pair_call limits c) (sh (one i)) (same i) (sh (two i)) ((room ∙ ap (λ z. has_room (entry_limit limits) (is_same (parent_of p) (parent_of q)) (sh (parent_of z))) two) i)))
+    ∙ ap (λ o. or_else o (first_failure (pair_errors (pair_call limits c) (sh p) (is_same p q) (sh q) (has_room (entry_limit limits) (is_same (parent_of p) (parent_of q)) (sh (parent_of q))))))
     (h ∙ (λ i. or_else (resolve_dir sh (parent_of (one i))) (resolve_dir sh (parent_of (two i)))))
-    ∙ by_dirs sh c p q
+    ∙ by_dirs sh limits c p q
 
 -- ---- a call
 
 -- the first error of a call is what its paths decide, or else its row
-fault_is : (most : ℕ) (t : Tree) (call : Call) → or_else (by_text (form most call)) (row_in (tree_shapes t) (form most call)) ≡ fault most t call
+fault_is : (limits : Limits) (t : Tree) (call : Call) → or_else (by_text (form limits call)) (row_in (tree_shapes t) (form limits call)) ≡ fault limits t call
 unfolding fault
-fault_is most t call = refl
+fault_is limits t call = refl
 
-pub by_paths : (most : ℕ) (t : Tree) (call : Call) (e : Errno) → ((m : ℕ) → Some e ≡ by_text (form m call)) → Some e ≡ fault most t call
-by_paths most t call e h = ap (λ o. or_else o (row_in (tree_shapes t) (form most call))) (h most) ∙ fault_is most t call
+pub by_paths : (limits : Limits) (t : Tree) (call : Call) (e : Errno) → ((m : Limits) → Some e ≡ by_text (form m call)) → Some e ≡ fault limits t call
+by_paths limits t call e h = ap (λ o. or_else o (row_in (tree_shapes t) (form limits call))) (h limits) ∙ fault_is limits t call
 
-pub by_row : (most : ℕ) (t : Tree) (call : Call) (r : Option Errno) (f : Form) → ((m : ℕ) → None ≡ by_text (form m call)) → f ≡ form most call → r ≡ row_in (tree_shapes t) f → r ≡ fault most t call
-by_row most t call r f h is e = e ∙ ap (row_in (tree_shapes t)) is ∙ ap (λ o. or_else o (row_in (tree_shapes t) (form most call))) (h most) ∙ fault_is most t call
+pub by_row : (limits : Limits) (t : Tree) (call : Call) (r : Option Errno) (f : Form) → ((m : Limits) → None ≡ by_text (form m call)) → f ≡ form limits call → r ≡ row_in (tree_shapes t) f → r ≡ fault limits t call
+by_row limits t call r f h is e = e ∙ ap (row_in (tree_shapes t)) is ∙ ap (λ o. or_else o (row_in (tree_shapes t) (form limits call))) (h limits) ∙ fault_is limits t call
 
 -- ---- the reply
 
-pub fails : (most : ℕ) (t : Tree) (call : Call) (e : Errno) → Some e ≡ fault most t call → Failed e ≡ reply most t call
+pub fails : (limits : Limits) (t : Tree) (call : Call) (e : Errno) → Some e ≡ fault limits t call → Failed e ≡ reply limits t call
 unfolding reply
-fails most t call e h = ap (λ o. replied o (success most t call)) h
+fails limits t call e h = ap (λ o. replied o (success limits t call)) h
 
--- no limit of files changes the reply of a call without an error
-success_any : (most : ℕ) (t : Tree) (call : Call) → success 0 t call ≡ success most t call
-success_any most t (calls.Mkdir p) = refl
-success_any most t (calls.Mknod p) = refl
-success_any most t (calls.Unlink p) = refl
-success_any most t (calls.Rmdir p) = refl
-success_any most t (calls.Rename p q) = refl
-success_any most t (calls.Exchange p q) = refl
-success_any most t (calls.Stat p) = refl
-success_any most t (calls.Readdir p) = refl
-success_any most t (calls.Read p off count) = refl
-success_any most t (calls.Write p off bytes) = refl
-success_any most t (calls.Truncate p size) = refl
+-- no limit changes the reply of a call without an error
+success_any : (limits : Limits) (t : Tree) (call : Call) → success V1 t call ≡ success limits t call
+success_any limits t (calls.Mkdir p) = refl
+success_any limits t (calls.Mknod p) = refl
+success_any limits t (calls.Unlink p) = refl
+success_any limits t (calls.Rmdir p) = refl
+success_any limits t (calls.Rename p q) = refl
+success_any limits t (calls.Exchange p q) = refl
+success_any limits t (calls.Stat p) = refl
+success_any limits t (calls.Readdir p) = refl
+success_any limits t (calls.Read p off count) = refl
+success_any limits t (calls.Write p off bytes) = refl
+success_any limits t (calls.Truncate p size) = refl
 
-pub works : (most : ℕ) (t : Tree) (call : Call) (r : Reply) → None ≡ fault most t call → r ≡ success 0 t call → r ≡ reply most t call
+pub works : (limits : Limits) (t : Tree) (call : Call) (r : Reply) → None ≡ fault limits t call → r ≡ success V1 t call → r ≡ reply limits t call
 unfolding reply
-works most t call r h is = is ∙ success_any most t call ∙ ap (λ o. replied o (success most t call)) h
+works limits t call r h is = is ∙ success_any limits t call ∙ ap (λ o. replied o (success limits t call)) h

@@ -8,6 +8,9 @@ use Rattle.fs_names.specs.Shapes as shapes
 use Rattle.fs_names.specs.Keys.{Key, key_cmp, after_prefix}
 use Rattle.fs_names.specs.Failures.{or_else}
 use Rattle.fs_names.specs.declared.kind.Kind.TheVariants as kinds
+use Rattle.fs_names.proofs.LimitLemmas.{empty_has_room}
+use Rattle.fs_names.specs.declared.limits.Limits.{Limits}
+use Rattle.fs_names.specs.Limits.{entry_limit}
 use Rattle.fs_calls.specs.Tree.{Tree, Node, Dir, File, names_in, name_in, with_name, only_name}
 use Rattle.fs_calls.specs.Sights.{tree_shapes, shape_of, has_any, bytes_of, is_full, resolve, resolve_next, resolve_dir}
 use Rattle.fs_calls.specs.Rows.{as_dir, status, node_reply}
@@ -70,11 +73,11 @@ module _ (t : Tree) (k : Key) where
       without_names [] h = refl
       without_names (x ∷ names) h = absurd (cc)
 
-  pub nothing_full : tree_shapes t k ≡ shape_of t k None → false ≡ is_full (tree_shapes t k)
-  nothing_full is = sym (ap is_full is)
+  pub nothing_full : (limits : Limits) → tree_shapes t k ≡ shape_of t k None → false ≡ is_full (entry_limit limits) (tree_shapes t k)
+  nothing_full limits is = sym (ap (is_full (entry_limit limits)) is ∙ empty_has_room limits)
 
-  pub file_full : (n : Node) → tree_shapes t k ≡ shape_of t k (Some n) → kinds.File ≡ kind_of n → false ≡ is_full (tree_shapes t k)
-  file_full n is file = sym (ap is_full (file_seen n is file))
+  pub file_full : (limits : Limits) (n : Node) → tree_shapes t k ≡ shape_of t k (Some n) → kinds.File ≡ kind_of n → false ≡ is_full (entry_limit limits) (tree_shapes t k)
+  file_full limits n is file = sym (ap (is_full (entry_limit limits)) (file_seen n is file) ∙ empty_has_room limits)
 
   pub bytes_there : (n : Node) (bytes : List ℕ) → tree_shapes t k ≡ shape_of t k (Some n) → bytes ≡ bytes_at n → bytes ≡ bytes_of (tree_shapes t k)
   bytes_there n bytes is e = e ∙ by_node n ∙ sym (ap bytes_of is)
@@ -114,14 +117,14 @@ module _ (t : Tree) (k : Key) where
   pub status_dir : (n : Node) (count : ℕ) → tree_shapes t k ≡ shape_of t k (Some n) → kinds.Dir ≡ kind_of n → count ≡ length (names_in t k) → answer.Stat kinds.Dir count ≡ status (tree_shapes t k)
   status_dir n count is dir e = ap (answer.Stat kinds.Dir) e ∙ sym (ap status (dir_seen n is dir))
 
-  pub names_nowhere : (p : Key) (names : List Name) → k ≡ p → names ≡ [] → tree_shapes t k ≡ shape_of t k None → answer.Names names ≡ node_reply forms.Readdir (tree_shapes t p)
-  names_nowhere p names same e is = ap answer.Names e ∙ sym (ap (node_reply forms.Readdir) is) ∙ ap (λ q. node_reply forms.Readdir (tree_shapes t q)) same
+  pub names_nowhere : (p : Key) (names : List Name) → k ≡ p → names ≡ [] → tree_shapes t k ≡ shape_of t k None → answer.Names names ≡ node_reply (forms.Readdir 0) (tree_shapes t p)
+  names_nowhere p names same e is = ap answer.Names e ∙ sym (ap (node_reply (forms.Readdir 0)) is) ∙ ap (λ q. node_reply (forms.Readdir 0) (tree_shapes t q)) same
 
-  pub names_file : (p : Key) (n : Node) (names : List Name) → k ≡ p → names ≡ [] → tree_shapes t k ≡ shape_of t k (Some n) → kinds.File ≡ kind_of n → answer.Names names ≡ node_reply forms.Readdir (tree_shapes t p)
-  names_file p n names same e is file = ap answer.Names e ∙ sym (ap (node_reply forms.Readdir) (file_seen n is file)) ∙ ap (λ q. node_reply forms.Readdir (tree_shapes t q)) same
+  pub names_file : (p : Key) (n : Node) (names : List Name) → k ≡ p → names ≡ [] → tree_shapes t k ≡ shape_of t k (Some n) → kinds.File ≡ kind_of n → answer.Names names ≡ node_reply (forms.Readdir 0) (tree_shapes t p)
+  names_file p n names same e is file = ap answer.Names e ∙ sym (ap (node_reply (forms.Readdir 0)) (file_seen n is file)) ∙ ap (λ q. node_reply (forms.Readdir 0) (tree_shapes t q)) same
 
-  pub names_dir : (p : Key) (n : Node) (names : List Name) → k ≡ p → names ≡ names_in t k → tree_shapes t k ≡ shape_of t k (Some n) → kinds.Dir ≡ kind_of n → answer.Names names ≡ node_reply forms.Readdir (tree_shapes t p)
-  names_dir p n names same e is dir = ap answer.Names e ∙ sym (ap (node_reply forms.Readdir) (dir_seen n is dir)) ∙ ap (λ q. node_reply forms.Readdir (tree_shapes t q)) same
+  pub names_dir : (p : Key) (n : Node) (names : List Name) → k ≡ p → names ≡ names_in t k → tree_shapes t k ≡ shape_of t k (Some n) → kinds.Dir ≡ kind_of n → answer.Names names ≡ node_reply (forms.Readdir 0) (tree_shapes t p)
+  names_dir p n names same e is dir = ap answer.Names e ∙ sym (ap (node_reply (forms.Readdir 0)) (dir_seen n is dir)) ∙ ap (λ q. node_reply (forms.Readdir 0) (tree_shapes t q)) same
 
   pub read_is : (p : Key) (off count : ℕ) (bytes found : List ℕ) → k ≡ p → bytes ≡ bytes_of (tree_shapes t k) → found ≡ take count (drop off bytes) → answer.Bytes found ≡ node_reply (forms.Read 0 off count) (tree_shapes t p)
   read_is p off count bytes found same e f =
@@ -156,11 +159,11 @@ few_names (e ∷ t) d = by (name_in d e.0) (few_names t d)
     by None h = omega arith
     by (Some x) h = omega arith
 
-pub few_there : (t : Tree) (d : Key) → nat_le 256 (length t) ≡ false → false ≡ nat_le 256 (length (names_in t d))
-few_there t d h = let few : length (names_in t d) ≤ length t = few_names t d in grind (arith, nat_tests)
+pub few_there : (most : ℕ) (t : Tree) (d : Key) → nat_le most (length t) ≡ false → false ≡ nat_le most (length (names_in t d))
+few_there most t d h = let few : length (names_in t d) ≤ length t = few_names t d in grind (arith, nat_tests)
 
-pub dir_crowded : (t u : Tree) (k : Key) (n : Node) (r : Bool) → tree_shapes t k ≡ shape_of t k (Some n) → kinds.Dir ≡ kind_of n → u ≡ below_key k t → r ≡ nat_le 256 (length (names_in u k)) → r ≡ is_full (tree_shapes t k)
-dir_crowded t u k n r is dir below e = e ∙ ap (λ z. nat_le 256 (length z)) (names_below k t u below) ∙ sym (ap is_full (dir_seen t k n is dir))
+pub dir_crowded : (most : ℕ) (t u : Tree) (k : Key) (n : Node) (r : Bool) → tree_shapes t k ≡ shape_of t k (Some n) → kinds.Dir ≡ kind_of n → u ≡ below_key k t → r ≡ nat_le most (length (names_in u k)) → r ≡ is_full most (tree_shapes t k)
+dir_crowded most t u k n r is dir below e = e ∙ ap (λ z. nat_le most (length z)) (names_below k t u below) ∙ sym (ap (is_full most) (dir_seen t k n is dir))
 
 -- ---- the entries of a directory, one by one
 

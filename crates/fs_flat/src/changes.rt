@@ -3,6 +3,7 @@
 ghost use Rattle.std.specs.Prelude.{◌≡◌, ◌++◌, ◌∷◌, [], IsTrue, true, IfOk, IfSome, OnOk, map, if◌then◌else◌};
 ghost use Rattle.std.specs.FinMap.{is_sorted, put};
 ghost use Rattle.fs_names.specs.Keys.{key_cmp};
+ghost use Rattle.fs_names.specs.declared.limits.Limits.TheVariants.{V1};
 ghost use Rattle.fs_calls.specs.Tree.{File, from_list, inserted, removed, renamed, exchanged};
 ghost use Rattle.fs_calls.specs.Forms as forms;
 ghost use Rattle.fs_calls.specs.Rows.{written, resized, new_bytes};
@@ -394,7 +395,7 @@ fn after_removal(alloc: Global, cells: &[Cell], path: &Path) -> Result<Vec<Cell>
 /// The entries after a call without an error, which no limit of files changes.
 pub(crate) fn change(alloc: Global, cells: &[Cell], call: &Call) -> Result<Vec<Cell>, AllocError>
     requires { IsTrue (is_sorted key_cmp cells.now) }
-    ensures { IfOk result (λ new. new.items ≡ change 0 cells.now call.now) }
+    ensures { IfOk result (λ new. new.items ≡ change V1 cells.now call.now) }
 {
     match call {
         Call::Mkdir(path) => Ok(with_node(alloc, cells, path, Kind::Dir, Vec::new(alloc))?),

@@ -2,6 +2,7 @@
 
 ghost use Rattle.std.specs.Prelude.{◌≡◌, IsTrue, IfOk};
 ghost use Rattle.std.specs.FinMap.{is_sorted};
+ghost use Rattle.fs_names.specs.Limits.{entry_limit};
 ghost use Rattle.fs_names.specs.Keys.{key_cmp, parent_of};
 ghost use Rattle.fs_names.specs.Failures.{or_else};
 ghost use Rattle.fs_calls.specs.Sights.{tree_shapes, row_in, is_same, resolve_dir};
@@ -9,44 +10,45 @@ ghost use Rattle.fs_calls.specs.Rows.{has_room};
 ghost use Rattle.fs_calls.specs.Forms as forms;
 ghost use Rattle.fs_calls.specs.Outcomes.{fault};
 ghost use Rattle.fs_calls.specs.code.Seen.{sight};
-ghost use Rattle.fs_calls.specs.code.Targets.{form_of, node_call};
+ghost use Rattle.fs_calls.specs.code.Targets.{form_of, node_call, entry_call, pair_call};
 
 use crate::cell::Cell;
 use crate::keys::{names_of, parent};
 use crate::seeing::{is_full, resolve, resolve_dir, sight};
 use fs_calls::rows::PairSight;
 use fs_calls::{Call, EntryCall, Errno, NodeCall, PairCall, Target};
-use fs_names::{Name, Path};
+use fs_names::{Limits, Name, Path};
 use std::alloc::{AllocError, Global};
 
 /// The first error of a call on a node.
 #[tactic(auto, using(crate::proofs::FaultLemmas::node_lost, crate::proofs::FaultLemmas::node_there))]
-fn node_error(cells: &[Cell], most: usize, call: NodeCall<'_>, key: &[Name]) -> Option<Errno>
+fn node_error(cells: &[Cell], limits: Limits, call: NodeCall<'_>, key: &[Name]) -> Option<Errno>
     requires { IsTrue (is_sorted key_cmp cells.now) }
-    ensures { result ≡ row_in (tree_shapes cells.now) (forms.AtNode (node_call most call.entry) key.now) }
+    ensures { result ≡ row_in (tree_shapes cells.now) (forms.AtNode (node_call limits call.entry) key.now) }
 {
     if let Some(errno) = resolve(cells, key) {
         return Some(errno);
     }
-    call.error(most, sight(cells, key))
+    call.error(limits, sight(cells, key))
 }
 
 /// The first error of a call on an entry, behind those that its path decides alone.
 #[tactic(auto, using(crate::proofs::FaultLemmas::entry_lost, crate::proofs::FaultLemmas::entry_there))]
-fn entry_error(cells: &[Cell], call: EntryCall, key: &[Name]) -> Option<Errno>
+fn entry_error(cells: &[Cell], limits: Limits, call: EntryCall, key: &[Name]) -> Option<Errno>
     requires { IsTrue (is_sorted key_cmp cells.now) }
-    ensures { result ≡ row_in (tree_shapes cells.now) (forms.AtEntry call key.now) }
+    ensures { result ≡ row_in (tree_shapes cells.now) (forms.AtEntry (entry_call limits call) key.now) }
 {
     let dir = parent(key);
     if let Some(errno) = resolve_dir(cells, dir) {
         return Some(errno);
     }
-    call.error(sight(cells, key), is_full(cells, dir))
+    call.error(sight(cells, key), is_full(cells, limits, dir))
 }
 
 /// What the row of a call on two entries asks.
 fn pair_sight(
     cells: &[Cell],
+    limits: Limits,
     path: &Path,
     other: &Path,
     first: &[Name],
@@ -56,13 +58,13 @@ fn pair_sight(
     ensures first { sight (tree_shapes cells.now first.now) ≡ result.first }
     ensures second { sight (tree_shapes cells.now second.now) ≡ result.second }
     ensures same { result.same_path ≡ is_same path.now other.now }
-    ensures room { result.has_room ≡ has_room (is_same (parent_of path.now) (parent_of other.now)) (tree_shapes cells.now (parent_of second.now)) }
+    ensures room { result.has_room ≡ has_room (entry_limit limits) (is_same (parent_of path.now) (parent_of other.now)) (tree_shapes cells.now (parent_of second.now)) }
 {
     PairSight {
         first: sight(cells, first),
         second: sight(cells, second),
         same_path: path.same(other),
-        has_room: path.has_parent_of(other) || !is_full(cells, parent(second)),
+        has_room: path.has_parent_of(other) || !is_full(cells, limits, parent(second)),
     }
 }
 
@@ -82,6 +84,7 @@ fn dirs_error(cells: &[Cell], first: &[Name], second: &[Name]) -> Option<Errno>
 #[tactic(auto, using(crate::proofs::FaultLemmas::pair_lost))]
 fn keys_error(
     cells: &[Cell],
+    limits: Limits,
     call: PairCall,
     path: &Path,
     other: &Path,
@@ -91,66 +94,67 @@ fn keys_error(
     requires sorted { IsTrue (is_sorted key_cmp cells.now) }
     requires first { first.now ≡ path.now }
     requires second { second.now ≡ other.now }
-    ensures { result ≡ row_in (tree_shapes cells.now) (forms.AtPair call path.now other.now) }
+    ensures { result ≡ row_in (tree_shapes cells.now) (forms.AtPair (pair_call limits call) path.now other.now) }
 {
     if let Some(errno) = dirs_error(cells, first, second) {
         return Some(errno);
     }
-    call.error(pair_sight(cells, path, other, first, second))
+    call.error(pair_sight(cells, limits, path, other, first, second))
 }
 
 /// The first error of a call on two entries, behind those that its paths decide alone.
 fn pair_error(
     alloc: Global,
     cells: &[Cell],
+    limits: Limits,
     call: PairCall,
     path: &Path,
     other: &Path,
 ) -> Result<Option<Errno>, AllocError>
     requires { IsTrue (is_sorted key_cmp cells.now) }
-    ensures { IfOk result (λ error. error ≡ row_in (tree_shapes cells.now) (forms.AtPair call path.now other.now)) }
+    ensures { IfOk result (λ error. error ≡ row_in (tree_shapes cells.now) (forms.AtPair (pair_call limits call) path.now other.now)) }
 {
     let first = names_of(alloc, path)?;
     let second = names_of(alloc, other)?;
-    Ok(keys_error(cells, call, path, other, &first, &second))
+    Ok(keys_error(cells, limits, call, path, other, &first, &second))
 }
 
 /// The first error of what a call looks at, behind those that its paths decide alone.
 fn target_error(
     alloc: Global,
     cells: &[Cell],
-    most: usize,
+    limits: Limits,
     target: Target<'_>,
 ) -> Result<Option<Errno>, AllocError>
     requires { IsTrue (is_sorted key_cmp cells.now) }
-    ensures { IfOk result (λ error. error ≡ row_in (tree_shapes cells.now) (form_of most target.entry)) }
+    ensures { IfOk result (λ error. error ≡ row_in (tree_shapes cells.now) (form_of limits target.entry)) }
 {
     match target {
         Target::Node(call, path) => {
             let key = names_of(alloc, path)?;
-            Ok(node_error(cells, most, call, &key))
+            Ok(node_error(cells, limits, call, &key))
         }
         Target::Entry(call, path) => {
             let key = names_of(alloc, path)?;
-            Ok(entry_error(cells, call, &key))
+            Ok(entry_error(cells, limits, call, &key))
         }
-        Target::Pair(call, path, other) => Ok(pair_error(alloc, cells, call, path, other)?),
+        Target::Pair(call, path, other) => Ok(pair_error(alloc, cells, limits, call, path, other)?),
     }
 }
 
-/// The first error of a call, where a file has at most so many bytes.
+/// The first error of a call by these limits.
 #[tactic(auto, using(crate::proofs::FaultLemmas::by_paths, crate::proofs::FaultLemmas::by_row))]
 pub(crate) fn error(
     alloc: Global,
     cells: &[Cell],
-    most: usize,
+    limits: Limits,
     call: &Call,
 ) -> Result<Option<Errno>, AllocError>
     requires { IsTrue (is_sorted key_cmp cells.now) }
-    ensures { IfOk result (λ error. error ≡ fault most cells.now call.now) }
+    ensures { IfOk result (λ error. error ≡ fault limits cells.now call.now) }
 {
     if let Some(errno) = call.error_by_paths() {
         return Ok(Some(errno));
     }
-    Ok(target_error(alloc, cells, most, call.target())?)
+    Ok(target_error(alloc, cells, limits, call.target())?)
 }

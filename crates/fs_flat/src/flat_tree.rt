@@ -37,13 +37,13 @@ impl Model for FlatTree {
     ghost invariant = { λ t. IsTrue (is_sorted key_cmp t.cells.items) };
 }
 
-/// The reply of a call, where a file has at most so many bytes.
+/// The reply of a call by these limits.
 #[tactic(auto, using(crate::proofs::FaultLemmas::fails, crate::proofs::FaultLemmas::works))]
-fn reply_on(alloc: Global, cells: &[Cell], most: usize, call: &Call) -> Result<Reply, AllocError>
+fn reply_on(alloc: Global, cells: &[Cell], limits: Limits, call: &Call) -> Result<Reply, AllocError>
     requires { IsTrue (is_sorted key_cmp cells.now) }
-    ensures { IfOk result (λ r. r ≡ reply most cells.now call.now) }
+    ensures { IfOk result (λ r. r ≡ reply limits cells.now call.now) }
 {
-    match error(alloc, cells, most, call)? {
+    match error(alloc, cells, limits, call)? {
         Some(errno) => Ok(Reply::Failed(errno)),
         None => Ok(success(alloc, cells, call)?),
     }
@@ -56,18 +56,18 @@ fn is_error(answer: &Reply) -> bool
     matches!(answer, Reply::Failed(_))
 }
 
-/// The entries after a call that gets this reply, where a file has at most so many bytes.
+/// The entries after a call that gets this reply, by these limits.
 #[tactic(auto, using(crate::proofs::ChangeLemmas::stays, crate::proofs::ChangeLemmas::changes))]
 fn cells_after(
     alloc: Global,
     cells: &[Cell],
-    most: usize,
+    limits: Limits,
     call: &Call,
     answer: &Reply,
 ) -> Result<Vec<Cell>, AllocError>
     requires sorted { IsTrue (is_sorted key_cmp cells.now) }
-    requires answer { answer.now ≡ reply most cells.now call.now }
-    ensures { IfOk result (λ new. new.items ≡ after most cells.now call.now) }
+    requires answer { answer.now ≡ reply limits cells.now call.now }
+    ensures { IfOk result (λ new. new.items ≡ after limits cells.now call.now) }
 {
     if is_error(answer) {
         return Ok(copied(alloc, cells)?);
@@ -127,6 +127,13 @@ impl FlatTree {
         })
     }
 
+    /// The limits that it keeps.
+    pub fn limits(&self) -> Limits
+        ensures { result ≡ self.now.limits }
+    {
+        self.limits
+    }
+
     /// How many entries it has, with the root's.
     pub fn len(&self) -> usize
         ensures { result ≡ length self.now.tree }
@@ -145,7 +152,7 @@ impl FlatTree {
     pub fn reply(&self, alloc: Global, call: &Call) -> Result<Reply, AllocError>
         ensures { IfOk result (λ reply. reply ≡ reply_at self.now call.now) }
     {
-        Ok(reply_on(alloc, &self.cells, self.limits.file(), call)?)
+        Ok(reply_on(alloc, &self.cells, self.limits, call)?)
     }
 
     /// The tree that a call leaves that gets this reply. This one stays as it is.
@@ -155,7 +162,7 @@ impl FlatTree {
         ensures { IfOk result (λ tree. tree ≡ called self.now call.now) }
     {
         Ok(FlatTree {
-            cells: cells_after(alloc, &self.cells, self.limits.file(), call, answer)?,
+            cells: cells_after(alloc, &self.cells, self.limits, call, answer)?,
             limits: self.limits,
         })
     }

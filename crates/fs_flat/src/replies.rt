@@ -3,6 +3,7 @@
 ghost use Rattle.std.specs.Prelude.{◌≡◌, IsTrue, IfOk};
 ghost use Rattle.std.specs.FinMap.{is_sorted};
 ghost use Rattle.fs_names.specs.Keys.{key_cmp};
+ghost use Rattle.fs_names.specs.declared.limits.Limits.TheVariants.{V1};
 ghost use Rattle.fs_calls.specs.Sights.{tree_shapes};
 ghost use Rattle.fs_calls.specs.Rows.{status, node_reply};
 ghost use Rattle.fs_calls.specs.Forms as forms;
@@ -36,7 +37,7 @@ fn status(cells: &[Cell], key: &[Name]) -> Reply
 #[tactic(auto, using(crate::proofs::SeenLemmas::names_nowhere, crate::proofs::SeenLemmas::names_file, crate::proofs::SeenLemmas::names_dir))]
 fn names_at(alloc: Global, cells: &[Cell], path: &Path) -> Result<Reply, AllocError>
     requires { IsTrue (is_sorted key_cmp cells.now) }
-    ensures { IfOk result (λ r. r ≡ node_reply forms.Readdir (tree_shapes cells.now path.now)) }
+    ensures { IfOk result (λ r. r ≡ node_reply (forms.Readdir 0) (tree_shapes cells.now path.now)) }
 {
     let key = names_of(alloc, path)?;
     let Some(cell) = find(cells, &key) else {
@@ -68,7 +69,7 @@ fn bytes_at(
 /// The reply of a call without an error, which no limit of files changes.
 pub(crate) fn success(alloc: Global, cells: &[Cell], call: &Call) -> Result<Reply, AllocError>
     requires { IsTrue (is_sorted key_cmp cells.now) }
-    ensures { IfOk result (λ r. r ≡ success 0 cells.now call.now) }
+    ensures { IfOk result (λ r. r ≡ success V1 cells.now call.now) }
 {
     match call {
         Call::Mkdir(_) | Call::Mknod(_) | Call::Unlink(_) | Call::Rmdir(_) => Ok(Reply::Done),

@@ -3,6 +3,7 @@
 ghost use Rattle.std.specs.Prelude.{◌≡◌, ◌<◌, ◌≤◌, ◌++◌, ◌∷◌, [], length, nat_le, IsTrue, option_copied, IfOk, OnOk};
 ghost use Rattle.std.specs.FinMap.{is_sorted};
 ghost use Rattle.fs_names.specs.Keys.{key_cmp};
+ghost use Rattle.fs_names.specs.Limits.{entry_limit};
 ghost use Rattle.fs_calls.specs.Tree.{names_in};
 ghost use Rattle.fs_calls.specs.Sights.{tree_shapes, has_any, bytes_of, is_full, resolve, resolve_dir};
 ghost use Rattle.fs_calls.specs.code.Seen.{sight};
@@ -13,7 +14,7 @@ use crate::keys::name_in;
 use crate::searching::{below, find};
 use fs_calls::rows::step_error;
 use fs_calls::{Errno, Sight, ranges};
-use fs_names::{Kind, Name};
+use fs_names::{Kind, Limits, Name};
 use std::alloc::{AllocError, Global};
 
 /// Whether an entry is one of a directory.
@@ -134,29 +135,29 @@ pub(crate) fn sight(cells: &[Cell], key: &[Name]) -> Sight
     }
 }
 
-/// Whether as many of these are entries of a directory as it can have.
+/// Whether as many of these are entries of a directory as it can have, where these are the most.
 #[tactic(auto, using(crate::proofs::SeenLemmas::few_there))]
-fn is_crowded(cells: &[Cell], dir: &[Name]) -> bool
-    ensures { result ≡ nat_le 256 (length (names_in cells.now dir.now)) }
+fn is_crowded(cells: &[Cell], most: usize, dir: &[Name]) -> bool
+    ensures { result ≡ nat_le most (length (names_in cells.now dir.now)) }
 {
-    if !ranges::is_full(cells.len()) {
+    if !ranges::is_full(most, cells.len()) {
         return false;
     }
-    ranges::is_full(count_in(cells, dir))
+    ranges::is_full(most, count_in(cells, dir))
 }
 
-/// Whether a directory has as many entries as it can have.
+/// Whether a directory has as many entries as it can have by these limits.
 #[tactic(auto, using(crate::proofs::SeenLemmas::nothing_full, crate::proofs::SeenLemmas::file_full, crate::proofs::SeenLemmas::dir_crowded))]
-pub(crate) fn is_full(cells: &[Cell], key: &[Name]) -> bool
+pub(crate) fn is_full(cells: &[Cell], limits: Limits, key: &[Name]) -> bool
     requires { IsTrue (is_sorted key_cmp cells.now) }
-    ensures { result ≡ is_full (tree_shapes cells.now key.now) }
+    ensures { result ≡ is_full (entry_limit limits) (tree_shapes cells.now key.now) }
 {
     let Some(cell) = find(cells, key) else {
         return false;
     };
     match cell.kind() {
         Kind::File => false,
-        Kind::Dir => is_crowded(below(cells, key), key),
+        Kind::Dir => is_crowded(below(cells, key), limits.entries(), key),
     }
 }
 

@@ -1,8 +1,7 @@
 -- A call that waits commits before others that wait in front of it, where it meets none of them.
 use Rattle.std.proofs.Common.{◌≡◌, ℕ, suc, ◌+◌, ◌≤◌, Bool, true, false, ◌||◌, ◌==◌, cond, inl, inr, List, [], ◌∷◌, ◌++◌, length, refl, sym, ap, ◌∙◌, subst, ⊎_elim, arith, length-append}
 use Rattle.std.proofs.lemmas.Bool.{eqb-true, both_ways, or_cases}
-use Rattle.fs_names.specs.Limits.{file_limit}
-use Rattle.fs_calls.specs.Tree.{Tree, IsTree}
+use Rattle.fs_calls.specs.Tree.{IsTree}
 use Rattle.fs_calls.specs.Starts.{Start, start_tree}
 use Rattle.fs_calls.specs.Outcomes.{next_start, called}
 use Rattle.fs_calls.specs.Forms.{form}
@@ -71,30 +70,30 @@ waits-brought c (s ∷ before) q behind = ap (λ b. (c == s.0) || b) (waits-brou
 -- ---- replies and trees
 
 -- the call q may go before the call s, from a tree with room for so many more
-record MayPass (room : ℕ) (t : Tree) (q s : ℕ × Call) : Type 0 where
+record MayPass (room : ℕ) (t : Start) (q s : ℕ × Call) : Type 0 where
   pub siblings : Bool
   pub apart : calls_meet siblings q.1 s.1 ≡ false
-  pub few : siblings ≡ false → HasRoom room t
+  pub few : siblings ≡ false → HasRoom t.limits room t.tree
 
-passes_later : (n : ℕ) (t : Start) (s : Call) (q : ℕ × Call) (before : List (ℕ × Call)) → IsTree (start_tree t) → AllOf (MayPass (suc n) (start_tree t) q) before → AllOf (MayPass n (start_tree (called t s)) q) before
-passes_later n t s q before is may = all_map (MayPass (suc n) (start_tree t) q) (MayPass n (start_tree (called t s)) q) before (λ r m. record {
+passes_later : (n : ℕ) (t : Start) (s : Call) (q : ℕ × Call) (before : List (ℕ × Call)) → IsTree (start_tree t) → AllOf (MayPass (suc n) t q) before → AllOf (MayPass n (called t s) q) before
+passes_later n t s q before is may = all_map (MayPass (suc n) t q) (MayPass n (called t s) q) before (λ r m. record {
   siblings = m.siblings;
   apart = m.apart;
   few = λ e.
       let room = m.few e in
-      let same = ap length (after_is (file_limit t.limits) t.tree s) in
-      let more = after_adds t.tree (form (file_limit t.limits) s) is in
+      let same = ap length (after_is t.limits t.tree s) in
+      let more = after_adds t.tree (form t.limits s) is in
       omega (arith, room, same, more);
 }) may
 
-replays_brought : (h : List Heard) (t end : Start) (before : List (ℕ × Call)) (q : ℕ × Call) (behind : List (ℕ × Call)) → IsTree (start_tree t) → AllOf (MayPass (length before + 1) (start_tree t) q) before
+replays_brought : (h : List Heard) (t end : Start) (before : List (ℕ × Call)) (q : ℕ × Call) (behind : List (ℕ × Call)) → IsTree (start_tree t) → AllOf (MayPass (length before + 1) t q) before
     → Replays h t (before ++ q ∷ behind) end → Replays h t (q ∷ (before ++ behind)) end
 replays_brought h t end [] q behind is may so = so
 replays_brought h t end (s ∷ before) q behind is may so =
-    let both = apart_calls_commute (file_limit t.limits) t.tree may.0.siblings q.1 s.1 is may.0.apart (λ e. let room = may.0.few e in omega (arith, room)) in
+    let both = apart_calls_commute t.limits t.tree may.0.siblings q.1 s.1 is may.0.apart (λ e. let room = may.0.few e in omega (arith, room)) in
     let count : suc (length before) + 1 ≡ suc (length before + 1) = omega arith in
-    let passes = subst (λ n. AllOf (MayPass n (start_tree t) q) before) count may.1 in
-    let rest = replays_brought h (called t s.1) end before q behind (stays_a_tree (file_limit t.limits) t.tree s.1 is) (passes_later (length before + 1) t s.1 q before is passes) so.1 in
+    let passes = subst (λ n. AllOf (MayPass n t q) before) count may.1 in
+    let rest = replays_brought h (called t s.1) end before q behind (stays_a_tree t.limits t.tree s.1 is) (passes_later (length before + 1) t s.1 q before is passes) so.1 in
     let tree : called (called t q.1) s.1 ≡ called (called t s.1) q.1 = ap (λ u. record { limits = t.limits; tree = u }) both.tree in (
       subst (FitsIn h q.0) both.first rest.0,
       (subst (FitsIn h s.0) (sym both.second) so.0, subst (λ u. Replays h u (before ++ behind) end) (sym tree) rest.1),
@@ -139,12 +138,12 @@ all_open start h x es p explains f = all_map (IsWaiting x es) (λ q. IsOpen h x 
 
 -- a call of a set passes each that waits before it and is not in the set
 passes_left_out : (start : Start) (h : List Heard) (x : Configuration) (es : List Entry) (c : ℕ) (near : ℕ → Bool) (before : List (ℕ × Call)) (q : ℕ × Call) (behind : List (ℕ × Call)) → ExplainsFront start h es
-    → IsNear h x c near → near q.0 ≡ true → AllOf (λ s. near s.0 ≡ false) before → Follows start h x es (before ++ q ∷ behind) → AllOf (λ s. IsTree (start_tree x.now) × MayPass (length before + 1) (start_tree x.now) q s) before
+    → IsNear h x c near → near q.0 ≡ true → AllOf (λ s. near s.0 ≡ false) before → Follows start h x es (before ++ q ∷ behind) → AllOf (λ s. IsTree (start_tree x.now) × MayPass (length before + 1) x.now q s) before
 passes_left_out start h x es c near before q behind explains is inside left f =
     let open_all = all_open start h x es (before ++ q ∷ behind) explains f in
     let brought = all_brought (λ s. IsOpen h x s.0 s.1) before q behind open_all in
     let many : length (before ++ q ∷ behind) ≡ length before + suc (length behind) = length-append before (q ∷ behind) in
-    all_map (λ s. IsOpen h x s.0 s.1 × (near s.0 ≡ false)) (λ s. IsTree (start_tree x.now) × MayPass (length before + 1) (start_tree x.now) q s) before
+    all_map (λ s. IsOpen h x s.0 s.1 × (near s.0 ≡ false)) (λ s. IsTree (start_tree x.now) × MayPass (length before + 1) x.now q s) before
     (λ s both.
     let out = is.others s.0 s.1 both.0 both.1 in (
       out.tree,
@@ -179,7 +178,7 @@ follows_brought start h x es c near before q behind explains is inside left f = 
     end : Start
     end = next_start start (commits es)
 
-    brought : (ss : List (ℕ × Call)) → AllOf (λ s. IsTree (start_tree x.now) × MayPass (length ss + 1) (start_tree x.now) q s) ss → Replays h x.now (ss ++ q ∷ behind) end → Replays h x.now (q ∷ (ss ++ behind)) end
+    brought : (ss : List (ℕ × Call)) → AllOf (λ s. IsTree (start_tree x.now) × MayPass (length ss + 1) x.now q s) ss → Replays h x.now (ss ++ q ∷ behind) end → Replays h x.now (q ∷ (ss ++ behind)) end
     brought [] may so = so
     brought (s ∷ ss) may so =
-        replays_brought h x.now end (s ∷ ss) q behind may.0.0 (all_map (λ r. IsTree (start_tree x.now) × MayPass (length (s ∷ ss) + 1) (start_tree x.now) q r) (MayPass (length (s ∷ ss) + 1) (start_tree x.now) q) (s ∷ ss) (λ r both. both.1) may) so
+        replays_brought h x.now end (s ∷ ss) q behind may.0.0 (all_map (λ r. IsTree (start_tree x.now) × MayPass (length (s ∷ ss) + 1) x.now q r) (MayPass (length (s ∷ ss) + 1) x.now q) (s ∷ ss) (λ r both. both.1) may) so

@@ -1,16 +1,19 @@
 -- Calls that do not meet commute.
-use Rattle.std.proofs.Common.{◌≡◌, ℕ, Bool, true, false, ◌&&◌, List, [], ◌∷◌, ◌++◌, Some, None, Option, is_some, refl, sym, ap, subst, ◌∙◌, append_assoc, arith}
+use Rattle.std.proofs.Common.{◌≡◌, Bool, true, false, ◌&&◌, List, [], ◌∷◌, ◌++◌, Some, None, Option, is_some, refl, sym, ap, subst, ◌∙◌, append_assoc, arith}
 use Rattle.std.specs.List.{list_any, AllByRecursion}
 use Rattle.std.proofs.lemmas.Bool.{or_parts}
 use Rattle.fs_names.specs.Names.{Name}
 use Rattle.fs_names.specs.Keys.{Key, after_prefix, parent_of}
 use Rattle.fs_names.proofs.Lemmas.{after_prefix-exact, after_prefix-append}
+use Rattle.fs_names.specs.Limits.{entry_limit}
+use Rattle.fs_names.specs.declared.limits.Limits.{Limits}
 use Rattle.fs_calls.specs.Tree.{Tree, look, IsTree}
 use Rattle.fs_calls.specs.Sights.{tree_shapes, is_full, is_same}
 use Rattle.fs_calls.specs.Forms.{Form, form}
 use Rattle.fs_calls.specs.Outcomes.{reply, after, reply_of, replied}
 use Rattle.fs_calls.specs.declared.call.Call.{Call}
 use Rattle.fs_calls.specs.declared.call.Call.TheVariants.{Mkdir, Mknod, Unlink, Rmdir, Rename, Exchange, Stat, Readdir, Read, Write, Truncate}
+use Rattle.fs_calls.proofs.FormLemmas.{LimitedTo, form_limited}
 use Rattle.fs_calls.proofs.KeyLemmas.{parent_of_child, after_prefix-child, only_same, is_same_exact, longer_front}
 use Rattle.fs_calls.proofs.TreeLaws.{stays_a_tree, same_trees}
 use Rattle.fs_histories.specs.Meeting.{paths_in, paths_of, paths_meet, calls_meet, HasRoom, ApartCallsCommute}
@@ -113,32 +116,32 @@ not_beside p q x a =
     after_prefix-child p (parent_of q) x (λ e. only_same (parent_of p) (parent_of q) (a.parents refl) (parent_of_child p (parent_of q) x e)) (not_above true p q (parent_of q) front.0 a front.1)
 
 -- what stands at a key that is below no path of a call stays
-kept : (t : Tree) (f : Form) (k : Key) (P : Key → Type 0) → IsTree t → ((p : Key) → P p → after_prefix p k ≡ None) → AllByRecursion P (paths_in f) → look (after_of t f) k ≡ look t k
-kept t f k P is none all = elsewhere t f k is (all_mapped P (λ p. after_prefix p k ≡ None) (paths_in f) none all)
+kept : (limits : Limits) (t : Tree) (f : Form) (k : Key) (P : Key → Type 0) → LimitedTo limits f → IsTree t → ((p : Key) → P p → after_prefix p k ≡ None) → AllByRecursion P (paths_in f) → look (after_of t f) k ≡ look t k
+kept limits t f k P has is none all = elsewhere limits t f k has is (all_mapped P (λ p. after_prefix p k ≡ None) (paths_in f) none all)
 
-full_still : (siblings : Bool) (t : Tree) (f : Form) (q : Key) → IsTree t → IsTree (after_of t f) → (siblings ≡ false → HasRoom 2 t) → AllByRecursion (λ p. Apart siblings p q) (paths_in f)
-    → is_full (tree_shapes (after_of t f) (parent_of q)) ≡ is_full (tree_shapes t (parent_of q))
-full_still true t f q is new room all =
+full_still : (limits : Limits) (siblings : Bool) (t : Tree) (f : Form) (q : Key) → LimitedTo limits f → IsTree t → IsTree (after_of t f) → (siblings ≡ false → HasRoom limits 2 t) → AllByRecursion (λ p. Apart siblings p q) (paths_in f)
+    → is_full (entry_limit limits) (tree_shapes (after_of t f) (parent_of q)) ≡ is_full (entry_limit limits) (tree_shapes t (parent_of q))
+full_still limits true t f q has is new room all =
     let front = parent_front q in
-    ap is_full (shapes_agree (after_of t f) t (parent_of q) new is
-    (kept t f (parent_of q) (λ p. Apart true p q) is (λ p a. not_above true p q (parent_of q) front.0 a front.1) all)
-    (λ x. kept t f (parent_of q ++ x ∷ []) (λ p. Apart true p q) is (λ p a. not_beside p q x a) all))
-full_still false t f q is new room all =
+    ap (is_full (entry_limit limits)) (shapes_agree (after_of t f) t (parent_of q) new is
+    (kept limits t f (parent_of q) (λ p. Apart true p q) has is (λ p a. not_above true p q (parent_of q) front.0 a front.1) all)
+    (λ x. kept limits t f (parent_of q ++ x ∷ []) (λ p. Apart true p q) has is (λ p a. not_beside p q x a) all))
+full_still limits false t f q has is new room all =
     let few = room refl in
     let more = after_adds t f is in
-    never_full (after_of t f) (parent_of q) (omega (arith, few, more)) ∙ sym (never_full t (parent_of q) (omega (arith, few)))
+    never_full (entry_limit limits) (after_of t f) (parent_of q) (omega (arith, few, more)) ∙ sym (never_full (entry_limit limits) t (parent_of q) (omega (arith, few)))
 
-agrees_at : (siblings : Bool) (t : Tree) (f : Form) (q : Key) → IsTree t → IsTree (after_of t f) → (siblings ≡ false → HasRoom 2 t) → AllByRecursion (λ p. Apart siblings p q) (paths_in f) → AgreesAt (after_of t f) t q
-agrees_at siblings t f q is new room all = record {
-  above = λ k r e. kept t f k (λ p. Apart siblings p q) is (λ p a. not_above siblings p q k r a e) all;
-  below = λ r. kept t f (q ++ r) (λ p. Apart siblings p q) is (λ p a. not_below siblings p q r a) all;
-  full = full_still siblings t f q is new room all;
+agrees_at : (limits : Limits) (siblings : Bool) (t : Tree) (f : Form) (q : Key) → LimitedTo limits f → IsTree t → IsTree (after_of t f) → (siblings ≡ false → HasRoom limits 2 t) → AllByRecursion (λ p. Apart siblings p q) (paths_in f) → AgreesAt limits (after_of t f) t q
+agrees_at limits siblings t f q has is new room all = record {
+  above = λ k r e. kept limits t f k (λ p. Apart siblings p q) has is (λ p a. not_above siblings p q k r a e) all;
+  below = λ r. kept limits t f (q ++ r) (λ p. Apart siblings p q) has is (λ p a. not_below siblings p q r a) all;
+  full = full_still limits siblings t f q has is new room all;
 }
 
-agrees_all : (siblings : Bool) (t : Tree) (f : Form) (qs : List Key) → IsTree t → IsTree (after_of t f) → (siblings ≡ false → HasRoom 2 t) → AllApart siblings qs (paths_in f) → AllByRecursion (AgreesAt (after_of t f) t) qs
-agrees_all siblings t f qs is new room all =
-    all_mapped (λ q. AllByRecursion (Apart siblings q) (paths_in f)) (AgreesAt (after_of t f) t) qs
-    (λ q a. agrees_at siblings t f q is new room (all_mapped (Apart siblings q) (λ p. Apart siblings p q) (paths_in f) (λ p b. turned siblings q p b) a)) all
+agrees_all : (limits : Limits) (siblings : Bool) (t : Tree) (f : Form) (qs : List Key) → LimitedTo limits f → IsTree t → IsTree (after_of t f) → (siblings ≡ false → HasRoom limits 2 t) → AllApart siblings qs (paths_in f) → AllByRecursion (AgreesAt limits (after_of t f) t) qs
+agrees_all limits siblings t f qs has is new room all =
+    all_mapped (λ q. AllByRecursion (Apart siblings q) (paths_in f)) (AgreesAt limits (after_of t f) t) qs
+    (λ q a. agrees_at limits siblings t f q has is new room (all_mapped (Apart siblings q) (λ p. Apart siblings p q) (paths_in f) (λ p b. turned siblings q p b) a)) all
 
 -- ---- both orders
 
@@ -152,80 +155,80 @@ by_paths Q k (p ∷ ps) below other = by_case (λ none. by_paths Q k ps below.1 
     by_case later (Some r) e = subst Q (sym (after_prefix-exact p k r e)) (below.0 r)
 
 -- below the paths of the second call stands what it leaves alone
-second_leaves : (siblings : Bool) (tb : Tree) (f : Form) (q r : Key) → IsTree tb → AllByRecursion (λ p. Apart siblings p q) (paths_in f) → look (after_of tb f) (q ++ r) ≡ look tb (q ++ r)
-second_leaves siblings tb f q r is all = kept tb f (q ++ r) (λ p. Apart siblings p q) is (λ p a. not_below siblings p q r a) all
+second_leaves : (limits : Limits) (siblings : Bool) (tb : Tree) (f : Form) (q r : Key) → LimitedTo limits f → IsTree tb → AllByRecursion (λ p. Apart siblings p q) (paths_in f) → look (after_of tb f) (q ++ r) ≡ look tb (q ++ r)
+second_leaves limits siblings tb f q r has is all = kept limits tb f (q ++ r) (λ p. Apart siblings p q) has is (λ p a. not_below siblings p q r a) all
 
-alike_through : (siblings : Bool) (s tb : Tree) (f : Form) (qs : List Key) → IsTree tb → AllApart siblings qs (paths_in f) → AlikeBelow s tb qs → AllByRecursion (λ q. (r : Key) → look s (q ++ r) ≡ look (after_of tb f) (q ++ r)) qs
-alike_through siblings s tb f [] is all alike = tt
-alike_through siblings s tb f (q ∷ qs) is all alike = (
-  λ r. alike.0 r ∙ sym (second_leaves siblings tb f q r is (all_mapped (Apart siblings q) (λ p. Apart siblings p q) (paths_in f) (λ p b. turned siblings q p b) all.0)),
-  alike_through siblings s tb f qs is all.1 alike.1,
+alike_through : (limits : Limits) (siblings : Bool) (s tb : Tree) (f : Form) (qs : List Key) → LimitedTo limits f → IsTree tb → AllApart siblings qs (paths_in f) → AlikeBelow s tb qs → AllByRecursion (λ q. (r : Key) → look s (q ++ r) ≡ look (after_of tb f) (q ++ r)) qs
+alike_through limits siblings s tb f [] has is all alike = tt
+alike_through limits siblings s tb f (q ∷ qs) has is all alike = (
+  λ r. alike.0 r ∙ sym (second_leaves limits siblings tb f q r has is (all_mapped (Apart siblings q) (λ p. Apart siblings p q) (paths_in f) (λ p b. turned siblings q p b) all.0)),
+  alike_through limits siblings s tb f qs has is all.1 alike.1,
 )
 
-same_either_order : (siblings : Bool) (t : Tree) (f g : Form) → IsTree t → IsTree (after_of t f) → IsTree (after_of t g) → (siblings ≡ false → HasRoom 2 t) → AllApart siblings (paths_in f) (paths_in g)
+same_either_order : (limits : Limits) (siblings : Bool) (t : Tree) (f g : Form) → LimitedTo limits f → LimitedTo limits g → IsTree t → IsTree (after_of t f) → IsTree (after_of t g) → (siblings ≡ false → HasRoom limits 2 t) → AllApart siblings (paths_in f) (paths_in g)
     → (k : Key) → look (after_of (after_of t f) g) k ≡ look (after_of (after_of t g) f) k
-same_either_order siblings t f g is one other room all k =
+same_either_order limits siblings t f g has its is one other room all k =
     let ta = after_of t f in
     let tb = after_of t g in
     let back = all_turned siblings (paths_in f) (paths_in g) all in
-    let of_g = within ta t g one is (agrees_all siblings t f (paths_in g) is one room back) in
-    let of_f = within tb t f other is (agrees_all siblings t g (paths_in f) is other room all) in
-    by_paths (λ z. look (after_of ta g) z ≡ look (after_of tb f) z) k (paths_in g) (alike_through siblings (after_of ta g) tb f (paths_in g) other back of_g)
-    (λ not_g. elsewhere ta g k one not_g
+    let of_g = within limits ta t g its one is (agrees_all limits siblings t f (paths_in g) has is one room back) in
+    let of_f = within limits tb t f has other is (agrees_all limits siblings t g (paths_in f) its is other room all) in
+    by_paths (λ z. look (after_of ta g) z ≡ look (after_of tb f) z) k (paths_in g) (alike_through limits siblings (after_of ta g) tb f (paths_in g) has other back of_g)
+    (λ not_g. elsewhere limits ta g k its one not_g
     ∙ by_paths (λ z. look ta z ≡ look (after_of tb f) z) k (paths_in f) (alike_turned (after_of tb f) ta (paths_in f) of_f)
-    (λ not_f. elsewhere t f k is not_f ∙ sym (elsewhere t g k is not_g) ∙ sym (elsewhere tb f k other not_f)))
+    (λ not_f. elsewhere limits t f k has is not_f ∙ sym (elsewhere limits t g k its is not_g) ∙ sym (elsewhere limits tb f k has other not_f)))
   where
     alike_turned : (u v : Tree) (ps : List Key) → AlikeBelow u v ps → AllByRecursion (λ p. (r : Key) → look v (p ++ r) ≡ look u (p ++ r)) ps
     alike_turned u v [] h = tt
     alike_turned u v (p ∷ ps) h = (λ r. sym (h.0 r), alike_turned u v ps h.1)
 
-replied_alike : (s t : Tree) (g : Form) → IsTree s → IsTree t → AllByRecursion (AgreesAt s t) (paths_in g) → replied (fault_of s g) (reply_of s g) ≡ replied (fault_of t g) (reply_of t g)
-replied_alike s t g one other a = λ i. replied (fault_agrees s t g one other a i) (reply_agrees s t g one other a i)
+replied_alike : (limits : Limits) (s t : Tree) (g : Form) → LimitedTo limits g → IsTree s → IsTree t → AllByRecursion (AgreesAt limits s t) (paths_in g) → replied (fault_of s g) (reply_of s g) ≡ replied (fault_of t g) (reply_of t g)
+replied_alike limits s t g its one other a = λ i. replied (fault_agrees limits s t g its one other a i) (reply_agrees limits s t g one other a i)
 
 -- ---- calls
 
-paths_any : (most : ℕ) (call : Call) → paths_of call ≡ paths_in (form most call)
-paths_any most (Mkdir p) = refl
-paths_any most (Mknod p) = refl
-paths_any most (Unlink p) = refl
-paths_any most (Rmdir p) = refl
-paths_any most (Rename p q) = refl
-paths_any most (Exchange p q) = refl
-paths_any most (Stat p) = refl
-paths_any most (Readdir p) = refl
-paths_any most (Read p off count) = refl
-paths_any most (Write p off bytes) = refl
-paths_any most (Truncate p size) = refl
+paths_any : (limits : Limits) (call : Call) → paths_of call ≡ paths_in (form limits call)
+paths_any limits (Mkdir p) = refl
+paths_any limits (Mknod p) = refl
+paths_any limits (Unlink p) = refl
+paths_any limits (Rmdir p) = refl
+paths_any limits (Rename p q) = refl
+paths_any limits (Exchange p q) = refl
+paths_any limits (Stat p) = refl
+paths_any limits (Readdir p) = refl
+paths_any limits (Read p off count) = refl
+paths_any limits (Write p off bytes) = refl
+paths_any limits (Truncate p size) = refl
 
-calls_apart : (most : ℕ) (siblings : Bool) (a b : Call) → calls_meet siblings a b ≡ false → AllApart siblings (paths_in (form most a)) (paths_in (form most b))
-calls_apart most siblings a b h =
-    subst (λ ps. AllApart siblings ps (paths_in (form most b))) (paths_any most a) (subst (λ qs. AllApart siblings (paths_of a) qs) (paths_any most b) (all_apart siblings (paths_of a) (paths_of b) h))
+calls_apart : (limits : Limits) (siblings : Bool) (a b : Call) → calls_meet siblings a b ≡ false → AllApart siblings (paths_in (form limits a)) (paths_in (form limits b))
+calls_apart limits siblings a b h =
+    subst (λ ps. AllApart siblings ps (paths_in (form limits b))) (paths_any limits a) (subst (λ qs. AllApart siblings (paths_of a) qs) (paths_any limits b) (all_apart siblings (paths_of a) (paths_of b) h))
 
 -- the reply behind another call
-told : (most : ℕ) (t : Tree) (siblings : Bool) (a b : Call) → IsTree t → IsTree (after_of t (form most a)) → (siblings ≡ false → HasRoom 2 t) → AllApart siblings (paths_in (form most b)) (paths_in (form most a))
-    → reply most (after most t a) b ≡ reply most t b
-told most t siblings a b is new room all =
-    ap (λ u. reply most u b) (after_is most t a)
-    ∙ reply_is most (after_of t (form most a)) b
-    ∙ replied_alike (after_of t (form most a)) t (form most b) new is (agrees_all siblings t (form most a) (paths_in (form most b)) is new room all)
-    ∙ sym (reply_is most t b)
+told : (limits : Limits) (t : Tree) (siblings : Bool) (a b : Call) → IsTree t → IsTree (after_of t (form limits a)) → (siblings ≡ false → HasRoom limits 2 t) → AllApart siblings (paths_in (form limits b)) (paths_in (form limits a))
+    → reply limits (after limits t a) b ≡ reply limits t b
+told limits t siblings a b is new room all =
+    ap (λ u. reply limits u b) (after_is limits t a)
+    ∙ reply_is limits (after_of t (form limits a)) b
+    ∙ replied_alike limits (after_of t (form limits a)) t (form limits b) (form_limited limits b) new is (agrees_all limits siblings t (form limits a) (paths_in (form limits b)) (form_limited limits a) is new room all)
+    ∙ sym (reply_is limits t b)
 
 pub apart_calls_commute : ApartCallsCommute
-apart_calls_commute most t siblings a b is apart room =
-    let f = form most a in
-    let g = form most b in
-    let all = calls_apart most siblings a b apart in
+apart_calls_commute limits t siblings a b is apart room =
+    let f = form limits a in
+    let g = form limits b in
+    let all = calls_apart limits siblings a b apart in
     let back = all_turned siblings (paths_in f) (paths_in g) all in
-    let one : IsTree (after_of t f) = subst IsTree (after_is most t a) (stays_a_tree most t a is) in
-    let other : IsTree (after_of t g) = subst IsTree (after_is most t b) (stays_a_tree most t b is) in
-    let there : after most (after most t a) b ≡ after_of (after_of t f) g = ap (λ u. after most u b) (after_is most t a) ∙ after_is most (after_of t f) b in
-    let here : after most (after most t b) a ≡ after_of (after_of t g) f = ap (λ u. after most u a) (after_is most t b) ∙ after_is most (after_of t g) a in
+    let one : IsTree (after_of t f) = subst IsTree (after_is limits t a) (stays_a_tree limits t a is) in
+    let other : IsTree (after_of t g) = subst IsTree (after_is limits t b) (stays_a_tree limits t b is) in
+    let there : after limits (after limits t a) b ≡ after_of (after_of t f) g = ap (λ u. after limits u b) (after_is limits t a) ∙ after_is limits (after_of t f) b in
+    let here : after limits (after limits t b) a ≡ after_of (after_of t g) f = ap (λ u. after limits u a) (after_is limits t b) ∙ after_is limits (after_of t g) a in
     let both = same_trees (after_of (after_of t f) g) (after_of (after_of t g) f)
-    (subst IsTree (after_is most (after_of t f) b) (stays_a_tree most (after_of t f) b one))
-    (subst IsTree (after_is most (after_of t g) a) (stays_a_tree most (after_of t g) a other))
-    (same_either_order siblings t f g is one other room all) in
+    (subst IsTree (after_is limits (after_of t f) b) (stays_a_tree limits (after_of t f) b one))
+    (subst IsTree (after_is limits (after_of t g) a) (stays_a_tree limits (after_of t g) a other))
+    (same_either_order limits siblings t f g (form_limited limits a) (form_limited limits b) is one other room all) in
     record {
-      first = told most t siblings b a is other room all;
-      second = told most t siblings a b is one room back;
+      first = told limits t siblings b a is other room all;
+      second = told limits t siblings a b is one room back;
       tree = there ∙ both ∙ sym here;
     }

@@ -7,13 +7,12 @@ use Rattle.std.specs.FinMap.{find, put, is_sorted}
 use Rattle.std.specs.FinMap.Entries.{length-put, length_without}
 use Rattle.fs_names.specs.Names.{Name}
 use Rattle.fs_names.specs.Keys.{Key, key_cmp}
-use Rattle.fs_names.specs.declared.limits.TheConstants.{ENTRY_LIMIT}
 use Rattle.fs_names.proofs.Lemmas.{key_total}
 use Rattle.fs_calls.specs.Tree as tree
 use Rattle.fs_calls.specs.Tree.{Tree, Node, IsTree, from_list, inserted, removed, renamed, exchanged, moved_key, exchanged_key, names_in, name_in, with_name, look}
 use Rattle.fs_calls.specs.Sights.{tree_shapes, shape_of, names_of, is_full, is_same}
 use Rattle.fs_calls.specs.Forms.{Form, AtNode, AtEntry, AtPair, new_shape}
-use Rattle.fs_calls.specs.declared.target.PairCall.TheVariants as pairs
+use Rattle.fs_calls.specs.Forms as pairs
 use Rattle.fs_calls.specs.Rows.{new_bytes, Edit, Keep, Add, Remove, edit_of}
 use Rattle.fs_calls.specs.Outcomes.{change_of, filled, edited, node_of, if_sound}
 use Rattle.fs_calls.specs.declared.errno.Errno.{Errno}
@@ -80,7 +79,7 @@ either_adds false t new less = omega (arith, less)
 change_adds : (t : Tree) (f : Form) → T (is_sorted key_cmp t) → length (change_of t f) ≤ length t + 1
 change_adds t (AtNode c p) rises = filled_adds t p (new_bytes c (tree_shapes t p)) rises
 change_adds t (AtEntry c p) rises = edited_adds t p (edit_of (new_shape c)) rises
-change_adds t (AtPair pairs.Rename p q) rises = either_adds (is_same p q) t (renamed t p q) (renamed_adds t p q rises)
+change_adds t (AtPair (pairs.Rename most) p q) rises = either_adds (is_same p q) t (renamed t p q) (renamed_adds t p q rises)
 change_adds t (AtPair pairs.Exchange p q) rises = either_adds (is_same p q) t (exchanged t p q) (exchanged_adds t p q)
 
 sound_adds : (found : Option Errno) (t new : Tree) → length new ≤ length t + 1 → length (if_sound found t new) ≤ length t + 1
@@ -110,7 +109,7 @@ few_seen t d (Some tree.Dir) = few_names t d
 few_seen t d (Some (tree.File bytes)) = omega arith
 
 -- a tree of few entries has no full directory
-pub never_full : (t : Tree) (d : Key) → length t + 1 ≤ ENTRY_LIMIT → is_full (tree_shapes t d) ≡ false
-never_full t d room =
+pub never_full : (most : ℕ) (t : Tree) (d : Key) → length t + 1 ≤ most → is_full most (tree_shapes t d) ≡ false
+never_full most t d room =
     let few = few_seen t d (look t d) in
-    lt-leb ENTRY_LIMIT (length (names_of (tree_shapes t d))) (omega (arith, few, room))
+    lt-leb most (length (names_of (tree_shapes t d))) (omega (arith, few, room))

@@ -1,11 +1,11 @@
 -- A quiet call commits early: the configuration still follows each timeline that it followed.
 use Rattle.std.proofs.Common.{◌≡◌, ℕ, suc, ◌≤◌, Bool, true, false, not, ◌==◌, cond, List, [], ◌∷◌, length, Option, Some, None, refl, sym, ap, ◌∙◌, subst, ◌⊎◌, inl, inr, ⊎_elim, arith}
 use Rattle.std.proofs.lemmas.Bool.{eqb-true, eqb-false, ne_eqb, or_left, or_right, or_from, or_cases}
+use Rattle.fs_names.specs.declared.limits.Limits.{Limits}
 use Rattle.fs_calls.specs.Tree.{Tree}
 use Rattle.fs_calls.specs.Sights.{has_any}
 use Rattle.fs_calls.specs.Starts.{Start}
 use Rattle.fs_calls.specs.Outcomes.{next_start, reply, after, reply_at, called, fault, if_sound, change}
-use Rattle.fs_names.specs.Limits.{file_limit}
 use Rattle.fs_calls.specs.declared.call.Call.{Call}
 use Rattle.fs_calls.specs.declared.call.Call.TheVariants.{Mkdir, Mknod, Unlink, Rmdir, Rename, Exchange, Stat, Readdir, Read, Write, Truncate}
 use Rattle.fs_calls.specs.declared.reply.Reply.{Reply}
@@ -30,24 +30,24 @@ same_either_way : (o : Option Errno) (t : Tree) → if_sound o t t ≡ t
 same_either_way None t = refl
 same_either_way (Some e) t = refl
 
-leaving_leaves : (most : ℕ) (t : Tree) (call : Call) → leaves_trees call ≡ true → change most t call ≡ t
-leaving_leaves most t (Mkdir p) h = absurd (cc)
-leaving_leaves most t (Mknod p) h = absurd (cc)
-leaving_leaves most t (Unlink p) h = absurd (cc)
-leaving_leaves most t (Rmdir p) h = absurd (cc)
-leaving_leaves most t (Rename p q) h = rw h refl
-leaving_leaves most t (Exchange p q) h = rw h refl
-leaving_leaves most t (Stat p) h = refl
-leaving_leaves most t (Readdir p) h = refl
-leaving_leaves most t (Read p off count) h = refl
-leaving_leaves most t (Write p off bytes) h =
+leaving_leaves : (limits : Limits) (t : Tree) (call : Call) → leaves_trees call ≡ true → change limits t call ≡ t
+leaving_leaves limits t (Mkdir p) h = absurd (cc)
+leaving_leaves limits t (Mknod p) h = absurd (cc)
+leaving_leaves limits t (Unlink p) h = absurd (cc)
+leaving_leaves limits t (Rmdir p) h = absurd (cc)
+leaving_leaves limits t (Rename p q) h = rw h refl
+leaving_leaves limits t (Exchange p q) h = rw h refl
+leaving_leaves limits t (Stat p) h = refl
+leaving_leaves limits t (Readdir p) h = refl
+leaving_leaves limits t (Read p off count) h = refl
+leaving_leaves limits t (Write p off bytes) h =
     let nothing : has_any bytes ≡ false = nothing_any (has_any bytes) h in
     rw nothing refl
   where
     nothing_any : (b : Bool) → not b ≡ true → b ≡ false
     nothing_any true k = absurd (cc)
     nothing_any false k = refl
-leaving_leaves most t (Truncate p size) h = absurd (cc)
+leaving_leaves limits t (Truncate p size) h = absurd (cc)
 
 error_is : (r : Reply) → is_error r ≡ true → (e : Errno) × (r ≡ answer.Failed e)
 error_is (answer.Failed e) is = (e, refl)
@@ -58,20 +58,20 @@ told_error (Exactly s) r tells is = ap is_error is ∙ tells
 told_error AnyError r tells is = is
 told_error AnyDirectory r tells is = absurd (cc)
 
-failed_stays : (most : ℕ) (t : Tree) (call : Call) (p : Pattern) → tells_error p ≡ true → Matches p (reply most t call) → after most t call ≡ t
-failed_stays most t call p tells is =
-    let failed = error_is (reply most t call) (told_error p (reply most t call) tells is) in
-    errors_change_nothing most t call failed.0 failed.1
+failed_stays : (limits : Limits) (t : Tree) (call : Call) (p : Pattern) → tells_error p ≡ true → Matches p (reply limits t call) → after limits t call ≡ t
+failed_stays limits t call p tells is =
+    let failed = error_is (reply limits t call) (told_error p (reply limits t call) tells is) in
+    errors_change_nothing limits t call failed.0 failed.1
 
-left_stays : (most : ℕ) (t : Tree) (call : Call) → leaves_trees call ≡ true → after most t call ≡ t
+left_stays : (limits : Limits) (t : Tree) (call : Call) → leaves_trees call ≡ true → after limits t call ≡ t
 unfolding after
-left_stays most t call h = ap (if_sound (fault most t call) t) (leaving_leaves most t call h) ∙ same_either_way (fault most t call) t
+left_stays limits t call h = ap (if_sound (fault limits t call) t) (leaving_leaves limits t call h) ∙ same_either_way (fault limits t call) t
 
-tree_stays : (most : ℕ) (t : Tree) (call : Call) (p : Pattern) → is_quiet call p ≡ true → Matches p (reply most t call) → after most t call ≡ t
-tree_stays most t call p quiet is = ⊎_elim (λ left. left_stays most t call left) (λ failed. failed_stays most t call p failed is) (or_cases (leaves_trees call) (tells_error p) quiet)
+tree_stays : (limits : Limits) (t : Tree) (call : Call) (p : Pattern) → is_quiet call p ≡ true → Matches p (reply limits t call) → after limits t call ≡ t
+tree_stays limits t call p quiet is = ⊎_elim (λ left. left_stays limits t call left) (λ failed. failed_stays limits t call p failed is) (or_cases (leaves_trees call) (tells_error p) quiet)
 
 pub quiet_stays : (start : Start) (call : Call) (p : Pattern) → is_quiet call p ≡ true → Matches p (reply_at start call) → called start call ≡ start
-quiet_stays start call p quiet is = ap (λ t. record { limits = start.limits; tree = t }) (tree_stays (file_limit start.limits) start.tree call p quiet is)
+quiet_stays start call p quiet is = ap (λ t. record { limits = start.limits; tree = t }) (tree_stays start.limits start.tree call p quiet is)
 
 -- ---- the calls that wait, without one of them
 

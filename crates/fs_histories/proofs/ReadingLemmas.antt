@@ -1,22 +1,26 @@
 -- What a call reads of a tree: what stands above its paths, at them and below them, and whether their parents are full.
-use Rattle.std.proofs.Common.{◌≡◌, ℕ, Bool, true, false, cond, ◌||◌, not, List, [], ◌∷◌, ◌++◌, Some, None, Option, is_some, refl, sym, ap, ◌∙◌, append_assoc, append-nil}
+use Rattle.std.proofs.Common.{◌≡◌, ℕ, Bool, true, false, cond, ◌||◌, not, List, [], ◌∷◌, ◌++◌, Some, None, Option, is_some, refl, sym, ap, subst, ◌∙◌, append_assoc, append-nil}
 use Rattle.std.proofs.lemmas.Float.{T_from_true}
 use Rattle.std.specs.List.{list_any, AllByRecursion}
 use Rattle.std.specs.FinMap.{find}
 use Rattle.fs_names.specs.Failures.{check, first_failure}
 use Rattle.fs_names.specs.Names.{Name, name_cmp, same_name}
 use Rattle.fs_names.specs.Keys.{Key, parent_of, last_of}
+use Rattle.fs_names.specs.Limits.{entry_limit}
+use Rattle.fs_names.specs.declared.limits.Limits.{Limits}
 use Rattle.fs_calls.specs.Tree as tree
 use Rattle.fs_calls.specs.Tree.{Tree, Node, look, names_in, IsTree}
-use Rattle.fs_calls.specs.Sights.{Shape, Dir, File, Sight, tree_shapes, shape_of, is_missing, is_file, is_full, resolve_next, resolve, resolve_dir, is_same, row_in}
+use Rattle.fs_calls.specs.Sights.{Shape, Dir, File, Sight, tree_shapes, shape_of, is_there, is_missing, is_file, is_full, resolve_next, resolve, resolve_dir, is_same, row_in}
 use Rattle.fs_calls.specs.Forms.{Form, AtNode, AtEntry, AtPair}
-use Rattle.fs_calls.specs.declared.target.PairCall.TheVariants as pairs
-use Rattle.fs_calls.specs.Rows.{node_fault, entry_fault, rename_fault, exchange_fault, node_reply}
+use Rattle.fs_calls.specs.Forms as forms
+use Rattle.fs_calls.specs.Rows.{node_fault, rename_fault, exchange_fault, node_reply}
 use Rattle.fs_calls.specs.Outcomes.{reply_of}
 use Rattle.fs_calls.specs.declared.errno.Errno.{Errno}
-use Rattle.fs_calls.specs.declared.errno.Errno.TheVariants.{Enoent, Enotdir}
+use Rattle.fs_calls.specs.declared.errno.Errno.TheVariants.{Enoent, Enotdir, Eexist, Enospc}
+use Rattle.fs_calls.proofs.FormLemmas.{LimitedTo}
 use Rattle.fs_calls.proofs.KeyLemmas.{parent_and_last}
 use Rattle.fs_calls.proofs.ResolutionLemmas.{any-names_in}
+use Rattle.fs_calls.proofs.RowNames.{making, unlinking, removing}
 use Rattle.fs_calls.proofs.Children.{marked, sorted-names_in, names_in-links}
 use Rattle.fs_histories.specs.Meeting.{paths_in}
 
@@ -95,39 +99,52 @@ shapes_agree s t k one other here below = shape_with s t k (look s k) (names_agr
 
 -- ---- calls
 
--- two trees agree in what a call reads for one of its paths
-pub record AgreesAt (s t : Tree) (p : Key) : Type 0 where
+-- two trees agree in what a call reads, by these limits, for one of its paths
+pub record AgreesAt (limits : Limits) (s t : Tree) (p : Key) : Type 0 where
   pub above : (k r : Key) → p ≡ k ++ r → look s k ≡ look t k
   pub below : (r : Key) → look s (p ++ r) ≡ look t (p ++ r)
-  pub full : is_full (tree_shapes s (parent_of p)) ≡ is_full (tree_shapes t (parent_of p))
+  pub full : is_full (entry_limit limits) (tree_shapes s (parent_of p)) ≡ is_full (entry_limit limits) (tree_shapes t (parent_of p))
 
 pub parent_front : (p : Key) → (r : Key) × (p ≡ parent_of p ++ r)
 parent_front [] = ([], refl)
 parent_front (x ∷ p) = (last_of (x ∷ p) ∷ [], parent_and_last (x ∷ p) refl)
 
-found_agrees : (s t : Tree) (p : Key) → AgreesAt s t p → resolve (tree_shapes s) p ≡ resolve (tree_shapes t) p
-found_agrees s t p a = resolve_alike (tree_shapes s) (tree_shapes t) p (λ k r e. seen_alike s t k (a.above k r e))
+found_agrees : (limits : Limits) (s t : Tree) (p : Key) → AgreesAt limits s t p → resolve (tree_shapes s) p ≡ resolve (tree_shapes t) p
+found_agrees limits s t p a = resolve_alike (tree_shapes s) (tree_shapes t) p (λ k r e. seen_alike s t k (a.above k r e))
 
-parent_agrees : (s t : Tree) (p : Key) → AgreesAt s t p → resolve_dir (tree_shapes s) (parent_of p) ≡ resolve_dir (tree_shapes t) (parent_of p)
-parent_agrees s t p a =
+parent_agrees : (limits : Limits) (s t : Tree) (p : Key) → AgreesAt limits s t p → resolve_dir (tree_shapes s) (parent_of p) ≡ resolve_dir (tree_shapes t) (parent_of p)
+parent_agrees limits s t p a =
     let front = parent_front p in
     dir_alike (tree_shapes s) (tree_shapes t) (parent_of p) (λ k r e. seen_alike s t k (a.above k (r ++ front.0) (front.1 ∙ ap (λ d. d ++ front.0) e ∙ append_assoc k r front.0)))
 
-pub seen_agrees : (s t : Tree) (p : Key) → IsTree s → IsTree t → AgreesAt s t p → tree_shapes s p ≡ tree_shapes t p
-seen_agrees s t p one other a = shapes_agree s t p one other (a.above p [] (sym (append-nil p))) (λ x. a.below (x ∷ []))
+pub seen_agrees : (limits : Limits) (s t : Tree) (p : Key) → IsTree s → IsTree t → AgreesAt limits s t p → tree_shapes s p ≡ tree_shapes t p
+seen_agrees limits s t p one other a = shapes_agree s t p one other (a.above p [] (sym (append-nil p))) (λ x. a.below (x ∷ []))
+
+-- a directory is full in both or in neither
+full_agrees : (limits : Limits) (most : ℕ) (s t : Tree) (p : Key) → most ≡ entry_limit limits → AgreesAt limits s t p → is_full most (tree_shapes s (parent_of p)) ≡ is_full most (tree_shapes t (parent_of p))
+full_agrees limits most s t p has a = subst (λ n. is_full n (tree_shapes s (parent_of p)) ≡ is_full n (tree_shapes t (parent_of p))) (sym has) a.full
+
+-- the first error of mkdir and mknod
+made : (limits : Limits) (most : ℕ) (s t : Tree) (p : Key) → most ≡ entry_limit limits → IsTree s → IsTree t → AgreesAt limits s t p
+    → making most (resolve_dir (tree_shapes s) (parent_of p)) (tree_shapes s (parent_of p)) (tree_shapes s p) ≡ making most (resolve_dir (tree_shapes t) (parent_of p)) (tree_shapes t (parent_of p)) (tree_shapes t p)
+made limits most s t p has one other a = λ i. first_failure
+    (parent_agrees limits s t p a i ∷ check (is_there (seen_agrees limits s t p one other a i)) Eexist ∷ check (full_agrees limits most s t p has a i) Enospc ∷ [])
 
 -- the first error of a call
-pub row_agrees : (s t : Tree) (f : Form) → IsTree s → IsTree t → AllByRecursion (AgreesAt s t) (paths_in f) → row_in (tree_shapes s) f ≡ row_in (tree_shapes t) f
-row_agrees s t (AtNode c p) one other a = λ i. node_fault c (found_agrees s t p a.0 i) (seen_agrees s t p one other a.0 i)
-row_agrees s t (AtEntry c p) one other a = λ i. entry_fault c (parent_agrees s t p a.0 i) (a.0.full i) (seen_agrees s t p one other a.0 i)
-row_agrees s t (AtPair pairs.Rename p q) one other a =
-    λ i. rename_fault (parent_agrees s t p a.0 i) (parent_agrees s t q a.1.0 i) (seen_agrees s t p one other a.0 i) (is_same p q) (seen_agrees s t q one other a.1.0 i) (is_same (parent_of p) (parent_of q) || not (a.1.0.full i))
-row_agrees s t (AtPair pairs.Exchange p q) one other a =
-    λ i. exchange_fault (parent_agrees s t p a.0 i) (parent_agrees s t q a.1.0 i) (seen_agrees s t p one other a.0 i) (seen_agrees s t q one other a.1.0 i)
+pub row_agrees : (limits : Limits) (s t : Tree) (f : Form) → LimitedTo limits f → IsTree s → IsTree t → AllByRecursion (AgreesAt limits s t) (paths_in f) → row_in (tree_shapes s) f ≡ row_in (tree_shapes t) f
+row_agrees limits s t (AtNode c p) has one other a = λ i. node_fault c (found_agrees limits s t p a.0 i) (seen_agrees limits s t p one other a.0 i)
+row_agrees limits s t (AtEntry (forms.Mkdir most) p) has one other a = made limits most s t p has one other a.0
+row_agrees limits s t (AtEntry (forms.Mknod most) p) has one other a = made limits most s t p has one other a.0
+row_agrees limits s t (AtEntry forms.Unlink p) has one other a = λ i. unlinking (parent_agrees limits s t p a.0 i) (seen_agrees limits s t p one other a.0 i)
+row_agrees limits s t (AtEntry forms.Rmdir p) has one other a = λ i. removing (parent_agrees limits s t p a.0 i) (seen_agrees limits s t p one other a.0 i)
+row_agrees limits s t (AtPair (forms.Rename most) p q) has one other a =
+    λ i. rename_fault (parent_agrees limits s t p a.0 i) (parent_agrees limits s t q a.1.0 i) (seen_agrees limits s t p one other a.0 i) (is_same p q) (seen_agrees limits s t q one other a.1.0 i) (is_same (parent_of p) (parent_of q) || not (full_agrees limits most s t q has a.1.0 i))
+row_agrees limits s t (AtPair forms.Exchange p q) has one other a =
+    λ i. exchange_fault (parent_agrees limits s t p a.0 i) (parent_agrees limits s t q a.1.0 i) (seen_agrees limits s t p one other a.0 i) (seen_agrees limits s t q one other a.1.0 i)
 
 -- its reply without an error
-pub reply_agrees : (s t : Tree) (f : Form) → IsTree s → IsTree t → AllByRecursion (AgreesAt s t) (paths_in f) → reply_of s f ≡ reply_of t f
-reply_agrees s t (AtNode c p) one other a = ap (node_reply c) (seen_agrees s t p one other a.0)
-reply_agrees s t (AtEntry c p) one other a = refl
-reply_agrees s t (AtPair pairs.Rename p q) one other a = refl
-reply_agrees s t (AtPair pairs.Exchange p q) one other a = refl
+pub reply_agrees : (limits : Limits) (s t : Tree) (f : Form) → IsTree s → IsTree t → AllByRecursion (AgreesAt limits s t) (paths_in f) → reply_of s f ≡ reply_of t f
+reply_agrees limits s t (AtNode c p) one other a = ap (node_reply c) (seen_agrees limits s t p one other a.0)
+reply_agrees limits s t (AtEntry c p) one other a = refl
+reply_agrees limits s t (AtPair (forms.Rename most) p q) one other a = refl
+reply_agrees limits s t (AtPair forms.Exchange p q) one other a = refl

@@ -70,7 +70,7 @@ pub record IsOpen (h : List Heard) (x : Configuration) (c : ℕ) (call : Call) :
 pub record HasRoomForAll (h : List Heard) (x : Configuration) : Type 0 where
   pub numbers : List ℕ
   pub all : (c : ℕ) (call : Call) → IsOpen h x c call → is_in c numbers ≡ true
-  pub room : HasRoom (length numbers) (start_tree x.now)
+  pub room : HasRoom x.now.limits (length numbers) (start_tree x.now)
 
 -- a call may be left out of a set: it meets no open call of the set
 pub record MayBeLeftOut (h : List Heard) (x : Configuration) (near : ℕ → Bool) (other : Call) : Type 0 where

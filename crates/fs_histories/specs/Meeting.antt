@@ -2,7 +2,9 @@
 use Rattle.std.specs.Prelude.{◌≡◌, ℕ, ◌+◌, ◌≤◌, Bool, false, ◌&&◌, ◌||◌, List, [], ◌∷◌, length, is_some}
 use Rattle.std.specs.List.{list_any}
 use Rattle.fs_names.specs.Keys.{Key, after_prefix, parent_of}
-use Rattle.fs_names.specs.declared.limits.TheConstants.{ENTRY_LIMIT}
+use Rattle.fs_names.specs.Limits.{entry_limit}
+use Rattle.fs_names.specs.declared.limits.Limits.{Limits}
+use Rattle.fs_names.specs.declared.limits.Limits.TheVariants.{V1}
 use Rattle.fs_calls.specs.Tree.{Tree, IsTree}
 use Rattle.fs_calls.specs.Forms.{Form, AtNode, AtEntry, AtPair, form}
 use Rattle.fs_calls.specs.Sights.{is_same}
@@ -16,7 +18,7 @@ paths_in (AtEntry c p) = p ∷ []
 paths_in (AtPair c p q) = p ∷ q ∷ []
 
 abbrev pub paths_of : Call → List Key
-paths_of call = paths_in (form 0 call)
+paths_of call = paths_in (form V1 call)
 
 -- two paths meet: one is the other or a prefix of it, or, where siblings meet, both have one parent
 abbrev pub paths_meet : Bool → Key → Key → Bool
@@ -27,15 +29,15 @@ abbrev pub calls_meet : Bool → Call → Call → Bool
 calls_meet siblings a b = list_any (λ p. list_any (paths_meet siblings p) (paths_of b)) (paths_of a)
 
 -- a tree has so few entries that no directory gets full by so many more
-abbrev pub HasRoom : ℕ → Tree → Type 0
-HasRoom more t = length t + more ≤ ENTRY_LIMIT
+abbrev pub HasRoom : Limits → ℕ → Tree → Type 0
+HasRoom limits more t = length t + more ≤ entry_limit limits
 
 -- two calls commute on a tree: each is told what it is told without the other, and in either order they leave one tree
-pub record Commute (most : ℕ) (t : Tree) (a b : Call) : Type 0 where
-  pub first : reply most (after most t b) a ≡ reply most t a
-  pub second : reply most (after most t a) b ≡ reply most t b
-  pub tree : after most (after most t a) b ≡ after most (after most t b) a
+pub record Commute (limits : Limits) (t : Tree) (a b : Call) : Type 0 where
+  pub first : reply limits (after limits t b) a ≡ reply limits t a
+  pub second : reply limits (after limits t a) b ≡ reply limits t b
+  pub tree : after limits (after limits t a) b ≡ after limits (after limits t b) a
 
 -- calls that do not meet commute, where siblings meet or the tree has room for what both add
 abbrev pub ApartCallsCommute : Type 0
-ApartCallsCommute = (most : ℕ) (t : Tree) (siblings : Bool) (a b : Call) → IsTree t → calls_meet siblings a b ≡ false → (siblings ≡ false → HasRoom 2 t) → Commute most t a b
+ApartCallsCommute = (limits : Limits) (t : Tree) (siblings : Bool) (a b : Call) → IsTree t → calls_meet siblings a b ≡ false → (siblings ≡ false → HasRoom limits 2 t) → Commute limits t a b

@@ -1,15 +1,15 @@
 -- What each form of call replies and changes on a tree that is a map from keys.
-use Rattle.std.specs.Prelude.{ℕ, Bool, true, false, not, ◌||◌, List, [], ◌∷◌, Option, Some, None}
+use Rattle.std.specs.Prelude.{ℕ, Bool, true, false, List, [], ◌∷◌, Option, Some, None}
 use Rattle.fs_names.specs.Keys.{Key, after_prefix, parent_of, last_of, is_end}
 use Rattle.fs_names.specs.Names.{Name, inserted_name, removed_name}
-use Rattle.fs_names.specs.Shapes.{Shape, Dir, File, is_full, names_of}
-use Rattle.fs_calls.specs.Forms.{form, NodeCall, Form, AtNode, AtEntry, AtPair, by_text}
-use Rattle.fs_calls.specs.declared.target.EntryCall.{EntryCall}
-use Rattle.fs_calls.specs.declared.target.PairCall.TheVariants as pairs
+use Rattle.fs_names.specs.Shapes.{Shape, Dir, File, names_of}
+use Rattle.fs_names.specs.declared.limits.Limits.{Limits}
+use Rattle.fs_calls.specs.Forms.{form, NodeCall, Form, AtNode, AtEntry, AtPair, by_text, EntryCall}
+use Rattle.fs_calls.specs.Forms as pairs
 use Rattle.fs_calls.specs.declared.call.Call.{Call}
 use Rattle.fs_laws.specs.Maps.{Map, move, swap, write_all}
 pub use Rattle.fs_calls.specs.Sights.{resolve, resolve_next, resolve_dir}
-use Rattle.fs_calls.specs.Rows.{node_row, Edit, Keep, Add, Remove, entry_row, rename_row, exchange_row}
+use Rattle.fs_calls.specs.Rows.{node_row, Edit, Keep, Add, Remove, entry_row, has_room, rename_row, exchange_row}
 use Rattle.fs_calls.specs.declared.errno.Errno.{Errno}
 use Rattle.fs_calls.specs.declared.reply.Reply.{Reply}
 use Rattle.fs_calls.specs.declared.reply.Reply.TheVariants.{Failed}
@@ -75,12 +75,12 @@ node_looked tree c p = let r : Reply × Option (List ℕ) = node_row c (resolve 
 
 -- the same of a call on an entry of the directory d
 abbrev pub entry_looked : Map Shape → EntryCall → Key → Key → Name → Reply × Change
-entry_looked tree c p d x = let r : Reply × Edit = entry_row c (resolve_dir tree d) (is_full (tree d)) (tree p) in (r.0, edit_change d (names_of (tree d)) x p r.1)
+entry_looked tree c p d x = let r : Reply × Edit = entry_row c (resolve_dir tree d) (tree d) (tree p) in (r.0, edit_change d (names_of (tree d)) x p r.1)
 
 -- the same of a rename from the directory d to the directory e
-abbrev pub rename_looked : Map Shape → Key → Key → Key → Name → Key → Name → Reply × Change
-rename_looked tree p q d x e y =
-    let r : Reply × Bool = rename_row (resolve_dir tree d) (resolve_dir tree e) (tree p) (is_end (after_prefix p q)) (tree q) (is_end (after_prefix d e) || not (is_full (tree e))) in
+abbrev pub rename_looked : Map Shape → ℕ → Key → Key → Key → Name → Key → Name → Reply × Change
+rename_looked tree most p q d x e y =
+    let r : Reply × Bool = rename_row (resolve_dir tree d) (resolve_dir tree e) (tree p) (is_end (after_prefix p q)) (tree q) (has_room most (is_end (after_prefix d e)) (tree e)) in
     (r.0, move_change r.1 (rename_writes (is_end (after_prefix d e)) d (names_of (tree d)) x e (names_of (tree e)) y) p q)
 
 -- the same of an exchange of entries of the directories d and e
@@ -93,7 +93,7 @@ exchange_looked tree p q d e =
 abbrev pub looked : Map Shape → Form → Reply × Change
 looked tree (AtNode c p) = node_looked tree c p
 looked tree (AtEntry c p) = entry_looked tree c p (parent_of p) (last_of p)
-looked tree (AtPair pairs.Rename p q) = rename_looked tree p q (parent_of p) (last_of p) (parent_of q) (last_of q)
+looked tree (AtPair (pairs.Rename most) p q) = rename_looked tree most p q (parent_of p) (last_of p) (parent_of q) (last_of q)
 looked tree (AtPair pairs.Exchange p q) = exchange_looked tree p q (parent_of p) (parent_of q)
 
 -- what the paths alone decide comes first
@@ -114,6 +114,6 @@ abbrev pub after : Map Shape → Form → Map Shape
 after tree call = changed (outcome tree call).1 tree
 
 -- the tree after a list of calls
-abbrev pub play : ℕ → Map Shape → List Call → Map Shape
-play most tree [] = tree
-play most tree (call ∷ calls) = play most (after tree (form most call)) calls
+abbrev pub play : Limits → Map Shape → List Call → Map Shape
+play limits tree [] = tree
+play limits tree (call ∷ calls) = play limits (after tree (form limits call)) calls

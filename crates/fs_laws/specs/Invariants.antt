@@ -3,14 +3,12 @@ use Rattle.std.specs.Prelude.{ℕ, ◌≡◌, ◌<◌, false, List, [], ◌∷�
 use Rattle.fs_names.specs.Keys.{Key, parent_of, last_of}
 use Rattle.fs_names.specs.Parts.{left}
 use Rattle.fs_names.specs.Shapes.{Shape}
-use Rattle.fs_calls.specs.Forms.{form, Stat, Form, AtNode, AtEntry, AtPair, under, new_shape, by_paths}
-use Rattle.fs_calls.specs.declared.target.PairCall.{PairCall}
-use Rattle.fs_calls.specs.declared.target.PairCall.TheVariants as pairs
-use Rattle.fs_calls.specs.declared.target.EntryCall.{EntryCall}
+use Rattle.fs_names.specs.declared.limits.Limits.{Limits}
+use Rattle.fs_calls.specs.Forms.{form, Stat, Form, AtNode, AtEntry, AtPair, under, new_shape, by_paths, PairCall, EntryCall}
+use Rattle.fs_calls.specs.Forms as pairs
 use Rattle.fs_laws.specs.Maps.{Map}
 use Rattle.fs_calls.specs.declared.reply.Reply.{Reply}
 use Rattle.fs_calls.specs.declared.call.Call.{Call}
-use Rattle.fs_names.specs.Limits.{file_limit}
 use Rattle.fs_graph.specs.Graphs.{Graph, at, numbers, graph_shapes, IsGraph}
 use Rattle.fs_machine.specs.Moves.{target}
 use Rattle.fs_machine.specs.Records.{Holdings, Side, of_side, head_on, Walking, Placed, Finished, Record, Records, Holds}
@@ -97,7 +95,7 @@ IsIn c (d ∷ ds) = (c ≡ d) ⊎ IsIn c ds
 
 -- whether a call on two entries takes a victim: an exchange never does
 abbrev pub TakesVictim : PairCall → Type 0
-TakesVictim pairs.Rename = Unit {0}
+TakesVictim (pairs.Rename most) = Unit {0}
 TakesVictim pairs.Exchange = ⊥
 
 -- a victim that a call holds before it finishes is what its entry leads to
@@ -131,10 +129,10 @@ IsSingle st = (a b : Slot) (n : ℕ) → in_slot st a ≡ Some n → in_slot st 
 abbrev pub IsUnfinished : Record → Type 0
 IsUnfinished op = (r : Reply) → op.phase ≡ Finished r → ⊥
 
--- what one call under way keeps of its own record, where a file has at most so many bytes
-pub record Own (most : ℕ) (graph : Graph) (op : Record) : Type 0 where
+-- what one call under way keeps of its own record, by these limits
+pub record Own (limits : Limits) (graph : Graph) (op : Record) : Type 0 where
   -- the names walked and what is left make the call
-  pub parts : under op.walked op.remaining ≡ form most op.call
+  pub parts : under op.walked op.remaining ≡ form limits op.call
   -- an unfinished call stands well, by its heads, and has its number if it wants one
   pub well : (st : Holdings) → op.holdings ≡ Some st → HeadsSound graph st.node op.remaining st
   -- a reserved number is in use, and nothing leads to it
@@ -155,9 +153,9 @@ pub record Own (most : ℕ) (graph : Graph) (op : Record) : Type 0 where
 abbrev pub HasSpare : Record → ℕ → Type 0
 HasSpare op n = (op.reserved ≡ Some n) ⊎ (op.removed ≡ Some n)
 
--- the most bytes that a file has
-abbrev pub most_bytes : State → ℕ
-most_bytes s = file_limit s.start.limits
+-- the limits that hold
+abbrev pub limits_of : State → Limits
+limits_of s = s.start.limits
 
 -- what every state of a run keeps; key has the key of each position, order the placed calls by their commits
 pub record Invariant (s : State) : Type 0 where
@@ -169,7 +167,7 @@ pub record Invariant (s : State) : Type 0 where
   pub all_placed : (c : ℕ) (op : Record) (i : ℕ) → s.ops c ≡ Some op → op.phase ≡ Placed i → (i < commit_count s.timeline) × IsIn c order
   pub lawful : IsLawful (start s.start) s.timeline
   pub tied : Tied (graph_shapes s.graph) s.ops key order (view_after (start s.start) s.timeline)
-  pub own : (c : ℕ) (op : Record) → s.ops c ≡ Some op → Own (most_bytes s) s.graph op
+  pub own : (c : ℕ) (op : Record) → s.ops c ≡ Some op → Own (limits_of s) s.graph op
   -- holders: who stands at a node holds it, and nobody else does
   pub held : (c : ℕ) (op : Record) (st : Holdings) (n : ℕ) → s.ops c ≡ Some op → op.holdings ≡ Some st → Holds st n → s.holder n ≡ Some c
   -- two calls have no reserved or removed number in common

@@ -1,6 +1,5 @@
 -- What is known after some entries of a timeline, and which entry may come next.
 use Rattle.std.specs.Prelude.{ℕ, ◌≡◌, Bool, true, false, List, [], ◌∷◌, Option, Some, None}
-use Rattle.fs_names.specs.Limits.{file_limit}
 use Rattle.fs_names.specs.Shapes.{Shape}
 use Rattle.fs_names.specs.declared.limits.Limits.{Limits}
 use Rattle.fs_laws.specs.Changes.{reply, after}
@@ -43,7 +42,7 @@ start first = record { limits = first.limits; tree = tree_shapes first.tree; cal
 -- after the Commit of a call: the tree after it, and the reply that is due to it
 abbrev pub commit_of : JournalView → ℕ → Option Call → JournalView
 commit_of view n None = view
-commit_of view n (Some call) = record view { tree = after view.tree (form (file_limit view.limits) call); due = set_at n (Some (reply view.tree (form (file_limit view.limits) call))) view.due }
+commit_of view n (Some call) = record view { tree = after view.tree (form view.limits call); due = set_at n (Some (reply view.tree (form view.limits call))) view.due }
 
 -- who is on each seat, where a call on this one returned
 abbrev pub free_seat : JournalView → Option ℕ → ℕ → Option ℕ

@@ -2,6 +2,7 @@
 use Rattle.std.specs.Prelude.{◌≡◌, ℕ, List}
 use Rattle.fs_names.specs.Keys.{Key}
 use Rattle.fs_names.specs.Shapes.{Shape}
+use Rattle.fs_names.specs.declared.limits.Limits.{Limits}
 use Rattle.fs_calls.specs.Forms.{form, Form, Fits}
 use Rattle.fs_laws.specs.Maps.{Map}
 use Rattle.fs_laws.specs.Changes.{Change, outcome, changed, reply, after}
@@ -25,7 +26,7 @@ GoesPastAll = (tree : Map Shape) (w : Form) (ch : Change) (ps : List (Key × For
 
 -- a tree that is seen as a map answers each call as the map does, and leaves what the map leaves
 abbrev pub TreesAsMaps : Type 0
-TreesAsMaps = (most : ℕ) (t : Tree) (call : Call) → IsTree t → (tree.reply most t call ≡ reply (tree_shapes t) (form most call)) × (tree_shapes (tree.after most t call) ≡ after (tree_shapes t) (form most call))
+TreesAsMaps = (limits : Limits) (t : Tree) (call : Call) → IsTree t → (tree.reply limits t call ≡ reply (tree_shapes t) (form limits call)) × (tree_shapes (tree.after limits t call) ≡ after (tree_shapes t) (form limits call))
 
 -- the linearization theorem: over every run the timeline is lawful, and at rest the nodes spell the tree that it plays
 abbrev pub Linearization : Type 0

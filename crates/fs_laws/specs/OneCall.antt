@@ -5,7 +5,6 @@ use Rattle.fs_calls.specs.Sights.{tree_shapes}
 use Rattle.fs_calls.specs.Tree.{Tree, IsTree}
 use Rattle.fs_calls.specs.declared.call.Call.{Call}
 use Rattle.fs_calls.specs.declared.reply.Reply.{Reply}
-use Rattle.fs_names.specs.Limits.{file_limit}
 use Rattle.fs_graph.specs.Graphs.{graph_shapes}
 use Rattle.fs_machine.specs.Headline.{IsIdle}
 use Rattle.fs_machine.specs.States.{State, Begins, Step}
@@ -33,8 +32,8 @@ pub record MeetsTree (s : State) (call : Call) (r : Reply) (new : State) : Type 
   pub tree : Tree
   pub is_tree : IsTree tree
   pub before : graph_shapes s.graph ≡ tree_shapes tree
-  pub replied : r ≡ outcomes.reply (file_limit s.start.limits) tree call
-  pub after : graph_shapes new.graph ≡ tree_shapes (outcomes.after (file_limit s.start.limits) tree call)
+  pub replied : r ≡ outcomes.reply s.start.limits tree call
+  pub after : graph_shapes new.graph ≡ tree_shapes (outcomes.after s.start.limits tree call)
   pub idle : IsIdle new
 
 -- so it is of each call that begins in this state, where no call is under way

@@ -4,7 +4,7 @@ use Rattle.fs_names.specs.Keys.{Key, after_prefix, has_more, parent_of, is_end}
 use Rattle.fs_names.specs.Shapes.{Shape, Dir, File}
 use Rattle.fs_laws.specs.Changes.{Rekeying, Stay, MoveTo, Swap, Change, resolve, resolve_dir, outcome, after}
 use Rattle.fs_calls.specs.Forms.{Form, AtNode, AtEntry, AtPair, Fits}
-use Rattle.fs_calls.specs.declared.target.PairCall.TheVariants as pairs
+use Rattle.fs_calls.specs.Forms as pairs
 use Rattle.fs_laws.specs.Maps.{Map, swapped}
 use Rattle.fs_machine.specs.Moves.{victim_of, same_kind}
 use Rattle.fs_laws.specs.Settled.{settle, settle_replies}
@@ -28,7 +28,7 @@ looks_into tree p q = same_kind (tree p) (tree q) && not (is_end (after_prefix p
 abbrev pub ReadsNothingBelow : Map Shape → Form → Key → Type 0
 ReadsNothingBelow tree (AtNode c p) k = after_prefix k p ≡ None
 ReadsNothingBelow tree (AtEntry c p) k = (after_prefix k (parent_of p) ≡ None) × (victim_of c (tree p) ≡ true → after_prefix k p ≡ None)
-ReadsNothingBelow tree (AtPair pairs.Rename p q) k = (after_prefix k (parent_of p) ≡ None) × (resolve_dir tree (parent_of p) ≡ None → (after_prefix k (parent_of q) ≡ None) × (looks_into tree p q ≡ true → after_prefix k q ≡ None))
+ReadsNothingBelow tree (AtPair (pairs.Rename most) p q) k = (after_prefix k (parent_of p) ≡ None) × (resolve_dir tree (parent_of p) ≡ None → (after_prefix k (parent_of q) ≡ None) × (looks_into tree p q ≡ true → after_prefix k q ≡ None))
 ReadsNothingBelow tree (AtPair pairs.Exchange p q) k = (after_prefix k (parent_of p) ≡ None) × (resolve_dir tree (parent_of p) ≡ None → after_prefix k (parent_of q) ≡ None)
 
 -- neither key begins with the other

@@ -4,7 +4,6 @@ use Rattle.fs_names.specs.Keys.{Key, parent_of}
 use Rattle.fs_names.specs.Parts.{left}
 use Rattle.fs_calls.specs.Forms.{form, Form, AtNode, AtEntry, AtPair}
 use Rattle.fs_calls.specs.declared.call.Call.{Call}
-use Rattle.fs_names.specs.Limits.{file_limit}
 use Rattle.fs_machine.specs.Records.{Holdings, Phase, Walking, Placed, Finished, Record}
 use Rattle.fs_timeline.specs.Timeline.{begins}
 use Rattle.fs_laws.specs.Progress.{GoesOn}
@@ -74,4 +73,4 @@ TakesWork s = (seat : ℕ) (answer : Stepped) (new : State) → Step s seat answ
 
 -- a begin adds no more than what the call's names ask
 abbrev pub AddsWork : State → Type 0
-AddsWork s = (seat c : ℕ) (call : Call) (new : State) → Begins s seat call (Ok c) new → steps_left new ≡ steps_left s + first_steps (form (file_limit s.start.limits) call)
+AddsWork s = (seat c : ℕ) (call : Call) (new : State) → Begins s seat call (Ok c) new → steps_left new ≡ steps_left s + first_steps (form s.start.limits call)

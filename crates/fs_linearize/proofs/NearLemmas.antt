@@ -182,7 +182,7 @@ same_open h at d u call way number begun =
     cc
 
 -- a call that is left out meets none that is near
-pub is_near : (h : List Heard) (x : Configuration) (c : ℕ) (siblings : Bool) (us near : List UnderWay) → IsTree (start_tree x.now) → AreUnderWay h x.at us → (siblings ≡ false → HasRoom (length us) (start_tree x.now)) → AreNear c siblings us near
+pub is_near : (h : List Heard) (x : Configuration) (c : ℕ) (siblings : Bool) (us near : List UnderWay) → IsTree (start_tree x.now) → AreUnderWay h x.at us → (siblings ≡ false → HasRoom x.now.limits (length us) (start_tree x.now)) → AreNear c siblings us near
     → IsNear h x c (near_numbers c near)
 unfolding near_numbers numbers_of
 is_near h x c siblings us near tree calls room are = record {
@@ -198,7 +198,7 @@ is_near h x c siblings us near tree calls room are = record {
         room = λ e. record {
           numbers = numbers_of us;
           all = λ e call open_call. let v = calls.all e call open_call.begun open_call.open_still in subst (λ n. is_in n (numbers_of us) ≡ true) v.2 (number_there us v.0 v.1);
-          room = subst (λ n. HasRoom n (start_tree x.now)) (sym (length-map us (λ (v : UnderWay). v.number))) (room e);
+          room = subst (λ n. HasRoom x.now.limits n (start_tree x.now)) (sym (length-map us (λ (v : UnderWay). v.number))) (room e);
         };
         apart = λ e call open_call inside.
             let v = near_found h x.at c e siblings us near call calls are inside open_call.begun open_call.open_still in

@@ -160,7 +160,7 @@ adds_all h r us i a b x y past k = subst (λ (ws : List UnderWay). AddsCommits h
 pub follows_held : (h : List Heard) (c : ℕ) (r : Reached) (us : List UnderWay) (links : List Link) (layer : List Reached) → is_in c r.configuration.held ≡ true → Follows h c r us links links layer layer
 follows_held h c r us links layer held = record { grows = grows_none h r.configuration.at r links links layer (keeps_same links); tried = λ not_held. absurd (both_ways _ not_held held) }
 
-pub follows_commits : (h : List Heard) (c : ℕ) (siblings : Bool) (r : Reached) (us near : List UnderWay) (a b : List Link) (x y : List Reached) → AreNear c siblings us near → (siblings ≡ false → HasRoom (length us) (start_tree r.configuration.now)) → AddsCommits h r near a b x y
+pub follows_commits : (h : List Heard) (c : ℕ) (siblings : Bool) (r : Reached) (us near : List UnderWay) (a b : List Link) (x y : List Reached) → AreNear c siblings us near → (siblings ≡ false → HasRoom r.configuration.now.limits (length us) (start_tree r.configuration.now)) → AddsCommits h r near a b x y
     → Follows h c r us a b x y
 follows_commits h c siblings r us near a b x y are room k = record { grows = k.grows; tried = λ not_held. record { siblings = siblings; room = room; near = near; are = are; each = k.each } }
 
@@ -180,11 +180,11 @@ pub follows_held_at : (h : List Heard) (c : ℕ) (r s : Reached) (us : List Unde
 follows_held_at h c r s us links layer i is here held = follows_held h c r us links layer (subst (λ (w : Reached). is_in c w.configuration.held ≡ true) (got layer i r s is here) held)
 
 pub follows_commits_at : (h : List Heard) (c : ℕ) (siblings : Bool) (r s t : Reached) (us near : List UnderWay) (a b : List Link) (x y : List Reached) (i : ℕ) → slice_get x i ≡ Some r → s ≡ get_or x i s → t.configuration ≡ s.configuration → t.last ≡ s.last
-    → AreEach h r.configuration.at us → AreNear c siblings us near → (siblings ≡ false → HasRoom (length us) (start_tree t.configuration.now)) → (AreEach h t.configuration.at us → AreEach h t.configuration.at near → AddsCommits h t near a b x y) → Follows h c r us a b x y
+    → AreEach h r.configuration.at us → AreNear c siblings us near → (siblings ≡ false → HasRoom t.configuration.now.limits (length us) (start_tree t.configuration.now)) → (AreEach h t.configuration.at us → AreEach h t.configuration.at near → AddsCommits h t near a b x y) → Follows h c r us a b x y
 follows_commits_at h c siblings r s t us near a b x y i is here same last each are room adds =
     let one : t ≡ r = same_reached t s same last ∙ got x i r s is here in
     let mine = subst (λ (w : Reached). AreEach h w.configuration.at us) (sym one) each in
-    follows_commits h c siblings r us near a b x y are (subst (λ (w : Reached). siblings ≡ false → HasRoom (length us) (start_tree w.configuration.now)) one room)
+    follows_commits h c siblings r us near a b x y are (subst (λ (w : Reached). siblings ≡ false → HasRoom w.configuration.now.limits (length us) (start_tree w.configuration.now)) one room)
     (subst (λ (w : Reached). AddsCommits h w near a b x y) one (adds mine (λ u there. mine u (are.some u there))))
 
 pub contains_got : {A : Type 0} (xs : List A) (i : ℕ) (x : A) → Some x ≡ slice_get xs i → Contains xs x

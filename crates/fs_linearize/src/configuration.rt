@@ -7,7 +7,6 @@ ghost use Rattle.fs_histories.specs.Meeting.{HasRoom};
 
 use crate::numbers;
 use fs_flat::FlatTree;
-use fs_names::ENTRY_LIMIT;
 use fs_seq::SeqTree;
 use std::alloc::{AllocError, Global};
 use std::marker::Model;
@@ -56,9 +55,10 @@ impl Configuration {
 
     /// Whether so many calls more were found to fill no directory, whatever they add.
     pub fn has_room(&self, calls: usize) -> bool
-        ensures { result ≡ true → HasRoom calls (start_tree self.now.now) }
+        ensures { result ≡ true → HasRoom self.now.now.limits calls (start_tree self.now.now) }
     {
-        calls <= ENTRY_LIMIT && self.tree.len() <= ENTRY_LIMIT - calls
+        let most = self.tree.limits().entries();
+        calls <= most && self.tree.len() <= most - calls
     }
 
     /// The same configuration again.

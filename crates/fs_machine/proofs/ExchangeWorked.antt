@@ -2,6 +2,7 @@
 use Rattle.std.proofs.Common.{◌≡◌, [], ◌∷◌, Option, Some, None, refl}
 use Rattle.fs_names.specs.Names.{Name}
 use Rattle.fs_names.specs.Shapes.{Dir, File}
+use Rattle.fs_names.specs.declared.limits.Limits.TheVariants.{V1}
 use Rattle.fs_calls.specs.Forms.{form}
 use Rattle.fs_calls.specs.declared.call.Call.{Call}
 use Rattle.fs_calls.specs.declared.call.Call.TheVariants.{Exchange}
@@ -28,7 +29,7 @@ abbrev pub two : Graph
 two = linked_in 0 b 2 (linked_in 0 a 1 (reserved_in 2 (File []) (reserved_in 1 (Dir []) empty_graph)))
 
 abbrev pub call_at : Call → Option Holdings → Record
-call_at call st = record { seat = 0; call = call; walked = []; remaining = form 65536 call; holdings = st; phase = Walking; reserved = None; removed = None }
+call_at call st = record { seat = 0; call = call; walked = []; remaining = form V1 call; holdings = st; phase = Walking; reserved = None; removed = None }
 
 abbrev pub at_root : Call → Record
 at_root call = call_at call (Some (holdings_at 0 None))

@@ -2,9 +2,9 @@
 use Rattle.std.proofs.Common.{◌≡◌, ℕ, Bool, true, false, cond, eqb, List, [], ◌∷◌, Option, Some, None, IsTrue, refl, sym, subst}
 use Rattle.fs_names.specs.Keys.{Key, last_of, parent_of}
 use Rattle.fs_names.specs.Names.{Name}
-use Rattle.fs_names.specs.Shapes.{Shape, is_there, is_full}
+use Rattle.fs_names.specs.Shapes.{Shape, is_there}
 use Rattle.fs_calls.specs.Forms.{Form, AtNode, AtEntry, AtPair, by_paths}
-use Rattle.fs_calls.specs.declared.target.PairCall.TheVariants as pairs
+use Rattle.fs_calls.specs.Forms as pairs
 use Rattle.fs_calls.specs.declared.errno.Errno.{Errno}
 use Rattle.fs_calls.specs.declared.reply.Reply.{Reply}
 use Rattle.fs_calls.specs.Rows.{node_row, entry_row, Edit, Keep, Add, Remove}
@@ -43,10 +43,10 @@ move_keeps graph st x y reserved r true None m used = used
 move_keeps graph st x y reserved r true (Some s) m used =
     set_keeps (unlinked_in st.source.node x graph).shape st.dest.node _ m (set_keeps graph.shape st.source.node _ m used)
 
-rename_keeps : (graph : Graph) (p q : Key) (st : Holdings) (reserved : Option ℕ) (l : Key) (m : ℕ) → Used graph m → Used (rename_effect graph p q st reserved l).graph m
-rename_keeps graph p q st reserved (z ∷ l) m used = used
-rename_keeps graph p q st reserved [] m used =
-    move_keeps graph st (last_of p) (last_of q) reserved (rename_at graph p q st).0 (rename_at graph p q st).1 (graph.child st.source.node (last_of p)) m used
+rename_keeps : (graph : Graph) (most : ℕ) (p q : Key) (st : Holdings) (reserved : Option ℕ) (l : Key) (m : ℕ) → Used graph m → Used (rename_effect graph most p q st reserved l).graph m
+rename_keeps graph most p q st reserved (z ∷ l) m used = used
+rename_keeps graph most p q st reserved [] m used =
+    move_keeps graph st (last_of p) (last_of q) reserved (rename_at graph most p q st).0 (rename_at graph most p q st).1 (graph.child st.source.node (last_of p)) m used
 
 swap_keeps : (graph : Graph) (st : Holdings) (x y : Name) (reserved : Option ℕ) (r : Reply) (b : Bool) (s t : Option ℕ) (m : ℕ) → Used graph m → Used (swap_effect graph st x y reserved r b s t).graph m
 swap_keeps graph st x y reserved r false s t m used = used
@@ -62,8 +62,8 @@ exchange_keeps graph p q st reserved [] m used =
 at_keeps : (graph : Graph) (f : Form) (st : Holdings) (reserved : Option ℕ) (m : ℕ) → Used graph m → Used (effect_at graph f st reserved).graph m
 at_keeps graph (AtNode c p) st reserved m used = node_keeps graph st.node reserved (node_row c (path_error p (graph.shape st.node)) (graph.shape st.node)) m used
 at_keeps graph (AtEntry c p) st reserved m used =
-    entry_keeps graph st.node (last_of p) reserved (entry_row c (dir_error (parent_of p) (graph.shape st.node)) (is_full (graph.shape st.node)) (entry_shape graph st.node (last_of p))) m used
-at_keeps graph (AtPair pairs.Rename p q) st reserved m used = rename_keeps graph p q st reserved (target (AtPair pairs.Rename p q)) m used
+    entry_keeps graph st.node (last_of p) reserved (entry_row c (dir_error (parent_of p) (graph.shape st.node)) (graph.shape st.node) (entry_shape graph st.node (last_of p))) m used
+at_keeps graph (AtPair (pairs.Rename most) p q) st reserved m used = rename_keeps graph most p q st reserved (target (AtPair (pairs.Rename most) p q)) m used
 at_keeps graph (AtPair pairs.Exchange p q) st reserved m used = exchange_keeps graph p q st reserved (target (AtPair pairs.Exchange p q)) m used
 
 of_keeps : (graph : Graph) (op : Record) (e : Option Errno) (st : Option Holdings) (m : ℕ) → Used graph m → Used (effect_of graph op e st).graph m

@@ -2,9 +2,8 @@
 use Rattle.std.specs.Prelude.{ℕ, Bool, true, false, List, [], ◌∷◌, Option, Some, None}
 use Rattle.fs_names.specs.Keys.{Key, parent_of, last_of}
 use Rattle.fs_names.specs.Names.{Name}
-use Rattle.fs_names.specs.Shapes.{is_full}
 use Rattle.fs_calls.specs.Forms.{Form, AtNode, AtEntry, AtPair, by_paths}
-use Rattle.fs_calls.specs.declared.target.PairCall.TheVariants as pairs
+use Rattle.fs_calls.specs.Forms as pairs
 use Rattle.fs_calls.specs.Rows.{node_row, Edit, Keep, Add, Remove, entry_row}
 use Rattle.fs_calls.specs.declared.errno.Errno.{Errno}
 use Rattle.fs_calls.specs.declared.errno.Errno.TheVariants.{Enoent}
@@ -44,10 +43,10 @@ move_effect graph st x y reserved r true None = no_effect r graph reserved
 move_effect graph st x y reserved r true (Some s) = record { reply = r; graph = moved_in st.source.node x st.dest.node y s graph; reserved = reserved; removed = st.victim }
 
 -- a rename that did not come to its common directory fails where it stands
-abbrev pub rename_effect : Graph → Key → Key → Holdings → Option ℕ → Key → Effect
-rename_effect graph p q st reserved (z ∷ l) = no_effect (Failed (walk_errno (graph.shape st.node))) graph reserved
-rename_effect graph p q st reserved [] =
-    let r : Reply × Bool = rename_at graph p q st in
+abbrev pub rename_effect : Graph → ℕ → Key → Key → Holdings → Option ℕ → Key → Effect
+rename_effect graph most p q st reserved (z ∷ l) = no_effect (Failed (walk_errno (graph.shape st.node))) graph reserved
+rename_effect graph most p q st reserved [] =
+    let r : Reply × Bool = rename_at graph most p q st in
     move_effect graph st (last_of p) (last_of q) reserved r.0 r.1 (graph.child st.source.node (last_of p))
 
 -- an exchange: no number comes into use or leaves it
@@ -68,8 +67,8 @@ exchange_effect graph p q st reserved [] =
 abbrev pub effect_at : Graph → Form → Holdings → Option ℕ → Effect
 effect_at graph (AtNode c p) st reserved = node_effect graph st.node reserved (node_row c (path_error p (graph.shape st.node)) (graph.shape st.node))
 effect_at graph (AtEntry c p) st reserved =
-    entry_effect graph st.node (last_of p) reserved (entry_row c (dir_error (parent_of p) (graph.shape st.node)) (is_full (graph.shape st.node)) (entry_shape graph st.node (last_of p)))
-effect_at graph (AtPair pairs.Rename p q) st reserved = rename_effect graph p q st reserved (target (AtPair pairs.Rename p q))
+    entry_effect graph st.node (last_of p) reserved (entry_row c (dir_error (parent_of p) (graph.shape st.node)) (graph.shape st.node) (entry_shape graph st.node (last_of p)))
+effect_at graph (AtPair (pairs.Rename most) p q) st reserved = rename_effect graph most p q st reserved (target (AtPair (pairs.Rename most) p q))
 effect_at graph (AtPair pairs.Exchange p q) st reserved = exchange_effect graph p q st reserved (target (AtPair pairs.Exchange p q))
 
 -- a call that its paths decide, and else where it stands

@@ -1,17 +1,14 @@
 -- The next move of a call under way, and its record after a take and after a let go.
 -- The moves are those of `src/moves.rt`, read here as sentences: a call takes a node, leaves one, finishes, ends.
 -- A number of a move is that of the table in `docs/MACHINE.md`.
-use Rattle.std.specs.Prelude.{ℕ, Bool, true, false, not, ◌&&◌, ◌||◌, [], ◌∷◌, ◌++◌, Option, Some, None}
+use Rattle.std.specs.Prelude.{ℕ, Bool, true, false, not, ◌&&◌, [], ◌∷◌, ◌++◌, Option, Some, None}
 use Rattle.fs_names.specs.Keys.{Key, after_prefix, has_more, parent_of, last_of, is_end}
 use Rattle.fs_names.specs.Names.{Name}
 use Rattle.fs_names.specs.Parts.{common, left}
-use Rattle.fs_names.specs.Shapes.{Shape, Dir, File, is_full}
-use Rattle.fs_calls.specs.Forms.{Form, AtNode, AtEntry, AtPair, by_paths}
-use Rattle.fs_calls.specs.declared.target.PairCall.{PairCall}
-use Rattle.fs_calls.specs.declared.target.PairCall.TheVariants as pairs
-use Rattle.fs_calls.specs.declared.target.EntryCall.{EntryCall}
-use Rattle.fs_calls.specs.declared.target.EntryCall.TheVariants.{Unlink, Rmdir}
-use Rattle.fs_calls.specs.Rows.{as_dir, rename_row, exchange_row}
+use Rattle.fs_names.specs.Shapes.{Shape, Dir, File}
+use Rattle.fs_calls.specs.Forms as pairs
+use Rattle.fs_calls.specs.Forms.{Form, AtNode, AtEntry, AtPair, EntryCall, Unlink, Rmdir, PairCall, by_paths}
+use Rattle.fs_calls.specs.Rows.{as_dir, has_room, rename_row, exchange_row}
 use Rattle.fs_calls.specs.declared.errno.Errno.{Errno}
 use Rattle.fs_calls.specs.declared.errno.Errno.TheVariants.{Enoent, Enotdir}
 use Rattle.fs_calls.specs.declared.reply.Reply.{Reply}
@@ -88,15 +85,15 @@ dir_error [] shape = as_dir None shape
 dir_error (x ∷ l) shape = Some (walk_errno shape)
 
 -- a rename at both parents: the reply and whether it really moves, by what it reads there
-abbrev pub rename_at : Graph → Key → Key → Holdings → Reply × Bool
-rename_at graph p q st =
+abbrev pub rename_at : Graph → ℕ → Key → Key → Holdings → Reply × Bool
+rename_at graph most p q st =
     rename_row
     (dir_error (left st.source.walked (parent_of p)) (graph.shape st.source.node))
     (dir_error (left st.dest.walked (parent_of q)) (graph.shape st.dest.node))
     (entry_shape graph st.source.node (last_of p))
     (is_end (after_prefix p q))
     (there_by (has_more (after_prefix q p)) (entry_shape graph st.dest.node (last_of q)))
-    (is_end (after_prefix (parent_of p) (parent_of q)) || not (is_full (graph.shape st.dest.node)))
+    (has_room most (is_end (after_prefix (parent_of p) (parent_of q))) (graph.shape st.dest.node))
 
 -- the node that a rename would really move
 abbrev pub moved_node : Bool → Option ℕ → Moved
@@ -105,12 +102,12 @@ moved_node true None = Nothing
 moved_node false s = Nothing
 
 -- move 6: a victim is taken where q is there with p's kind, p is another path and q no proper prefix of p
-abbrev pub rename_move : Graph → Key → Key → Holdings → Move
-rename_move graph p q st =
+abbrev pub rename_move : Graph → ℕ → Key → Key → Holdings → Move
+rename_move graph most p q st =
     take_if
     (same_kind (entry_shape graph st.source.node (last_of p)) (entry_shape graph st.dest.node (last_of q)) && not (is_end (after_prefix p q)) && not (has_more (after_prefix q p)))
     (graph.child st.dest.node (last_of q)) st.victim
-    (Finishes (moved_node (rename_at graph p q st).1 (graph.child st.source.node (last_of p))))
+    (Finishes (moved_node (rename_at graph most p q st).1 (graph.child st.source.node (last_of p))))
 
 -- an exchange at both parents: the reply and whether it really moves, by what it reads there
 abbrev pub exchange_at : Graph → Key → Key → Holdings → Reply × Bool
@@ -135,7 +132,7 @@ exchange_move graph p q st = Finishes (moved_nodes (exchange_at graph p q st).1 
 
 -- a pair at both parents
 abbrev pub parents_move : Graph → PairCall → Key → Key → Holdings → Move
-parents_move graph pairs.Rename p q st = rename_move graph p q st
+parents_move graph (pairs.Rename most) p q st = rename_move graph most p q st
 parents_move graph pairs.Exchange p q st = exchange_move graph p q st
 
 -- a parent that is a file finishes before the next head sets out

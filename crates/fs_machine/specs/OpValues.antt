@@ -1,13 +1,12 @@
 -- A call as a machine of its own: what its code keeps. Its seat and its place among the commits are told by whoever runs it.
 use Rattle.std.specs.Prelude.{ℕ, ◌≡◌, ◌≢◌, ◌<◌, ◌≤◌, IsTrue, false, List, [], Option, Some, None, length, ◌⊎◌}
 use Rattle.fs_names.specs.Keys.{Key, parent_of, last_of}
-use Rattle.fs_names.specs.Limits.{file_limit}
+use Rattle.fs_names.specs.Limits.{entry_limit, file_limit}
 use Rattle.fs_names.specs.Names.{Name}
 use Rattle.fs_names.specs.Shapes.{Shape, Dir, File, is_there, has_entries}
 use Rattle.fs_names.specs.declared.limits.Limits.{Limits}
-use Rattle.fs_names.specs.declared.limits.TheConstants.{ENTRY_LIMIT}
 use Rattle.fs_calls.specs.Forms.{form, NodeCall, Stat, Readdir, Read, Write, Truncate, Form, AtNode, AtEntry, AtPair}
-use Rattle.fs_calls.specs.declared.target.PairCall.TheVariants as pairs
+use Rattle.fs_calls.specs.Forms as pairs
 use Rattle.fs_calls.specs.declared.call.Call.{Call}
 use Rattle.fs_calls.specs.declared.reply.Reply.{Reply}
 use Rattle.fs_graph.specs.Graphs.{Graph, reserved_in, IsReached, IsUnlinked}
@@ -40,7 +39,7 @@ record_of seat place op =
 
 -- a call that begins by these limits
 abbrev pub new_value : Limits → Call → Option ℕ → OpValue
-new_value limits call reserved = record { call = call; walked = []; remaining = form (file_limit limits) call; holdings = None; reply = None; reserved = reserved; removed = None }
+new_value limits call reserved = record { call = call; walked = []; remaining = form limits call; holdings = None; reply = None; reserved = reserved; removed = None }
 
 -- its next move; neither its seat nor its place matters
 abbrev pub next_of : Graph → OpValue → Move
@@ -78,23 +77,23 @@ pub record IsSpare (graph : Graph) (n : ℕ) : Type 0 where
 abbrev pub SpareIf : Graph → Option ℕ → Type 0
 SpareIf graph number = (n : ℕ) → number ≡ Some n → IsSpare graph n
 
--- no directory has more entries than its limit
-abbrev pub DirsWithin : Graph → Type 0
-DirsWithin graph = (n : ℕ) (names : List Name) → graph.shape n ≡ Some (Dir names) → length names ≤ ENTRY_LIMIT
+-- no directory has more entries than so many
+abbrev pub DirsWithin : ℕ → Graph → Type 0
+DirsWithin most graph = (n : ℕ) (names : List Name) → graph.shape n ≡ Some (Dir names) → length names ≤ most
 
 -- no file has more bytes than so many
 abbrev pub FilesWithin : ℕ → Graph → Type 0
 FilesWithin most graph = (n : ℕ) (content : List ℕ) → graph.shape n ≡ Some (File content) → length content ≤ most
 
 -- no directory and no file is above its limit
-pub record IsBounded (most : ℕ) (graph : Graph) : Type 0 where
-  pub entries : DirsWithin graph
-  pub bytes : FilesWithin most graph
+pub record IsBounded (limits : Limits) (graph : Graph) : Type 0 where
+  pub entries : DirsWithin (entry_limit limits) graph
+  pub bytes : FilesWithin (file_limit limits) graph
 
--- what a call on a node tells is within its limit: names by that of directories, bytes by its own
+-- what a call on a node tells, names or bytes, is within its limit
 abbrev pub TellsWithin : Graph → NodeCall → Type 0
 TellsWithin graph Stat = Unit {0}
-TellsWithin graph Readdir = DirsWithin graph
+TellsWithin graph (Readdir most) = DirsWithin most graph
 TellsWithin graph (Read most off count) = FilesWithin most graph
 TellsWithin graph (Write most off bytes) = Unit {0}
 TellsWithin graph (Truncate most size) = Unit {0}
@@ -115,7 +114,7 @@ HeadsApart (AtPair c p q) st = st.source.node ≡ st.dest.node → st.source.wal
 abbrev pub MovesApart : Graph → Form → Holdings → Type 0
 MovesApart graph (AtNode c p) st = Unit {0}
 MovesApart graph (AtEntry c p) st = Unit {0}
-MovesApart graph (AtPair pairs.Rename p q) st = (n : ℕ) → st.source.walked ≡ parent_of p → st.dest.walked ≡ parent_of q → graph.child st.source.node (last_of p) ≡ Some n → IsReached graph.child n st.dest.node → ⊥
+MovesApart graph (AtPair (pairs.Rename most) p q) st = (n : ℕ) → st.source.walked ≡ parent_of p → st.dest.walked ≡ parent_of q → graph.child st.source.node (last_of p) ≡ Some n → IsReached graph.child n st.dest.node → ⊥
 MovesApart graph (AtPair pairs.Exchange p q) st = (n m : ℕ) → st.source.walked ≡ parent_of p → st.dest.walked ≡ parent_of q → graph.child st.source.node (last_of p) ≡ Some n → graph.child st.dest.node (last_of q) ≡ Some m
     → (n ≡ m) ⊎ ((IsReached graph.child n m → ⊥) × (IsReached graph.child m n → ⊥))
 

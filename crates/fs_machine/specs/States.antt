@@ -2,7 +2,6 @@
 use Rattle.std.specs.Prelude.{ℕ, ◌≡◌, true, ◌+◌, ◌<◌, ◌≤◌, List, [], ◌∷◌, ◌++◌, ◌⊎◌, Option, Some, None, Result, Ok, Err}
 use Rattle.std.specs.declared.cmp.Ordering.TheVariants.{Less}
 use Rattle.fs_names.specs.Keys.{Key}
-use Rattle.fs_names.specs.Limits.{file_limit}
 use Rattle.fs_names.specs.Names.{Name, name_cmp, has_name}
 use Rattle.fs_names.specs.Shapes.{Shape, Dir}
 use Rattle.fs_names.specs.declared.limits.Limits.{Limits}
@@ -67,7 +66,7 @@ pub record IsStart (limit : ℕ) (start : Start) (graph : Graph) : Type 0 where
   pub tree : IsTree (start_tree start)
   pub spelled : graph_shapes graph ≡ tree_shapes (start_tree start)
   pub is_graph : IsGraph graph
-  pub bounded : IsBounded (file_limit start.limits) graph
+  pub bounded : IsBounded start.limits graph
   pub rising : (n : ℕ) (names : List Name) → graph.shape n ≡ Some (Dir names) → AreRising names
   pub below : (n : ℕ) (s : Shape) → graph.shape n ≡ Some s → n < limit
   pub reached : (n : ℕ) (s : Shape) → graph.shape n ≡ Some s → IsReached graph.child 0 n
@@ -78,7 +77,7 @@ Begun = Result ℕ Refusal
 
 -- the record of a call that begins by these limits
 abbrev pub new_op : Limits → ℕ → Call → Option ℕ → Record
-new_op limits seat call reserved = record { seat = seat; call = call; walked = []; remaining = form (file_limit limits) call; holdings = None; phase = Walking; reserved = reserved; removed = None }
+new_op limits seat call reserved = record { seat = seat; call = call; walked = []; remaining = form limits call; holdings = None; phase = Walking; reserved = reserved; removed = None }
 
 -- the state after a begin
 abbrev pub began : State → ℕ → Call → ℕ → Option ℕ → Graph → State

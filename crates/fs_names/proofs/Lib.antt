@@ -7,3 +7,4 @@ pub mod PrefixLemmas
 pub mod SearchLemmas
 pub mod BlockLemmas
 pub mod CutLemmas
+pub mod LimitLemmas

@@ -8,6 +8,11 @@ abbrev pub name_limit : Limits → ℕ
 name_limit V1 = 32
 name_limit V2 = 64
 
+-- the most entries of a directory
+abbrev pub entry_limit : Limits → ℕ
+entry_limit V1 = 256
+entry_limit V2 = 256
+
 -- the most bytes of a file
 abbrev pub file_limit : Limits → ℕ
 file_limit V1 = 65536

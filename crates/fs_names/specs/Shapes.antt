@@ -1,7 +1,6 @@
 -- What is seen of a node.
 use Rattle.std.specs.Prelude.{ℕ, Bool, true, false, List, [], ◌∷◌, nat_le, length, Option, Some, None}
 use Rattle.fs_names.specs.Names.{Name}
-use Rattle.fs_names.specs.declared.limits.TheConstants.{ENTRY_LIMIT}
 
 -- a directory with its names in byte order, or a file with its bytes
 pub data Shape : Type 0 where
@@ -51,6 +50,6 @@ has_any (x ∷ xs) = true
 abbrev pub has_entries : Option Shape → Bool
 has_entries there = has_any (names_of there)
 
--- as many entries as a directory can have
-abbrev pub is_full : Option Shape → Bool
-is_full there = nat_le ENTRY_LIMIT (length (names_of there))
+-- as many entries as a directory can have, where it can have so many
+abbrev pub is_full : ℕ → Option Shape → Bool
+is_full most there = nat_le most (length (names_of there))

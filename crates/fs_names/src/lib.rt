@@ -28,7 +28,7 @@ pub use bytes::Bytes;
 pub use data::Data;
 pub use fault::PathFault;
 pub use kind::Kind;
-pub use limits::{ENTRY_LIMIT, Limits, NODE_LIMIT, PATH_LIMIT};
+pub use limits::{Limits, NODE_LIMIT, PATH_LIMIT};
 pub use name::Name;
 pub use numbers::{CallNo, SeatNo};
 pub use path::Path;

@@ -1,13 +1,10 @@
 //! The limits of names, paths, directories, files and trees, each named in this one place.
 
 ghost use Rattle.std.specs.Prelude.{◌≡◌};
-ghost use Rattle.fs_names.specs.Limits.{name_limit, file_limit};
+ghost use Rattle.fs_names.specs.Limits.{name_limit, entry_limit, file_limit};
 
 /// The most names that a path has.
 pub const PATH_LIMIT: usize = 64;
-
-/// The most entries that a directory has.
-pub const ENTRY_LIMIT: usize = 256;
 
 /// The most node numbers that are in use at once, the root's included.
 pub const NODE_LIMIT: usize = 1_048_576;
@@ -31,6 +28,17 @@ impl Limits {
         match self {
             Limits::V1 => 32,
             Limits::V2 => 64,
+        }
+    }
+
+    /// The most entries that a directory has.
+    #[inline]
+    pub fn entries(self) -> usize
+        ensures { result ≡ entry_limit self }
+    {
+        match self {
+            Limits::V1 => 256,
+            Limits::V2 => 256,
         }
     }
 

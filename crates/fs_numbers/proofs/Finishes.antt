@@ -3,9 +3,9 @@ use Rattle.std.proofs.Common.{◌≡◌, ℕ, Bool, true, false, List, [], ◌�
 use Rattle.std.specs.Prelude.{option_map}
 use Rattle.fs_names.specs.Keys.{Key, parent_of, last_of}
 use Rattle.fs_names.specs.Names.{Name}
-use Rattle.fs_names.specs.Shapes.{Shape, is_full}
+use Rattle.fs_names.specs.Shapes.{Shape}
 use Rattle.fs_calls.specs.Forms.{Form, AtNode, AtEntry, AtPair, by_paths}
-use Rattle.fs_calls.specs.declared.target.PairCall.TheVariants as pairs
+use Rattle.fs_calls.specs.Forms as pairs
 use Rattle.fs_calls.specs.Rows.{node_row, Edit, Keep, Add, Remove, entry_row}
 use Rattle.fs_calls.specs.declared.errno.Errno.{Errno}
 use Rattle.fs_calls.specs.declared.reply.Reply.{Reply}
@@ -39,11 +39,11 @@ move_renamed r graph st x y reserved reply false s = refl
 move_renamed r graph st x y reserved reply true None = refl
 move_renamed r graph st x y reserved reply true (Some s) = same_made reply (renamed_number r reserved) (renamed_number r st.victim) _ _ (sym (moved_renamed r st.source.node x st.dest.node y s graph))
 
-rename_renamed : (r : Renaming) (graph : Graph) (p q : Key) (st : Holdings) (reserved : Option ℕ) (l : Key) → rename_effect (renamed_graph r graph) p q (renamed_holdings r st) (renamed_number r reserved) l ≡ renamed_made r (rename_effect graph p q st reserved l)
-rename_renamed r graph p q st reserved (z ∷ l) = ap (λ (s : Option Shape). no_effect (Failed (walk_errno s)) (renamed_graph r graph) (renamed_number r reserved)) (old_at r graph.shape st.node)
-rename_renamed r graph p q st reserved [] =
-    ap₂ (λ (row : Reply × Bool) (s : Option ℕ). move_effect (renamed_graph r graph) (renamed_holdings r st) (last_of p) (last_of q) (renamed_number r reserved) row.0 row.1 s) (row_renamed r graph p q st) (child_at r graph.child st.source.node (last_of p))
-    ∙ move_renamed r graph st (last_of p) (last_of q) reserved (rename_at graph p q st).0 (rename_at graph p q st).1 (graph.child st.source.node (last_of p))
+rename_renamed : (r : Renaming) (graph : Graph) (most : ℕ) (p q : Key) (st : Holdings) (reserved : Option ℕ) (l : Key) → rename_effect (renamed_graph r graph) most p q (renamed_holdings r st) (renamed_number r reserved) l ≡ renamed_made r (rename_effect graph most p q st reserved l)
+rename_renamed r graph most p q st reserved (z ∷ l) = ap (λ (s : Option Shape). no_effect (Failed (walk_errno s)) (renamed_graph r graph) (renamed_number r reserved)) (old_at r graph.shape st.node)
+rename_renamed r graph most p q st reserved [] =
+    ap₂ (λ (row : Reply × Bool) (s : Option ℕ). move_effect (renamed_graph r graph) (renamed_holdings r st) (last_of p) (last_of q) (renamed_number r reserved) row.0 row.1 s) (row_renamed r graph most p q st) (child_at r graph.child st.source.node (last_of p))
+    ∙ move_renamed r graph st (last_of p) (last_of q) reserved (rename_at graph most p q st).0 (rename_at graph most p q st).1 (graph.child st.source.node (last_of p))
 
 swap_renamed : (r : Renaming) (graph : Graph) (st : Holdings) (x y : Name) (reserved : Option ℕ) (reply : Reply) (really : Bool) (s t : Option ℕ) → swap_effect (renamed_graph r graph) (renamed_holdings r st) x y (renamed_number r reserved) reply really (renamed_number r s) (renamed_number r t) ≡ renamed_made r (swap_effect graph st x y reserved reply really s t)
 swap_renamed r graph st x y reserved reply false s t = refl
@@ -63,9 +63,9 @@ at_renamed r graph (AtNode c p) st reserved =
     ap (λ (s : Option Shape). node_effect (renamed_graph r graph) (r.to st.node) (renamed_number r reserved) (node_row c (path_error p s) s)) (old_at r graph.shape st.node)
     ∙ on_renamed r graph st.node reserved (node_row c (path_error p (graph.shape st.node)) (graph.shape st.node))
 at_renamed r graph (AtEntry c p) st reserved =
-    ap₂ (λ (s t : Option Shape). entry_effect (renamed_graph r graph) (r.to st.node) (last_of p) (renamed_number r reserved) (entry_row c (dir_error (parent_of p) s) (is_full s) t)) (old_at r graph.shape st.node) (entry_at r graph st.node (last_of p))
-    ∙ in_renamed r graph st.node (last_of p) reserved (entry_row c (dir_error (parent_of p) (graph.shape st.node)) (is_full (graph.shape st.node)) (entry_shape graph st.node (last_of p)))
-at_renamed r graph (AtPair pairs.Rename p q) st reserved = rename_renamed r graph p q st reserved (target (AtPair pairs.Rename p q))
+    ap₂ (λ (s t : Option Shape). entry_effect (renamed_graph r graph) (r.to st.node) (last_of p) (renamed_number r reserved) (entry_row c (dir_error (parent_of p) s) s t)) (old_at r graph.shape st.node) (entry_at r graph st.node (last_of p))
+    ∙ in_renamed r graph st.node (last_of p) reserved (entry_row c (dir_error (parent_of p) (graph.shape st.node)) (graph.shape st.node) (entry_shape graph st.node (last_of p)))
+at_renamed r graph (AtPair (pairs.Rename most) p q) st reserved = rename_renamed r graph most p q st reserved (target (AtPair (pairs.Rename most) p q))
 at_renamed r graph (AtPair pairs.Exchange p q) st reserved = exchange_renamed r graph p q st reserved (target (AtPair pairs.Exchange p q))
 
 by_renamed : (r : Renaming) (graph : Graph) (op : Record) (e : Option Errno) (holdings : Option Holdings) → effect_of (renamed_graph r graph) (renamed_record r op) e (option_map (renamed_holdings r) holdings) ≡ renamed_made r (effect_of graph op e holdings)

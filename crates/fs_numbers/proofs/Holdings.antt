@@ -67,7 +67,7 @@ took_order graph op n st new neat vic on t = go t
     go : Take graph op n st → InOrder new
     go (Walk x l a b child is) = by (walked_on op st x n) (holdings_at n (Some st.node)) is refl (λ m e. refl)
     go (There (Entry c p rem way child off) b is) = by (with_holdings op (victim_took st n)) (victim_took st n) is refl (λ m e. none_some st.behind m b e)
-    go (There (Replaced p q rem way there at_left want child off) b is) = by (with_holdings op (victim_took st n)) (victim_took st n) is refl (λ m e. none_some st.behind m b e)
+    go (There (Replaced most p q rem way there at_left want child off) b is) = by (with_holdings op (victim_took st n)) (victim_took st n) is refl (λ m e. none_some st.behind m b e)
     go (There (Of_head side c p q x l rem way turn at_left child) b is) = by (with_holdings op (stepped side st x n)) (stepped side st x n) is refl (λ m e. no_victim graph op n st neat vic t)
 
 -- ---- states

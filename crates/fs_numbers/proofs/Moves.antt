@@ -5,10 +5,8 @@ use Rattle.fs_names.specs.Keys.{Key, after_prefix, has_more, parent_of, last_of,
 use Rattle.fs_names.specs.Names.{Name}
 use Rattle.fs_names.specs.Parts.{left}
 use Rattle.fs_names.specs.Shapes.{Shape, Dir, File, is_full}
-use Rattle.fs_calls.specs.Forms.{Form, AtNode, AtEntry, AtPair, by_paths}
-use Rattle.fs_calls.specs.declared.target.EntryCall.{EntryCall}
-use Rattle.fs_calls.specs.declared.target.PairCall.{PairCall}
-use Rattle.fs_calls.specs.declared.target.PairCall.TheVariants as pairs
+use Rattle.fs_calls.specs.Forms.{Form, AtNode, AtEntry, AtPair, by_paths, EntryCall, PairCall}
+use Rattle.fs_calls.specs.Forms as pairs
 use Rattle.fs_calls.specs.Rows.{rename_row, exchange_row}
 use Rattle.fs_calls.specs.declared.errno.Errno.{Errno}
 use Rattle.fs_calls.specs.declared.reply.Reply.{Reply}
@@ -66,30 +64,30 @@ in_renamed r graph c x st =
     ∙ take_renamed r (victim_of c (entry_shape graph st.node x)) (graph.child st.node x) st.victim (Finishes Nothing)
 
 -- what a rename reads has no numbers
-row_by : Key → Key → Holdings → Option Shape → Option Shape → Option Shape → Option Shape → Reply × Bool
-row_by p q st from to moved there =
+row_by : ℕ → Key → Key → Holdings → Option Shape → Option Shape → Option Shape → Option Shape → Reply × Bool
+row_by most p q st from to moved there =
     rename_row (dir_error (left st.source.walked (parent_of p)) from) (dir_error (left st.dest.walked (parent_of q)) to) moved (is_end (after_prefix p q))
-    (there_by (has_more (after_prefix q p)) there) (is_end (after_prefix (parent_of p) (parent_of q)) || not (is_full to))
+    (there_by (has_more (after_prefix q p)) there) (is_end (after_prefix (parent_of p) (parent_of q)) || not (is_full most to))
 
-pub row_renamed : (r : Renaming) (graph : Graph) (p q : Key) (st : Holdings) → rename_at (renamed_graph r graph) p q (renamed_holdings r st) ≡ rename_at graph p q st
+pub row_renamed : (r : Renaming) (graph : Graph) (most : ℕ) (p q : Key) (st : Holdings) → rename_at (renamed_graph r graph) most p q (renamed_holdings r st) ≡ rename_at graph most p q st
 unfolding row_by
-row_renamed r graph p q st =
-    ap₂ (λ (a b : Option Shape). row_by p q st a b (entry_shape (renamed_graph r graph) (r.to st.source.node) (last_of p)) (entry_shape (renamed_graph r graph) (r.to st.dest.node) (last_of q))) (old_at r graph.shape st.source.node) (old_at r graph.shape st.dest.node)
-    ∙ ap₂ (λ (a b : Option Shape). row_by p q st (graph.shape st.source.node) (graph.shape st.dest.node) a b) (entry_at r graph st.source.node (last_of p)) (entry_at r graph st.dest.node (last_of q))
+row_renamed r graph most p q st =
+    ap₂ (λ (a b : Option Shape). row_by most p q st a b (entry_shape (renamed_graph r graph) (r.to st.source.node) (last_of p)) (entry_shape (renamed_graph r graph) (r.to st.dest.node) (last_of q))) (old_at r graph.shape st.source.node) (old_at r graph.shape st.dest.node)
+    ∙ ap₂ (λ (a b : Option Shape). row_by most p q st (graph.shape st.source.node) (graph.shape st.dest.node) a b) (entry_at r graph st.source.node (last_of p)) (entry_at r graph st.dest.node (last_of q))
 
 moved_node_renamed : (r : Renaming) (really : Bool) (s : Option ℕ) → moved_node really (renamed_number r s) ≡ renamed_moved r (moved_node really s)
 moved_node_renamed r true None = refl
 moved_node_renamed r true (Some n) = refl
 moved_node_renamed r false s = refl
 
-rename_renamed : (r : Renaming) (graph : Graph) (p q : Key) (st : Holdings) → rename_move (renamed_graph r graph) p q (renamed_holdings r st) ≡ renamed_move r (rename_move graph p q st)
-rename_renamed r graph p q st =
-    ap₂ (λ (b : Bool) (k : Option ℕ). take_if b k (renamed_number r st.victim) (Finishes (moved_node (rename_at (renamed_graph r graph) p q (renamed_holdings r st)).1 (renamed_children r graph.child (r.to st.source.node) (last_of p)))))
+rename_renamed : (r : Renaming) (graph : Graph) (most : ℕ) (p q : Key) (st : Holdings) → rename_move (renamed_graph r graph) most p q (renamed_holdings r st) ≡ renamed_move r (rename_move graph most p q st)
+rename_renamed r graph most p q st =
+    ap₂ (λ (b : Bool) (k : Option ℕ). take_if b k (renamed_number r st.victim) (Finishes (moved_node (rename_at (renamed_graph r graph) most p q (renamed_holdings r st)).1 (renamed_children r graph.child (r.to st.source.node) (last_of p)))))
     (ap₂ (λ (a b : Option Shape). same_kind a b && not (is_end (after_prefix p q)) && not (has_more (after_prefix q p))) (entry_at r graph st.source.node (last_of p)) (entry_at r graph st.dest.node (last_of q)))
     (child_at r graph.child st.dest.node (last_of q))
     ∙ ap (λ (o : Moved). take_if (same_kind (entry_shape graph st.source.node (last_of p)) (entry_shape graph st.dest.node (last_of q)) && not (is_end (after_prefix p q)) && not (has_more (after_prefix q p))) (renamed_number r (graph.child st.dest.node (last_of q))) (renamed_number r st.victim) (Finishes o))
-    (ap₂ moved_node (ap (λ (row : Reply × Bool). row.1) (row_renamed r graph p q st)) (child_at r graph.child st.source.node (last_of p)) ∙ moved_node_renamed r (rename_at graph p q st).1 (graph.child st.source.node (last_of p)))
-    ∙ take_renamed r (same_kind (entry_shape graph st.source.node (last_of p)) (entry_shape graph st.dest.node (last_of q)) && not (is_end (after_prefix p q)) && not (has_more (after_prefix q p))) (graph.child st.dest.node (last_of q)) st.victim (Finishes (moved_node (rename_at graph p q st).1 (graph.child st.source.node (last_of p))))
+    (ap₂ moved_node (ap (λ (row : Reply × Bool). row.1) (row_renamed r graph most p q st)) (child_at r graph.child st.source.node (last_of p)) ∙ moved_node_renamed r (rename_at graph most p q st).1 (graph.child st.source.node (last_of p)))
+    ∙ take_renamed r (same_kind (entry_shape graph st.source.node (last_of p)) (entry_shape graph st.dest.node (last_of q)) && not (is_end (after_prefix p q)) && not (has_more (after_prefix q p))) (graph.child st.dest.node (last_of q)) st.victim (Finishes (moved_node (rename_at graph most p q st).1 (graph.child st.source.node (last_of p))))
 
 -- nor has what an exchange reads
 exchange_by : Key → Key → Holdings → Option Shape → Option Shape → Option Shape → Option Shape → Reply × Bool
@@ -116,7 +114,7 @@ exchange_renamed r graph p q st =
     ∙ moved_nodes_renamed r (exchange_at graph p q st).1 (graph.child st.source.node (last_of p)) (graph.child st.dest.node (last_of q)))
 
 parents_renamed : (r : Renaming) (graph : Graph) (c : PairCall) (p q : Key) (st : Holdings) → parents_move (renamed_graph r graph) c p q (renamed_holdings r st) ≡ renamed_move r (parents_move graph c p q st)
-parents_renamed r graph pairs.Rename p q st = rename_renamed r graph p q st
+parents_renamed r graph (pairs.Rename most) p q st = rename_renamed r graph most p q st
 parents_renamed r graph pairs.Exchange p q st = exchange_renamed r graph p q st
 
 fork_renamed : (r : Renaming) (graph : Graph) (c : PairCall) (p q : Key) (st : Holdings) → fork_move (renamed_graph r graph) c p q (renamed_holdings r st) ≡ renamed_move r (fork_move graph c p q st)

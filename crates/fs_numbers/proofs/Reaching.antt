@@ -3,11 +3,8 @@ use Rattle.std.proofs.Common.{◌≡◌, ℕ, Bool, true, false, List, [], ◌�
 use Rattle.fs_names.specs.Keys.{Key, after_prefix, parent_of, last_of}
 use Rattle.fs_names.specs.Names.{Name}
 use Rattle.fs_names.specs.Parts.{common}
-use Rattle.fs_names.specs.Shapes.{is_full}
-use Rattle.fs_calls.specs.Forms.{Form, AtNode, AtEntry, AtPair, Fits, new_shape}
-use Rattle.fs_calls.specs.declared.target.EntryCall.{EntryCall}
-use Rattle.fs_calls.specs.declared.target.PairCall.{PairCall}
-use Rattle.fs_calls.specs.declared.target.PairCall.TheVariants as pairs
+use Rattle.fs_calls.specs.Forms.{Form, AtNode, AtEntry, AtPair, Fits, new_shape, EntryCall, PairCall}
+use Rattle.fs_calls.specs.Forms as pairs
 use Rattle.fs_laws.specs.Maps.{Map, put_at, move, swapped}
 use Rattle.fs_calls.specs.Rows.{node_row, Edit, Keep, Add, Remove, entry_row}
 use Rattle.fs_calls.specs.declared.errno.Errno.{Errno}
@@ -35,6 +32,7 @@ use Rattle.fs_laws.proofs.finish.Changes.{removed_leaf}
 use Rattle.fs_laws.proofs.finish.Readings.{arrived}
 use Rattle.fs_laws.proofs.finish.RealMoves.{can_move, Real, Replaces, real_of}
 use Rattle.fs_numbers.specs.Numbers.{IsReached}
+use Rattle.fs_names.specs.Shapes.{Shape}
 
 -- number is the one that the call has reserved
 pub record Stays (old : Graph) (st : Holdings) (number : Option ℕ) (made : Effect) : Type 0 where
@@ -85,11 +83,11 @@ unlinked_reached graph is k dir x v can n (l, e) = go (after_prefix (k ++ x ∷ 
         inr (sym (at_child graph.child 0 dir k x can.dir_at) ∙ ap (numbers graph) (sym j) ∙ e)
 
 -- a call on an entry
-stays_in : (graph : Graph) → IsGraph graph → (k : Key) (st : Holdings) (o : Moved) (e : EntryCall) (p : Key) (number : Option ℕ) (ed : Option Errno) (full : Bool) → numbers graph k ≡ Some st.node → HasNumber graph e number → VictimAt graph (AtEntry e p) st
+stays_in : (graph : Graph) → IsGraph graph → (k : Key) (st : Holdings) (o : Moved) (e : EntryCall) (p : Key) (number : Option ℕ) (ed : Option Errno) (parent : Option Shape) → numbers graph k ≡ Some st.node → HasNumber graph e number → VictimAt graph (AtEntry e p) st
     → (ed ≡ None → entry_move graph e (last_of p) st ≡ Finishes o)
-    → (row : Reply × Edit) → entry_row e ed full (entry_shape graph st.node (last_of p)) ≡ row → Stays graph st number (entry_effect graph st.node (last_of p) number row)
-stays_in graph is k st o e p number ed full here has vic done (r, Keep) i = stays_same graph st number r
-stays_in graph is k st o e p number ed full here has vic done (r, Add shape) i = subst (λ (n : Option ℕ). Stays graph st n (entry_effect graph st.node (last_of p) n (r, Add shape))) (sym m.1)
+    → (row : Reply × Edit) → entry_row e ed parent (entry_shape graph st.node (last_of p)) ≡ row → Stays graph st number (entry_effect graph st.node (last_of p) number row)
+stays_in graph is k st o e p number ed parent here has vic done (r, Keep) i = stays_same graph st number r
+stays_in graph is k st o e p number ed parent here has vic done (r, Add shape) i = subst (λ (n : Option ℕ). Stays graph st n (entry_effect graph st.node (last_of p) n (r, Add shape))) (sym m.1)
     (record {
       reached = λ n reached. inl (linked_reached graph is k st.node (last_of p) m.0 can n reached);
       reserved = λ n f. inr (let y : m.0 ≡ n = cc in subst (IsReached (linked_in st.node (last_of p) m.0 graph)) y (linked_there graph is k st.node (last_of p) m.0 can));
@@ -97,17 +95,17 @@ stays_in graph is k st o e p number ed full here has vic done (r, Add shape) i =
     })
   where
     add : (ed ≡ None) × (new_shape e ≡ Some shape) × (entry_shape graph st.node (last_of p) ≡ None)
-    add = add_of e ed full (entry_shape graph st.node (last_of p)) r shape i
+    add = add_of e ed parent (entry_shape graph st.node (last_of p)) r shape i
 
     m : (m : ℕ) × (number ≡ Some m) × (graph.shape m ≡ Some shape) × ((key : Key) → numbers graph key ≡ Some m → ⊥)
     m = has shape add.1
 
     can : CanLink graph k st.node (last_of p) m.0
     can = record { dir_at = here; free = no_entry graph is st.node (last_of p) add.2; used = (shape, m.2); unlinked = m.3 }
-stays_in graph is k st o e p number ed full here has vic done (r, Remove) i = either number refl
+stays_in graph is k st o e p number ed parent here has vic done (r, Remove) i = either number refl
   where
     v : (v : ℕ) × (graph.child st.node (last_of p) ≡ Some v) × Leaf (graph.shape v) × (st.victim ≡ Some v)
-    v = removed_leaf graph st o e p ed full vic done r i
+    v = removed_leaf graph st o e p ed parent vic done r i
 
     can : CanUnlink graph k st.node (last_of p) v.0
     can = record { dir_at = here; there = v.1; leaf = leaf_children graph is v.0 (graph.shape v.0) refl v.2 }
@@ -152,10 +150,10 @@ moved_reached graph is kf from x kt st y m can replaces n (l, e) = go (after_pre
     go (Some r) j = inr (over r (ap (numbers graph) (sym (prefix_some (kt ++ y ∷ []) l r j)) ∙ e) replaces)
 
 -- a rename that really moves
-stays_moved : (graph : Graph) → IsGraph graph → (k : Key) (st : Holdings) (p q : Key) (number : Option ℕ) (r : Reply) → Located (numbers graph) k st → Fits (AtPair pairs.Rename p q) → Real graph p q st
+stays_moved : (graph : Graph) → IsGraph graph → (k : Key) (st : Holdings) (most : ℕ) (p q : Key) (number : Option ℕ) (r : Reply) → Located (numbers graph) k st → Fits (AtPair (pairs.Rename most) p q) → Real graph p q st
     → Stays graph st number (move_effect graph st (last_of p) (last_of q) number r true (graph.child st.source.node (last_of p)))
-stays_moved graph is k st p q number r loc fits real = subst (λ (n : Option ℕ). Stays graph st number (move_effect graph st (last_of p) (last_of q) number r true n)) (sym real.moved.1)
-    (record { reached = λ n reached. moved_reached graph is (k ++ st.source.walked) st.source.node (last_of p) (k ++ st.dest.walked) st (last_of q) real.moved.0 (can_move graph k p q st loc fits real) real.replaces n reached; reserved = λ n f. inl f; victim = λ n f. f })
+stays_moved graph is k st most p q number r loc fits real = subst (λ (n : Option ℕ). Stays graph st number (move_effect graph st (last_of p) (last_of q) number r true n)) (sym real.moved.1)
+    (record { reached = λ n reached. moved_reached graph is (k ++ st.source.walked) st.source.node (last_of p) (k ++ st.dest.walked) st (last_of q) real.moved.0 (can_move graph most k p q st loc fits real) real.replaces n reached; reserved = λ n f. inl f; victim = λ n f. f })
 
 -- an exchange brings each number that is reached to where it then is
 swapped_reached : (graph : Graph) → IsGraph graph → (kf : Key) (from : ℕ) (x : Name) (n : ℕ) (kt : Key) (to : ℕ) (y : Name) (m : ℕ) → CanSwap graph kf from x n kt to y m → (v : ℕ) → IsReached graph v → IsReached (swapped_in from x n to y m graph) v
@@ -182,9 +180,9 @@ stays_pair : (graph : Graph) → IsGraph graph → (k : Key) (st : Holdings) (o 
 stays_pair graph is k st o c p q number loc fits well vic m = subst (Stays graph st number) (sym (effect_pair graph c p q st number)) (by (standing graph is c p q st o well m))
   where
     real : (c : PairCall) → Fits (AtPair c p q) → VictimAt graph (AtPair c p q) st → Forked graph st.node p q st → fork_move graph c p q st ≡ Finishes o → (pair_at graph c p q st).1 ≡ true → Stays graph st number (pair_effect graph c p q st number [])
-    real pairs.Rename fits vic w fork j =
-        subst (λ (b : Bool). Stays graph st number (move_effect graph st (last_of p) (last_of q) number (rename_at graph p q st).0 b (graph.child st.source.node (last_of p)))) (sym j)
-        (stays_moved graph is k st p q number (rename_at graph p q st).0 loc fits (real_of graph is p q st o fits w vic fork j))
+    real (pairs.Rename most) fits vic w fork j =
+        subst (λ (b : Bool). Stays graph st number (move_effect graph st (last_of p) (last_of q) number (rename_at graph most p q st).0 b (graph.child st.source.node (last_of p)))) (sym j)
+        (stays_moved graph is k st most p q number (rename_at graph most p q st).0 loc fits (real_of graph is most p q st o fits w vic fork j))
     real pairs.Exchange fits vic w fork j =
         subst (λ (b : Bool). Stays graph st number (swap_effect graph st (last_of p) (last_of q) number (exchange_at graph p q st).0 b (graph.child st.source.node (last_of p)) (graph.child st.dest.node (last_of q)))) (sym j)
         (stays_swapped graph is k st p q number (exchange_at graph p q st).0 loc fits (real_swap graph st.node p q st w j))
@@ -202,7 +200,7 @@ pub stays : (graph : Graph) → IsGraph graph → (k : Key) (st : Holdings) (o :
     → next_on graph remaining st ≡ Finishes o → Stays graph st number (effect_at graph remaining st number)
 stays graph is k st o number (AtNode c p) loc fits well vic has m = stays_on graph st number (node_row c (path_error p (graph.shape st.node)) (graph.shape st.node))
 stays graph is k st o number (AtEntry c p) loc fits well vic has m =
-    stays_in graph is k st o c p number (dir_error (parent_of p) (graph.shape st.node)) (is_full (graph.shape st.node)) loc.here has vic
+    stays_in graph is k st o c p number (dir_error (parent_of p) (graph.shape st.node)) (graph.shape st.node) loc.here has vic
     (λ h. (step_stops graph st.node (parent_of p) (entry_move graph c (last_of p) st) o (finish_on graph (AtEntry c p) st o m)).1 (arrived (parent_of p) (graph.shape st.node) h))
-    (entry_row c (dir_error (parent_of p) (graph.shape st.node)) (is_full (graph.shape st.node)) (entry_shape graph st.node (last_of p))) refl
+    (entry_row c (dir_error (parent_of p) (graph.shape st.node)) (graph.shape st.node) (entry_shape graph st.node (last_of p))) refl
 stays graph is k st o number (AtPair c p q) loc fits well vic has m = stays_pair graph is k st o c p q number loc fits well vic m

@@ -1,23 +1,21 @@
 -- On finishes: a plan does what the machine's finish does, and it can be carried out.
 use Rattle.std.proofs.Common.{◌≡◌, ℕ, ◌+◌, ◌≤◌, ◌<◌, Bool, true, false, List, [], ◌∷◌, length, take, drop, ◌-◌, ◌⊎◌, inl, inr, Option, Some, None, refl, sym, ap, ap₂, subst, ◌∙◌, ◌||◌, arith, length-drop}
 use Rattle.std.specs.Prelude.{not, is_some, IfSome, IsSome}
-use Rattle.fs_names.specs.Failures.{or_else, first_failure}
+use Rattle.fs_names.specs.Failures.{check, or_else, first_failure}
 use Rattle.fs_names.specs.Names.{Name}
 use Rattle.fs_names.specs.Keys.{Key, last_of, parent_of, after_prefix, has_more, is_end}
 use Rattle.fs_names.specs.Parts.{common}
-use Rattle.fs_names.specs.Shapes.{Shape, Dir, File, is_dir, is_there, has_entries, is_full}
+use Rattle.fs_names.specs.Shapes.{Shape, Dir, File, is_there, has_entries, is_full}
+use Rattle.fs_names.specs.declared.limits.Limits.{Limits}
 use Rattle.fs_nodes.specs.Graphs.{Graph, then_at, entry_shape, IsReached}
 use Rattle.fs_nodes.specs.Seen.{Seen, IsReal}
-use Rattle.fs_calls.specs.Forms.{Form, AtNode, AtEntry, AtPair, by_text, by_paths, form, new_shape}
+use Rattle.fs_calls.specs.Forms.{Form, AtNode, AtEntry, AtPair, by_text, by_paths, form, new_shape, PairCall, EntryCall}
 use Rattle.fs_calls.proofs.FormLemmas.{by_text_any}
-use Rattle.fs_calls.specs.declared.target.PairCall.{PairCall}
-use Rattle.fs_calls.specs.declared.target.PairCall.TheVariants as pairs
-use Rattle.fs_calls.specs.declared.target.EntryCall.{EntryCall}
-use Rattle.fs_calls.specs.declared.target.EntryCall.TheVariants as entries
+use Rattle.fs_calls.specs.Forms as forms
 use Rattle.fs_calls.specs.Rows.{Keep, answered, edit_of, as_dir, entry_errors, entry_fault, place_errors, rename_fault, exchange_fault}
 use Rattle.fs_calls.specs.declared.call.Call.{Call}
 use Rattle.fs_calls.specs.declared.errno.Errno.{Errno}
-use Rattle.fs_calls.specs.declared.errno.Errno.TheVariants.{Enoent}
+use Rattle.fs_calls.specs.declared.errno.Errno.TheVariants.{Enoent, Eexist, Enospc}
 use Rattle.fs_calls.specs.declared.reply.Reply.TheVariants.{Failed, Done}
 use Rattle.fs_walk.specs.Ways.{Way, ForkWay}
 use Rattle.fs_finish.specs.declared.finish.Finish.{Finish}
@@ -58,17 +56,17 @@ entry_carried graph c p n route (Some m) None None = refl
 abbrev route_at : Holdings → Route
 route_at st = record { source = st.source.node; dest = st.dest.node; victim = st.victim }
 
-rename_carried : (graph : Graph) (p q : Key) (st : Holdings) (replaces : Bool) (reserved : Option ℕ) (fault : Option Errno) (same_path : Bool) (child : Option ℕ)
-    → carried graph (AtPair pairs.Rename p q) (route_at st) reserved (pair_plan fault same_path (moving replaces child))
+rename_carried : (graph : Graph) (most : ℕ) (p q : Key) (st : Holdings) (replaces : Bool) (reserved : Option ℕ) (fault : Option Errno) (same_path : Bool) (child : Option ℕ)
+    → carried graph (AtPair (forms.Rename most) p q) (route_at st) reserved (pair_plan fault same_path (moving replaces child))
     ≡ move_effect graph st (last_of p) (last_of q) reserved (answered fault false Done (not same_path)).0 (answered fault false Done (not same_path)).1 child
-rename_carried graph p q st replaces reserved (Some e) same_path child = refl
-rename_carried graph p q st replaces reserved None true child = refl
-rename_carried graph p q st replaces reserved None false None = refl
-rename_carried graph p q st true reserved None false (Some n) = refl
-rename_carried graph p q st false reserved None false (Some n) = refl
+rename_carried graph most p q st replaces reserved (Some e) same_path child = refl
+rename_carried graph most p q st replaces reserved None true child = refl
+rename_carried graph most p q st replaces reserved None false None = refl
+rename_carried graph most p q st true reserved None false (Some n) = refl
+rename_carried graph most p q st false reserved None false (Some n) = refl
 
 exchange_carried : (graph : Graph) (p q : Key) (st : Holdings) (reserved : Option ℕ) (fault : Option Errno) (same_path : Bool) (one other : Option ℕ)
-    → carried graph (AtPair pairs.Exchange p q) (route_at st) reserved (pair_plan fault same_path (swapping one other))
+    → carried graph (AtPair forms.Exchange p q) (route_at st) reserved (pair_plan fault same_path (swapping one other))
     ≡ swap_effect graph st (last_of p) (last_of q) reserved (answered fault false Done (not same_path)).0 (answered fault false Done (not same_path)).1 one other
 exchange_carried graph p q st reserved (Some e) same_path one other = refl
 exchange_carried graph p q st reserved None true one other = refl
@@ -79,15 +77,15 @@ exchange_carried graph p q st reserved None false (Some n) (Some m) = refl
 carried_at : (graph : Graph) (rest : Form) (st : Holdings) (reserved : Option ℕ) → carried graph rest (route_at st) reserved (plan_at graph rest st) ≡ effect_at graph rest st reserved
 carried_at graph (AtNode c []) st reserved = refl
 carried_at graph (AtNode c (x ∷ p)) st reserved = refl
-carried_at graph (AtEntry c p) st reserved = entry_carried graph c p st.node (route_at st) reserved (entry_fault c (dir_error (parent_of p) (graph.shape st.node)) (is_full (graph.shape st.node)) (entry_shape graph st.node (last_of p))) (new_shape c)
-carried_at graph (AtPair pairs.Rename p q) st reserved = by (target (AtPair pairs.Rename p q))
+carried_at graph (AtEntry c p) st reserved = entry_carried graph c p st.node (route_at st) reserved (entry_fault c (dir_error (parent_of p) (graph.shape st.node)) (graph.shape st.node) (entry_shape graph st.node (last_of p))) (new_shape c)
+carried_at graph (AtPair (forms.Rename most) p q) st reserved = by (target (AtPair (forms.Rename most) p q))
   where
-    by : (l : Key) → carried graph (AtPair pairs.Rename p q) (route_at st) reserved (pair_plan_at graph pairs.Rename p q st l) ≡ Rattle.fs_machine.specs.Finishes.rename_effect graph p q st reserved l
+    by : (l : Key) → carried graph (AtPair (forms.Rename most) p q) (route_at st) reserved (pair_plan_at graph (forms.Rename most) p q st l) ≡ Rattle.fs_machine.specs.Finishes.rename_effect graph most p q st reserved l
     by (z ∷ l) = refl
-    by [] = rename_carried graph p q st (is_some (graph.child st.dest.node (last_of q))) reserved _ (is_end (after_prefix p q)) (graph.child st.source.node (last_of p))
-carried_at graph (AtPair pairs.Exchange p q) st reserved = by (target (AtPair pairs.Exchange p q))
+    by [] = rename_carried graph most p q st (is_some (graph.child st.dest.node (last_of q))) reserved _ (is_end (after_prefix p q)) (graph.child st.source.node (last_of p))
+carried_at graph (AtPair forms.Exchange p q) st reserved = by (target (AtPair forms.Exchange p q))
   where
-    by : (l : Key) → carried graph (AtPair pairs.Exchange p q) (route_at st) reserved (pair_plan_at graph pairs.Exchange p q st l) ≡ Rattle.fs_machine.specs.Finishes.exchange_effect graph p q st reserved l
+    by : (l : Key) → carried graph (AtPair forms.Exchange p q) (route_at st) reserved (pair_plan_at graph forms.Exchange p q st l) ≡ Rattle.fs_machine.specs.Finishes.exchange_effect graph p q st reserved l
     by (z ∷ l) = refl
     by [] = exchange_carried graph p q st reserved _ (is_end (after_prefix p q)) (graph.child st.source.node (last_of p)) (graph.child st.dest.node (last_of q))
 
@@ -150,19 +148,19 @@ route_there call None behind fork victim st e = absurd (cc)
 route_there call (Some n) behind fork victim st e = let s : holdings_with call n behind fork victim ≡ st = cc in route_with call n behind fork victim ∙ ap route_at s
 
 -- the record and the graph after a finish
-module _ (graph : Graph) (most : ℕ) (call : Call) (stand : Stand) (reserved removed : Option ℕ) (error : Option Errno) (outcome : Outcome) (op : IsOp most call error stand outcome)
-    (plan : Plan) (is : plan ≡ plan_of graph (op_value most call stand reserved removed outcome)) (done : Finish) (new : Graph) (made : IsEffect (carried graph (form most call) (route_by stand.walk.node stand.fork stand.victim) reserved plan) done new) where
+module _ (graph : Graph) (limits : Limits) (call : Call) (stand : Stand) (reserved removed : Option ℕ) (error : Option Errno) (outcome : Outcome) (op : IsOp limits call error stand outcome)
+    (plan : Plan) (is : plan ≡ plan_of graph (op_value limits call stand reserved removed outcome)) (done : Finish) (new : Graph) (made : IsEffect (carried graph (form limits call) (route_by stand.walk.node stand.fork stand.victim) reserved plan) done new) where
   abbrev before : OpValue
-  before = op_value most call stand reserved removed outcome
+  before = op_value limits call stand reserved removed outcome
 
-  effect_is : (seat : ℕ) (place : Option ℕ) → carried graph (form most call) (route_by stand.walk.node stand.fork stand.victim) reserved plan ≡ finish graph (record_of seat place before)
+  effect_is : (seat : ℕ) (place : Option ℕ) → carried graph (form limits call) (route_by stand.walk.node stand.fork stand.victim) reserved plan ≡ finish graph (record_of seat place before)
   effect_is seat place =
-      let h : stand.walk.walked ≤ length (target (form most call)) = omega (arith, op.within, op.names) in
-      ap (carried graph (form most call) (route_by stand.walk.node stand.fork stand.victim) reserved) is
-      ∙ carried_by graph (form most call) stand.walk.walked (by_paths call) before.holdings (route_by stand.walk.node stand.fork stand.victim) reserved (route_there (form most call) stand.walk.node (behind_in stand.walk.behind stand.fork) stand.fork stand.victim) h
+      let h : stand.walk.walked ≤ length (target (form limits call)) = omega (arith, op.within, op.names) in
+      ap (carried graph (form limits call) (route_by stand.walk.node stand.fork stand.victim) reserved) is
+      ∙ carried_by graph (form limits call) stand.walk.walked (by_paths call) before.holdings (route_by stand.walk.node stand.fork stand.victim) reserved (route_there (form limits call) stand.walk.node (behind_in stand.walk.behind stand.fork) stand.fork stand.victim) h
       ∙ sym (finish_by graph (record_of seat place before) (by_paths call) before.holdings)
 
-  pub finished_is : (held : List ℕ) → held ≡ taken_if before.holdings → IsFinished graph before (with_held (Fixed done.replies held) (op_value most call stand done.reserved done.removed (Fixed done.replies held)))
+  pub finished_is : (held : List ℕ) → held ≡ taken_if before.holdings → IsFinished graph before (with_held (Fixed done.replies held) (op_value limits call stand done.reserved done.removed (Fixed done.replies held)))
   finished_is held all seat place =
       let e = effect_is seat place in
       let r : done.replies ≡ (finish graph (record_of seat place before)).reply = made.reply ∙ ap (λ (m : Effect). m.reply) e in
@@ -191,20 +189,20 @@ both_none : (a b : Option Errno) → or_else a b ≡ None → (a ≡ None) × (b
 both_none None b e = (refl, e)
 both_none (Some f) b e = absurd (cc)
 
-makes_free : (full : Bool) (there : Option Shape) → first_failure (entry_errors entries.Mkdir full there) ≡ None → there ≡ None
+makes_free : (full : Bool) (there : Option Shape) → first_failure (check (is_there there) Eexist ∷ check full Enospc ∷ []) ≡ None → there ≡ None
 makes_free full None e = refl
 makes_free full (Some s) e = absurd (cc)
 
-unlinks_bare : (full : Bool) (there : Option Shape) → first_failure (entry_errors entries.Unlink full there) ≡ None → (is_there there ≡ true) × (has_entries there ≡ false)
-unlinks_bare full None e = absurd (cc)
-unlinks_bare full (Some (Dir l)) e = absurd (cc)
-unlinks_bare full (Some (File bytes)) e = (refl, refl)
+unlinks_bare : (parent : Option Shape) (there : Option Shape) → first_failure (entry_errors forms.Unlink parent there) ≡ None → (is_there there ≡ true) × (has_entries there ≡ false)
+unlinks_bare parent None e = absurd (cc)
+unlinks_bare parent (Some (Dir l)) e = absurd (cc)
+unlinks_bare parent (Some (File bytes)) e = (refl, refl)
 
-removes_bare : (full : Bool) (there : Option Shape) → first_failure (entry_errors entries.Rmdir full there) ≡ None → (is_there there ≡ true) × (has_entries there ≡ false)
-removes_bare full None e = absurd (cc)
-removes_bare full (Some (Dir [])) e = (refl, refl)
-removes_bare full (Some (Dir (x ∷ l))) e = absurd (cc)
-removes_bare full (Some (File bytes)) e = absurd (cc)
+removes_bare : (parent : Option Shape) (there : Option Shape) → first_failure (entry_errors forms.Rmdir parent there) ≡ None → (is_there there ≡ true) × (has_entries there ≡ false)
+removes_bare parent None e = absurd (cc)
+removes_bare parent (Some (Dir [])) e = (refl, refl)
+removes_bare parent (Some (Dir (x ∷ l))) e = absurd (cc)
+removes_bare parent (Some (File bytes)) e = absurd (cc)
 
 -- what an entry names
 child_free : (store : Seen) (n : ℕ) (x : Name) → IsReal store → entry_shape store.graph n x ≡ None → store.graph.child n x ≡ None
@@ -233,13 +231,13 @@ module _ (store : Seen) (p : Key) (n : ℕ) (route : Route) (reserved : Option �
   can_remove : (c : EntryCall) → (is_there there ≡ true) × (has_entries there ≡ false) → CanCarryOut store (AtEntry c p) route reserved (Removes n)
   can_remove c h = (named, record { there = there_if (store.graph.child n (last_of p)) store.graph.shape h.0; bare = bare_if (store.graph.child n (last_of p)) store.graph.shape h.1 })
 
-  entry_can : (c : EntryCall) (fault : Option Errno) → entry_fault c (as_dir None (store.graph.shape n)) (is_full (store.graph.shape n)) there ≡ fault → Changes (entry_plan fault (new_shape c) n) (IsReal store)
+  entry_can : (c : EntryCall) (fault : Option Errno) → entry_fault c (as_dir None (store.graph.shape n)) (store.graph.shape n) there ≡ fault → Changes (entry_plan fault (new_shape c) n) (IsReal store)
       → CanCarryOut store (AtEntry c p) route reserved (entry_plan fault (new_shape c) n)
   entry_can c (Some e) h real = tt
-  entry_can entries.Mkdir None h real = let b = both_none (as_dir None (store.graph.shape n)) _ h in can_add entries.Mkdir real b.0 (makes_free (is_full (store.graph.shape n)) there b.1)
-  entry_can entries.Mknod None h real = let b = both_none (as_dir None (store.graph.shape n)) _ h in can_add entries.Mknod real b.0 (makes_free (is_full (store.graph.shape n)) there b.1)
-  entry_can entries.Unlink None h real = can_remove entries.Unlink (unlinks_bare (is_full (store.graph.shape n)) there (both_none (as_dir None (store.graph.shape n)) _ h).1)
-  entry_can entries.Rmdir None h real = can_remove entries.Rmdir (removes_bare (is_full (store.graph.shape n)) there (both_none (as_dir None (store.graph.shape n)) _ h).1)
+  entry_can (forms.Mkdir most) None h real = let b = both_none (as_dir None (store.graph.shape n)) _ h in can_add (forms.Mkdir most) real b.0 (makes_free (is_full most (store.graph.shape n)) there b.1)
+  entry_can (forms.Mknod most) None h real = let b = both_none (as_dir None (store.graph.shape n)) _ h in can_add (forms.Mknod most) real b.0 (makes_free (is_full most (store.graph.shape n)) there b.1)
+  entry_can forms.Unlink None h real = can_remove forms.Unlink (unlinks_bare (store.graph.shape n) there (both_none (as_dir None (store.graph.shape n)) _ h).1)
+  entry_can forms.Rmdir None h real = can_remove forms.Rmdir (removes_bare (store.graph.shape n) there (both_none (as_dir None (store.graph.shape n)) _ h).1)
 
 -- what a rename may replace has no entries
 place_bare : (s t : Option Shape) (room : Bool) → first_failure (place_errors s t room) ≡ None → has_entries t ≡ false
@@ -258,10 +256,10 @@ there_bare true there e = absurd (cc)
 there_bare false there e = e
 
 -- a rename
-module _ (store : Seen) (p q : Key) (heads : ForkWay) (m : ℕ) (behind victim reserved : Option ℕ) (text : by_text (AtPair pairs.Rename p q) ≡ None) (short : heads.names ≤ length (common (parent_of p) (parent_of q)))
+module _ (store : Seen) (most : ℕ) (p q : Key) (heads : ForkWay) (m : ℕ) (behind victim reserved : Option ℕ) (text : by_text (AtPair (forms.Rename most) p q) ≡ None) (short : heads.names ≤ length (common (parent_of p) (parent_of q)))
     (source : heads.names + heads.source.walked ≤ length (parent_of p)) (dest : heads.names + heads.dest.walked ≤ length (parent_of q))
     (apart : heads.source.node ≡ heads.dest.node → take heads.source.walked (drop heads.names p) ≡ take heads.dest.walked (drop heads.names q))
-    (below : MovesApart store.graph (AtPair pairs.Rename (drop heads.names p) (drop heads.names q)) (holdings_with (AtPair pairs.Rename p q) m behind (Some heads) victim)) where
+    (below : MovesApart store.graph (AtPair (forms.Rename most) (drop heads.names p) (drop heads.names q)) (holdings_with (AtPair (forms.Rename most) p q) m behind (Some heads) victim)) where
   abbrev a : Option Errno
   a = head_error store.graph p heads.names heads.source
 
@@ -275,7 +273,7 @@ module _ (store : Seen) (p q : Key) (heads : ForkWay) (m : ℕ) (behind victim r
   to = there_by (has_more (after_prefix q p)) (entry_shape store.graph heads.dest.node (last_of q))
 
   abbrev room : Bool
-  room = is_end (after_prefix (parent_of p) (parent_of q)) || not (is_full (store.graph.shape heads.dest.node))
+  room = is_end (after_prefix (parent_of p) (parent_of q)) || not (is_full most (store.graph.shape heads.dest.node))
 
   abbrev replaces : Bool
   replaces = is_some (store.graph.child heads.dest.node (last_of q))
@@ -286,7 +284,7 @@ module _ (store : Seen) (p q : Key) (heads : ForkWay) (m : ℕ) (behind victim r
   can_move : (n : ℕ) → is_end (after_prefix p q) ≡ false → rename_fault a b from false to room ≡ None → store.graph.child heads.source.node (last_of p) ≡ Some n → IsReal store
       → (0 < length p) × (0 < length q) × CanMove store (along route n replaces) (last_of p) (last_of q)
   can_move n other none child real =
-      let named = text_named pairs.Rename p q text in
+      let named = text_named (forms.Rename most) p q text in
       let one = both_none a _ none in
       let two = both_none b _ one.1 in
       let rest = both_none (Rattle.fs_names.specs.Failures.check (Rattle.fs_names.specs.Shapes.is_missing from) Enoent) _ two.1 in (
@@ -298,12 +296,12 @@ module _ (store : Seen) (p q : Key) (heads : ForkWay) (m : ℕ) (behind victim r
           dir = head_dir _ (store.graph.shape heads.dest.node) two.0;
           replaces = refl;
           bare = bare_if (store.graph.child heads.dest.node (last_of q)) store.graph.shape (there_bare (has_more (after_prefix q p)) (entry_shape store.graph heads.dest.node (last_of q)) (place_bare from to room rest.1));
-          apart = λ n l. (let same : is_end (after_prefix p q) ≡ true = heads_apart store.graph pairs.Rename p q heads text short source dest one.0 two.0 apart n l in cc);
-          below = heads_below store.graph pairs.Rename p q heads text short source dest one.0 two.0 m behind victim below n child;
+          apart = λ n l. (let same : is_end (after_prefix p q) ≡ true = heads_apart store.graph (forms.Rename most) p q heads text short source dest one.0 two.0 apart n l in cc);
+          below = heads_below store.graph (forms.Rename most) p q heads text short source dest one.0 two.0 most m behind victim below n child;
         },
       )
 
-  can_moves : (n : ℕ) (r : Bool) → (0 < length p) × (0 < length q) × CanMove store (along route n r) (last_of p) (last_of q) → CanCarryOut store (AtPair pairs.Rename p q) route reserved (moves r n)
+  can_moves : (n : ℕ) (r : Bool) → (0 < length p) × (0 < length q) × CanMove store (along route n r) (last_of p) (last_of q) → CanCarryOut store (AtPair (forms.Rename most) p q) route reserved (moves r n)
   can_moves n true h = h
   can_moves n false h = h
 
@@ -312,20 +310,20 @@ module _ (store : Seen) (p q : Key) (heads : ForkWay) (m : ℕ) (behind victim r
   real_of false n h = h
 
   rename_can_by : (same_path : Bool) → is_end (after_prefix p q) ≡ same_path → (fault : Option Errno) → rename_fault a b from same_path to room ≡ fault → (o : Option ℕ) → store.graph.child heads.source.node (last_of p) ≡ o
-      → Changes (pair_plan fault same_path (moving replaces o)) (IsReal store) → CanCarryOut store (AtPair pairs.Rename p q) route reserved (pair_plan fault same_path (moving replaces o))
+      → Changes (pair_plan fault same_path (moving replaces o)) (IsReal store) → CanCarryOut store (AtPair (forms.Rename most) p q) route reserved (pair_plan fault same_path (moving replaces o))
   rename_can_by same_path e (Some f) h o k real = tt
   rename_can_by true e None h o k real = tt
   rename_can_by false e None h None k real = tt
   rename_can_by false e None h (Some n) k real = can_moves n replaces (can_move n e h k (real_of replaces n real))
 
-  rename_can : Changes (pair_by store.graph pairs.Rename p q heads a b) (IsReal store) → CanCarryOut store (AtPair pairs.Rename p q) route reserved (pair_by store.graph pairs.Rename p q heads a b)
+  rename_can : Changes (pair_by store.graph (forms.Rename most) p q heads a b) (IsReal store) → CanCarryOut store (AtPair (forms.Rename most) p q) route reserved (pair_by store.graph (forms.Rename most) p q heads a b)
   rename_can real = rename_can_by (is_end (after_prefix p q)) refl (rename_fault a b from (is_end (after_prefix p q)) to room) refl (store.graph.child heads.source.node (last_of p)) refl real
 
 -- an exchange
-module _ (store : Seen) (p q : Key) (heads : ForkWay) (m : ℕ) (behind victim reserved : Option ℕ) (text : by_text (AtPair pairs.Exchange p q) ≡ None) (short : heads.names ≤ length (common (parent_of p) (parent_of q)))
+module _ (store : Seen) (p q : Key) (heads : ForkWay) (m : ℕ) (behind victim reserved : Option ℕ) (text : by_text (AtPair forms.Exchange p q) ≡ None) (short : heads.names ≤ length (common (parent_of p) (parent_of q)))
     (source : heads.names + heads.source.walked ≤ length (parent_of p)) (dest : heads.names + heads.dest.walked ≤ length (parent_of q))
     (apart : heads.source.node ≡ heads.dest.node → take heads.source.walked (drop heads.names p) ≡ take heads.dest.walked (drop heads.names q))
-    (beside : MovesApart store.graph (AtPair pairs.Exchange (drop heads.names p) (drop heads.names q)) (holdings_with (AtPair pairs.Exchange p q) m behind (Some heads) victim)) where
+    (beside : MovesApart store.graph (AtPair forms.Exchange (drop heads.names p) (drop heads.names q)) (holdings_with (AtPair forms.Exchange p q) m behind (Some heads) victim)) where
   abbrev first_error : Option Errno
   first_error = head_error store.graph p heads.names heads.source
 
@@ -341,16 +339,16 @@ module _ (store : Seen) (p q : Key) (heads : ForkWay) (m : ℕ) (behind victim r
   can_swap : (n l : ℕ) → is_end (after_prefix p q) ≡ false → seen_fault ≡ None → store.graph.child heads.source.node (last_of p) ≡ Some n → store.graph.child heads.dest.node (last_of q) ≡ Some l → IsReal store
       → (0 < length p) × (0 < length q) × CanSwap store (between ends n l) (last_of p) (last_of q)
   can_swap n l other none one two real =
-      let named = text_named pairs.Exchange p q text in
+      let named = text_named forms.Exchange p q text in
       let first = both_none first_error _ none in
       let second = both_none second_error _ first.1 in
       let two_paths : n ≡ l → ⊥ = (λ e.
       let entry = real.one_name heads.source.node heads.dest.node n (last_of p) (last_of q) one (two ∙ ap (λ (k : ℕ). Some k) (sym e)) in
-      let same : is_end (after_prefix p q) ≡ true = heads_apart store.graph pairs.Exchange p q heads text short source dest first.0 second.0 apart entry.0 entry.1 in
+      let same : is_end (after_prefix p q) ≡ true = heads_apart store.graph forms.Exchange p q heads text short source dest first.0 second.0 apart entry.0 entry.1 in
       cc) in (
         named.0,
         named.1,
-        record { there = one; there_too = two; apart = by two_paths (heads_beside store.graph pairs.Exchange p q heads text short source dest first.0 second.0 m behind victim beside n l one two) },
+        record { there = one; there_too = two; apart = by two_paths (heads_beside store.graph forms.Exchange p q heads text short source dest first.0 second.0 m behind victim beside n l one two) },
       )
     where
       by : (n ≡ l → ⊥) → (n ≡ l) ⊎ ((IsReached store.graph.child n l → ⊥) × (IsReached store.graph.child l n → ⊥)) → (IsReached store.graph.child n l → ⊥) × (IsReached store.graph.child l n → ⊥)
@@ -358,14 +356,14 @@ module _ (store : Seen) (p q : Key) (heads : ForkWay) (m : ℕ) (behind victim r
       by differ (inr h) = h
 
   exchange_can_by : (same_path : Bool) → is_end (after_prefix p q) ≡ same_path → (fault : Option Errno) → seen_fault ≡ fault → (o : Option ℕ) → store.graph.child heads.source.node (last_of p) ≡ o → (u : Option ℕ) → store.graph.child heads.dest.node (last_of q) ≡ u
-      → Changes (pair_plan fault same_path (swapping o u)) (IsReal store) → CanCarryOut store (AtPair pairs.Exchange p q) ends reserved (pair_plan fault same_path (swapping o u))
+      → Changes (pair_plan fault same_path (swapping o u)) (IsReal store) → CanCarryOut store (AtPair forms.Exchange p q) ends reserved (pair_plan fault same_path (swapping o u))
   exchange_can_by same_path e (Some f) h o k u l real = tt
   exchange_can_by true e None h o k u l real = tt
   exchange_can_by false e None h None k u l real = tt
   exchange_can_by false e None h (Some n) k None l real = tt
   exchange_can_by false e None h (Some n) k (Some i) l real = can_swap n i e h k l real
 
-  exchange_can : Changes (pair_by store.graph pairs.Exchange p q heads first_error second_error) (IsReal store) → CanCarryOut store (AtPair pairs.Exchange p q) ends reserved (pair_by store.graph pairs.Exchange p q heads first_error second_error)
+  exchange_can : Changes (pair_by store.graph forms.Exchange p q heads first_error second_error) (IsReal store) → CanCarryOut store (AtPair forms.Exchange p q) ends reserved (pair_by store.graph forms.Exchange p q heads first_error second_error)
   exchange_can real = exchange_can_by (is_end (after_prefix p q)) refl seen_fault refl (store.graph.child heads.source.node (last_of p)) refl (store.graph.child heads.dest.node (last_of q)) refl real
 
 -- ---- each call
@@ -383,8 +381,8 @@ pair_can : (store : Seen) (c : PairCall) (p q : Key) (heads : ForkWay) (m : ℕ)
     → (heads.source.node ≡ heads.dest.node → take heads.source.walked (drop heads.names p) ≡ take heads.dest.walked (drop heads.names q))
     → MovesApart store.graph (AtPair c (drop heads.names p) (drop heads.names q)) (holdings_with (AtPair c p q) m behind (Some heads) victim)
     → CanBy store (AtPair c p q) (record { source = heads.source.node; dest = heads.dest.node; victim = victim }) reserved (pair_by store.graph c p q heads (head_error store.graph p heads.names heads.source) (head_error store.graph q heads.names heads.dest))
-pair_can store pairs.Rename p q heads m behind victim reserved text short source dest apart below = rename_can store p q heads m behind victim reserved text short source dest apart below
-pair_can store pairs.Exchange p q heads m behind victim reserved text short source dest apart beside = exchange_can store p q heads m behind victim reserved text short source dest apart beside
+pair_can store (forms.Rename most) p q heads m behind victim reserved text short source dest apart below = rename_can store most p q heads m behind victim reserved text short source dest apart below
+pair_can store forms.Exchange p q heads m behind victim reserved text short source dest apart beside = exchange_can store p q heads m behind victim reserved text short source dest apart beside
 
 route_started : (n names : ℕ) (fork : Option ForkWay) (victim : Option ℕ) → route_by (Some n) (Some (started fork n names)) victim ≡ route_by (Some n) fork victim
 route_started n names None victim = refl
@@ -397,7 +395,7 @@ arrived_can store (AtNode c p) way n behind fork victim reserved text node names
 arrived_can store (AtEntry c p) way n behind fork victim reserved text node names arrived forks can =
     let at : (holdings_with (AtEntry c p) n behind fork victim).node ≡ n = holdings_node (AtEntry c p) n behind fork victim in
     subst (CanBy store (AtEntry c p) (route_by (Some n) fork victim) reserved) (sym (entry_is store.graph way n behind fork victim arrived c p names))
-    (entry_can store p n (route_by (Some n) fork victim) reserved (entry_named c p text) can.spare (λ e. can.other _ refl (e ∙ ap (λ (m : ℕ). Some m) (sym at))) c (entry_fault c (as_dir None (store.graph.shape n)) (is_full (store.graph.shape n)) (entry_shape store.graph n (last_of p))) refl)
+    (entry_can store p n (route_by (Some n) fork victim) reserved (entry_named c p text) can.spare (λ e. can.other _ refl (e ∙ ap (λ (m : ℕ). Some m) (sym at))) c (entry_fault c (as_dir None (store.graph.shape n)) (store.graph.shape n) (entry_shape store.graph n (last_of p))) refl)
 arrived_can store (AtPair c p q) way n behind fork victim reserved text node names arrived forks can =
     let heads : ForkWay = started fork n way.names in
     let forked : IsForked p q way heads = started_forked c p q way fork n node arrived names forks in
@@ -430,8 +428,8 @@ can_by store call way behind fork victim reserved None (Some n) text node names 
         arrived_can store call way n behind fork victim reserved text node names (omega arith) forks can
 
 -- the plan of a call in a store
-pub can_carry_out : (store : Seen) (most : ℕ) (call : Call) (stand : Stand) (reserved removed : Option ℕ) (error : Option Errno) (outcome : Outcome) (plan : Plan) → IsOp most call error stand outcome → IsPlan store (op_value most call stand reserved removed outcome) plan
-    → CanFinish store.graph reserved (dropped stand.walk.walked (form most call)) (stands (form most call) stand) → CanCarryOut store (form most call) (route_by stand.walk.node stand.fork stand.victim) reserved plan
-can_carry_out store most call stand reserved removed error outcome plan op planned can =
-    subst (CanBy store (form most call) (route_by stand.walk.node stand.fork stand.victim) reserved) (sym planned.is)
-    (can_by store (form most call) stand.walk (behind_in stand.walk.behind stand.fork) stand.fork stand.victim reserved (by_paths call) stand.walk.node (by_text_any most call) refl op.names op.within op.forks can) planned.real
+pub can_carry_out : (store : Seen) (limits : Limits) (call : Call) (stand : Stand) (reserved removed : Option ℕ) (error : Option Errno) (outcome : Outcome) (plan : Plan) → IsOp limits call error stand outcome → IsPlan store (op_value limits call stand reserved removed outcome) plan
+    → CanFinish store.graph reserved (dropped stand.walk.walked (form limits call)) (stands (form limits call) stand) → CanCarryOut store (form limits call) (route_by stand.walk.node stand.fork stand.victim) reserved plan
+can_carry_out store limits call stand reserved removed error outcome plan op planned can =
+    subst (CanBy store (form limits call) (route_by stand.walk.node stand.fork stand.victim) reserved) (sym planned.is)
+    (can_by store (form limits call) stand.walk (behind_in stand.walk.behind stand.fork) stand.fork stand.victim reserved (by_paths call) stand.walk.node (by_text_any limits call) refl op.names op.within op.forks can) planned.real

@@ -5,9 +5,8 @@ use Rattle.fs_names.specs.Keys.{Key, parent_of, last_of, after_prefix, has_more,
 use Rattle.fs_names.specs.Names.{Name}
 use Rattle.fs_names.specs.Parts.{left, common}
 use Rattle.fs_names.specs.Shapes.{Shape, Dir, is_full}
-use Rattle.fs_calls.specs.Forms.{AtPair}
-use Rattle.fs_calls.specs.declared.target.PairCall.{PairCall}
-use Rattle.fs_calls.specs.declared.target.PairCall.TheVariants as pairs
+use Rattle.fs_calls.specs.Forms.{AtPair, PairCall}
+use Rattle.fs_calls.specs.Forms as pairs
 use Rattle.fs_nodes.specs.Graphs.{Graph, entry_shape}
 use Rattle.fs_calls.specs.Rows.{answered, rename_fault, exchange_fault, rename_row, exchange_row}
 use Rattle.fs_calls.specs.declared.errno.Errno.{Errno}
@@ -69,15 +68,15 @@ moved_exchange None false (Some n) (Some m) = refl
 
 -- what a call on two entries would really move, from one directory to another
 abbrev moved_between : Graph → PairCall → ℕ → Name → ℕ → Name → Bool → Bool → Bool → Moved
-moved_between graph pairs.Rename source x dest y same_path above one_parent =
-    moved_node (rename_row None None (entry_shape graph source x) same_path (there_by above (entry_shape graph dest y)) (one_parent || not (is_full (graph.shape dest)))).1 (graph.child source x)
+moved_between graph (pairs.Rename most) source x dest y same_path above one_parent =
+    moved_node (rename_row None None (entry_shape graph source x) same_path (there_by above (entry_shape graph dest y)) (one_parent || not (is_full most (graph.shape dest)))).1 (graph.child source x)
 moved_between graph pairs.Exchange source x dest y same_path above one_parent =
     moved_nodes (exchange_row None None (entry_shape graph source x) same_path (entry_shape graph dest y)).1 (graph.child source x) (graph.child dest y)
 
 moved_parents : (graph : Graph) (c : PairCall) (source : ℕ) (x : Name) (dest : ℕ) (y : Name) (same_path above one_parent : Bool)
     → moved_by (parents_plan graph c source x dest y same_path above one_parent None None) ≡ moved_between graph c source x dest y same_path above one_parent
-moved_parents graph pairs.Rename source x dest y same_path above one_parent =
-    let fault : Option Errno = rename_fault None None (entry_shape graph source x) same_path (there_by above (entry_shape graph dest y)) (one_parent || not (is_full (graph.shape dest))) in
+moved_parents graph (pairs.Rename most) source x dest y same_path above one_parent =
+    let fault : Option Errno = rename_fault None None (entry_shape graph source x) same_path (there_by above (entry_shape graph dest y)) (one_parent || not (is_full most (graph.shape dest))) in
     moved_rename fault same_path (is_some (graph.child dest y)) (graph.child source x)
 moved_parents graph pairs.Exchange source x dest y same_path above one_parent =
     moved_exchange (exchange_fault None None (entry_shape graph source x) (entry_shape graph dest y)) same_path (graph.child source x) (graph.child dest y)
@@ -116,7 +115,7 @@ between_is graph c p q fork m behind victim hs hd hc e =
         → after_prefix (parent_of (drop fork.names p)) (parent_of (drop fork.names q)) ≡ after_prefix (parent_of p) (parent_of q)
         → between_move graph c fork.source.node (last_of p) fork.dest.node (last_of q) (is_end (after_prefix p q)) (has_more (after_prefix q p)) (is_end (after_prefix (parent_of p) (parent_of q))) victim
         ≡ parents_move graph c (drop fork.names p) (drop fork.names q) (holdings_with (AtPair c p q) m behind (Some fork) victim)
-    by pairs.Rename from to x y same above parents = rw (from, to, x, y, same, above, parents) refl
+    by (pairs.Rename most) from to x y same above parents = rw (from, to, x, y, same, above, parents) refl
     by pairs.Exchange from to x y same above parents = rw (from, to, x, y, same) refl
 
 -- from a common directory

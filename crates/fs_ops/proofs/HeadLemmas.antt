@@ -6,9 +6,8 @@ use Rattle.fs_names.specs.Shapes.{Shape, Dir, File, is_dir}
 use Rattle.fs_names.proofs.Lemmas.{after_prefix-append}
 use Rattle.fs_names.proofs.ParentLemmas.{parent_length}
 use Rattle.fs_nodes.specs.Graphs.{Graph, IsReached}
-use Rattle.fs_calls.specs.Forms.{AtPair, by_text}
-use Rattle.fs_calls.specs.declared.target.PairCall.{PairCall}
-use Rattle.fs_calls.specs.declared.target.PairCall.TheVariants as pairs
+use Rattle.fs_calls.specs.Forms.{AtPair, by_text, PairCall}
+use Rattle.fs_calls.specs.Forms as pairs
 use Rattle.fs_calls.specs.Rows.{as_dir}
 use Rattle.fs_calls.specs.declared.errno.Errno.{Errno}
 use Rattle.fs_walk.specs.declared.head.Head as count
@@ -92,8 +91,8 @@ abbrev pub head_error : Graph → Key → ℕ → count.Head → Option Errno
 head_error graph p k head = dir_error (left (take head.walked (drop k p)) (parent_of (drop k p))) (graph.shape head.node)
 
 pub text_named : (c : PairCall) (p q : Key) → by_text (AtPair c p q) ≡ None → (0 < length p) × (0 < length q)
-text_named pairs.Rename [] q e = absurd (cc)
-text_named pairs.Rename (x ∷ p) [] e = absurd (cc)
+text_named (pairs.Rename most) [] q e = absurd (cc)
+text_named (pairs.Rename most) (x ∷ p) [] e = absurd (cc)
 text_named pairs.Exchange [] q e = absurd (cc)
 text_named pairs.Exchange (x ∷ p) [] e = absurd (cc)
 text_named c (x ∷ p) (y ∷ q) e = (omega arith, omega arith)
@@ -123,9 +122,9 @@ module _ (graph : Graph) (c : PairCall) (p q : Key) (heads : ForkWay) (text : by
       sym (same_left p q k short) ∙ whole (drop k p) (drop k q) (same_key (drop k p) (drop k q) (omega arith) (omega arith) parents lasts)
 
   -- from what the rename moves its new directory is not reached
-  pub heads_below : (m : ℕ) (behind victim : Option ℕ) → MovesApart graph (AtPair pairs.Rename (drop k p) (drop k q)) (holdings_with (AtPair c p q) m behind (Some heads) victim)
+  pub heads_below : (most m : ℕ) (behind victim : Option ℕ) → MovesApart graph (AtPair (pairs.Rename most) (drop k p) (drop k q)) (holdings_with (AtPair c p q) m behind (Some heads) victim)
       → (n : ℕ) → graph.child heads.source.node (last_of p) ≡ Some n → IsReached graph.child n heads.dest.node → ⊥
-  heads_below m behind victim apart n f =
+  heads_below most m behind victim apart n f =
       let named = text_named c p q text in
       let lp = parent_length p in
       apart n source_walked dest_walked (ap (graph.child heads.source.node) (last_drop k p (omega arith)) ∙ f)

@@ -7,6 +7,7 @@ use Rattle.std.proofs.lemmas.Bool.Decides.{nat_tests}
 use Rattle.fs_names.specs.Keys.{Key, parent_of}
 use Rattle.fs_names.specs.Names.{Name}
 use Rattle.fs_names.proofs.ParentLemmas.{parent_length}
+use Rattle.fs_names.specs.declared.limits.Limits.{Limits}
 use Rattle.fs_calls.specs.Forms.{form, Form, AtNode, AtEntry, AtPair, by_paths}
 use Rattle.fs_calls.specs.declared.call.Call.{Call}
 use Rattle.fs_calls.specs.declared.reply.Reply.{Reply}
@@ -115,12 +116,12 @@ held_less reply st old new (Some n) (gone, e) f =
     let m : length (old ++ gone) ≡ length old + length gone = length-append old gone in
     one_gone reply st old new n f (omega (arith, all, m))
 
-pub last_left : (most : ℕ) (call : Call) (stand : Stand) (reserved removed removed_new : Option ℕ) (outcome : Outcome) (reply : Reply) (old new : List ℕ) (last : Option ℕ) (n : ℕ) (now : OpValue)
-    → outcome ≡ Fixed reply old → IsReady (form most call) (stands (form most call) stand) outcome → MatchOption last ((old ≡ []) × (new ≡ [])) (λ node. old ≡ new ++ node ∷ []) → removed_new ≡ cleared (is_removed removed n) removed
-    → with_held outcome (op_value most call stand reserved removed outcome) ≡ now → IsLetGo now n (with_held (Fixed reply new) (op_value most call stand reserved removed_new (Fixed reply new)))
-last_left most call stand reserved removed removed_new outcome reply old new last n now is ready pops cleared_is view seat place =
-    let st : Option Holdings = stands (form most call) stand in
-    rw (← view, is, cleared_is, held_less reply st old new last (subst (IsReady (form most call) st) is ready) pops) refl
+pub last_left : (limits : Limits) (call : Call) (stand : Stand) (reserved removed removed_new : Option ℕ) (outcome : Outcome) (reply : Reply) (old new : List ℕ) (last : Option ℕ) (n : ℕ) (now : OpValue)
+    → outcome ≡ Fixed reply old → IsReady (form limits call) (stands (form limits call) stand) outcome → MatchOption last ((old ≡ []) × (new ≡ [])) (λ node. old ≡ new ++ node ∷ []) → removed_new ≡ cleared (is_removed removed n) removed
+    → with_held outcome (op_value limits call stand reserved removed outcome) ≡ now → IsLetGo now n (with_held (Fixed reply new) (op_value limits call stand reserved removed_new (Fixed reply new)))
+last_left limits call stand reserved removed removed_new outcome reply old new last n now is ready pops cleared_is view seat place =
+    let st : Option Holdings = stands (form limits call) stand in
+    rw (← view, is, cleared_is, held_less reply st old new last (subst (IsReady (form limits call) st) is ready) pops) refl
 
 -- and it is a beginning still
 pub held_begins : (old new all : List ℕ) (last : Option ℕ) → (gone : List ℕ) × (old ++ gone ≡ all) → MatchOption last ((old ≡ []) × (new ≡ [])) (λ node. old ≡ new ++ node ∷ []) → (gone : List ℕ) × (new ++ gone ≡ all)

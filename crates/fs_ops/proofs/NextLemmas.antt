@@ -3,10 +3,10 @@ use Rattle.std.proofs.Common.{◌≡◌, ℕ, zero, suc, ◌≤◌, false, [], �
 use Rattle.std.specs.Option.{is_some}
 use Rattle.std.proofs.lemmas.Option.{slice_get_past}
 use Rattle.fs_names.specs.Keys.{Key, parent_of, last_of}
-use Rattle.fs_names.specs.Shapes.{Shape, is_full}
+use Rattle.fs_names.specs.Shapes.{Shape}
+use Rattle.fs_names.specs.declared.limits.Limits.{Limits}
 use Rattle.fs_nodes.specs.Graphs.{Graph, entry_shape}
-use Rattle.fs_calls.specs.Forms.{form, Form, AtNode, AtEntry, AtPair, by_paths, new_shape}
-use Rattle.fs_calls.specs.declared.target.EntryCall.{EntryCall}
+use Rattle.fs_calls.specs.Forms.{form, Form, AtNode, AtEntry, AtPair, by_paths, new_shape, EntryCall}
 use Rattle.fs_calls.specs.declared.call.Call.{Call}
 use Rattle.fs_calls.specs.Rows.{as_dir, entry_fault}
 use Rattle.fs_calls.specs.declared.errno.Errno.{Errno}
@@ -48,7 +48,7 @@ entry_is : (graph : Graph) (c : EntryCall) (p : Key) (way : Way) (behind : Optio
     → move_of (entry_next graph n c (last_of p) victim) ≡ target_move graph (dropped way.walked (AtEntry c p)) (holdings_with (AtEntry c p) n behind fork victim)
 entry_is graph c p way behind fork victim n names all =
     move_take (victim_of c (entry_shape graph n (last_of p))) (graph.child n (last_of p)) victim _
-    ∙ ap (λ (m : Moved). take_if (victim_of c (entry_shape graph n (last_of p))) (graph.child n (last_of p)) victim (Finishes m)) (moved_entry (entry_fault c (as_dir None (graph.shape n)) (is_full (graph.shape n)) (entry_shape graph n (last_of p))) (new_shape c) n)
+    ∙ ap (λ (m : Moved). take_if (victim_of c (entry_shape graph n (last_of p))) (graph.child n (last_of p)) victim (Finishes m)) (moved_entry (entry_fault c (as_dir None (graph.shape n)) (graph.shape n) (entry_shape graph n (last_of p))) (new_shape c) n)
     ∙ rw (last_drop way.walked p (omega arith), holdings_node (AtEntry c p) n behind fork victim, holdings_victim (AtEntry c p) n behind fork victim) refl
 
 target_is : (graph : Graph) (call : Form) (way : Way) (behind : Option ℕ) (fork : Option ForkWay) (victim : Option ℕ) (n : ℕ) → way.node ≡ Some n → way.names ≡ length (target call) → way.walked ≡ way.names → Forks call way fork
@@ -94,16 +94,16 @@ way_is graph call way (Some f) victim n at names within forks =
     target_is graph call way f.behind (Some f) victim n at names all forks
     ∙ ap (λ (l : Key). behind_first f.behind (first_of (step_move graph n l) (target_move graph (dropped way.walked call) (holdings_with call n f.behind (Some f) victim)))) (sym rest)
 
-pub next_is : (graph : Graph) (most : ℕ) (call : Call) (stand : Stand) (reserved removed : Option ℕ) (error : Option Errno) (outcome : Outcome) → IsOp most call error stand outcome → is_some (reply_of outcome) ≡ false → by_paths call ≡ None
-    → move_of (way_next graph (form most call) stand.walk stand.fork stand.victim) ≡ next_of graph (op_value most call stand reserved removed outcome)
-next_is graph most call stand reserved removed error (Fixed r held) op unfinished text = absurd (cc)
-next_is graph most call stand reserved removed error (Open prepared) op unfinished text = by stand.walk.node refl
+pub next_is : (graph : Graph) (limits : Limits) (call : Call) (stand : Stand) (reserved removed : Option ℕ) (error : Option Errno) (outcome : Outcome) → IsOp limits call error stand outcome → is_some (reply_of outcome) ≡ false → by_paths call ≡ None
+    → move_of (way_next graph (form limits call) stand.walk stand.fork stand.victim) ≡ next_of graph (op_value limits call stand reserved removed outcome)
+next_is graph limits call stand reserved removed error (Fixed r held) op unfinished text = absurd (cc)
+next_is graph limits call stand reserved removed error (Open prepared) op unfinished text = by stand.walk.node refl
   where
     value : OpValue
-    value = op_value most call stand reserved removed (Open prepared)
+    value = op_value limits call stand reserved removed (Open prepared)
 
-    by : (o : Option ℕ) → stand.walk.node ≡ o → move_of (way_next_at graph (form most call) stand.walk o stand.fork stand.victim) ≡ next_by graph (record_of 0 None value) (by_paths call) Walking (holdings_of (form most call) o (behind_in stand.walk.behind stand.fork) stand.fork stand.victim)
+    by : (o : Option ℕ) → stand.walk.node ≡ o → move_of (way_next_at graph (form limits call) stand.walk o stand.fork stand.victim) ≡ next_by graph (record_of 0 None value) (by_paths call) Walking (holdings_of (form limits call) o (behind_in stand.walk.behind stand.fork) stand.fork stand.victim)
     by None e = ap (λ (x : Option Errno). next_by graph (record_of 0 None value) x Walking None) (sym text)
     by (Some n) e =
-        way_is graph (form most call) stand.walk stand.fork stand.victim n e op.names op.within op.forks
-        ∙ ap (λ (x : Option Errno). next_by graph (record_of 0 None value) x Walking (Some (holdings_with (form most call) n (behind_in stand.walk.behind stand.fork) stand.fork stand.victim))) (sym text)
+        way_is graph (form limits call) stand.walk stand.fork stand.victim n e op.names op.within op.forks
+        ∙ ap (λ (x : Option Errno). next_by graph (record_of 0 None value) x Walking (Some (holdings_with (form limits call) n (behind_in stand.walk.behind stand.fork) stand.fork stand.victim))) (sym text)

@@ -3,11 +3,9 @@ use Rattle.std.proofs.Common.{◌≡◌, ℕ, suc, ◌+◌, ◌≤◌, [], ◌�
 use Rattle.fs_names.specs.Keys.{Key, parent_of, last_of, after_prefix, has_more, is_end}
 use Rattle.fs_names.specs.Names.{Name}
 use Rattle.fs_names.specs.Parts.{left, common}
-use Rattle.fs_names.specs.Shapes.{Shape, Dir, File, is_full}
-use Rattle.fs_calls.specs.Forms.{Form, AtNode, AtEntry, AtPair, NodeCall, new_shape}
-use Rattle.fs_calls.specs.declared.target.EntryCall.{EntryCall}
-use Rattle.fs_calls.specs.declared.target.PairCall.{PairCall}
-use Rattle.fs_calls.specs.declared.target.PairCall.TheVariants as pairs
+use Rattle.fs_names.specs.Shapes.{Shape, Dir, File}
+use Rattle.fs_calls.specs.Forms.{Form, AtNode, AtEntry, AtPair, NodeCall, new_shape, EntryCall, PairCall}
+use Rattle.fs_calls.specs.Forms as pairs
 use Rattle.fs_calls.specs.declared.errno.Errno.{Errno}
 use Rattle.fs_calls.specs.Rows.{as_dir, entry_fault}
 use Rattle.fs_nodes.specs.Graphs.{Graph, entry_shape}
@@ -40,7 +38,7 @@ use Rattle.fs_ops.proofs.NextLemmas.{arrived_by, has_walked}
 -- with names left it fails there
 pub lost_plan : (graph : Graph) (rest : Form) (st : Holdings) (z : Name) (l : Key) → target rest ≡ z ∷ l → plan_at graph rest st ≡ Fails (walk_errno (graph.shape st.node))
 lost_plan graph (AtNode c p) st z l e = ap (λ (k : Key). node_plan (path_error k (graph.shape st.node)) st.node) e
-lost_plan graph (AtEntry c p) st z l e = ap (λ (k : Key). entry_plan (entry_fault c (dir_error k (graph.shape st.node)) (is_full (graph.shape st.node)) (entry_shape graph st.node (last_of p))) (new_shape c) st.node) e
+lost_plan graph (AtEntry c p) st z l e = ap (λ (k : Key). entry_plan (entry_fault c (dir_error k (graph.shape st.node)) (graph.shape st.node) (entry_shape graph st.node (last_of p))) (new_shape c) st.node) e
 lost_plan graph (AtPair c p q) st z l e = ap (λ (k : Key). pair_plan_at graph c p q st k) e
 
 -- a call on two entries by its heads, and by what kept them from their parents
@@ -50,11 +48,11 @@ pair_by graph c p q heads a b =
 
 -- what kept the first one, or else the second, is its error
 lost_first : (graph : Graph) (c : PairCall) (p q : Key) (heads : ForkWay) (e : Errno) (b : Option Errno) → pair_by graph c p q heads (Some e) b ≡ Fails e
-lost_first graph pairs.Rename p q heads e b = refl
+lost_first graph (pairs.Rename most) p q heads e b = refl
 lost_first graph pairs.Exchange p q heads e b = refl
 
 lost_second : (graph : Graph) (c : PairCall) (p q : Key) (heads : ForkWay) (e : Errno) → pair_by graph c p q heads None (Some e) ≡ Fails e
-lost_second graph pairs.Rename p q heads e = refl
+lost_second graph (pairs.Rename most) p q heads e = refl
 lost_second graph pairs.Exchange p q heads e = refl
 
 abbrev pub heads_plan : Graph → PairCall → Key → Key → ForkWay → Plan
@@ -70,12 +68,12 @@ module _ (graph : Graph) (way : Way) (n : ℕ) (behind : Option ℕ) (fork : Opt
 
   -- a call on an entry
   pub entry_is : (c : EntryCall) (p : Key) → way.names ≡ length (parent_of p)
-      → plan_at graph (dropped way.walked (AtEntry c p)) (holdings_with (AtEntry c p) n behind fork victim) ≡ entry_plan (entry_fault c (as_dir None (graph.shape n)) (is_full (graph.shape n)) (entry_shape graph n (last_of p))) (new_shape c) n
+      → plan_at graph (dropped way.walked (AtEntry c p)) (holdings_with (AtEntry c p) n behind fork victim) ≡ entry_plan (entry_fault c (as_dir None (graph.shape n)) (graph.shape n) (entry_shape graph n (last_of p))) (new_shape c) n
   entry_is c p names =
       let at : (holdings_with (AtEntry c p) n behind fork victim).node ≡ n = holdings_node (AtEntry c p) n behind fork victim in
       let none : parent_of (drop way.walked p) ≡ [] = parent_drop way.walked p ∙ none_left way.walked (parent_of p) (omega arith) in
       let last : last_of (drop way.walked p) ≡ last_of p = last_drop way.walked p (omega arith) in
-      (λ i. entry_plan (entry_fault c (dir_error (none i) (graph.shape (at i))) (is_full (graph.shape (at i))) (entry_shape graph (at i) (last i))) (new_shape c) (at i))
+      (λ i. entry_plan (entry_fault c (dir_error (none i) (graph.shape (at i))) (graph.shape (at i)) (entry_shape graph (at i) (last i))) (new_shape c) (at i))
 
   -- a call on two entries
   pub pair_is : (c : PairCall) (p q : Key) → way.node ≡ Some n → way.names ≡ length (common (parent_of p) (parent_of q)) → Forks (AtPair c p q) way fork

@@ -5,9 +5,9 @@ use Rattle.std.proofs.lemmas.Bool.Decides.{nat_tests}
 use Rattle.fs_names.specs.Keys.{Key, parent_of}
 use Rattle.fs_names.specs.Names.{Name, same_name}
 use Rattle.fs_names.specs.Parts.{common}
-use Rattle.fs_calls.specs.Forms.{form, Form, AtNode, AtEntry, AtPair}
+use Rattle.fs_names.specs.declared.limits.Limits.{Limits}
+use Rattle.fs_calls.specs.Forms.{form, Form, AtNode, AtEntry, AtPair, PairCall}
 use Rattle.fs_calls.specs.code.Targets.{form_of}
-use Rattle.fs_calls.specs.declared.target.PairCall.{PairCall}
 use Rattle.fs_calls.specs.declared.target.Target.{Target}
 use Rattle.fs_calls.specs.declared.target.Target.TheVariants.{Node, Entry, Pair}
 use Rattle.fs_calls.specs.declared.call.Call.{Call}
@@ -15,7 +15,7 @@ use Rattle.fs_walk.specs.declared.head.Head as count
 use Rattle.fs_walk.specs.declared.head.Side.{Side}
 use Rattle.fs_walk.specs.declared.head.Side.TheVariants as sides
 use Rattle.fs_walk.specs.Ways as ways
-use Rattle.fs_walk.specs.Ways.{Way, ForkWay, new_fork, head_name, way_took, may_take, walking, fork_took, has_arrived, has_set_out}
+use Rattle.fs_walk.specs.Ways.{Way, ForkWay, new_fork, head_name, may_take, walking, fork_took, has_arrived, has_set_out}
 use Rattle.fs_machine.specs.Moves.{target, inner, head_took, victim_took, step_or, target_took}
 use Rattle.fs_machine.specs.Records.{Source, Dest, held_on}
 use Rattle.fs_finish.specs.Paths.{first_path}
@@ -64,8 +64,8 @@ inner_dropped k (AtEntry c p) = ap (AtEntry c) (tail_drop k p)
 inner_dropped k (AtPair c p q) = rw (tail_drop k p, tail_drop k q) refl
 
 -- the root is taken
-root_took : (most : ℕ) (call : Call) (stand : Stand) (reserved removed : Option ℕ) (outcome : Outcome) (n : ℕ) → stand.walk.node ≡ None → IsTook (op_value most call stand reserved removed outcome) n (op_value most call (walk_on stand n) reserved removed outcome)
-root_took most call stand reserved removed outcome n e seat place = rw e refl
+root_took : (limits : Limits) (call : Call) (stand : Stand) (reserved removed : Option ℕ) (outcome : Outcome) (n : ℕ) → stand.walk.node ≡ None → IsTook (op_value limits call stand reserved removed outcome) n (op_value limits call (walk_on stand n) reserved removed outcome)
+root_took limits call stand reserved removed outcome n e seat place = rw e refl
 
 -- the position of holdings
 pub holdings_node : (call : Form) (n : ℕ) (behind : Option ℕ) (fork : Option ForkWay) (victim : Option ℕ) → (holdings_with call n behind fork victim).node ≡ n
@@ -73,25 +73,25 @@ holdings_node call n behind None victim = refl
 holdings_node call n behind (Some f) victim = refl
 
 -- a name further
-step_by : (most : ℕ) (call : Call) (stand : Stand) (reserved removed : Option ℕ) (outcome : Outcome) (n m : ℕ) (x : Name) (l : Key) → stand.walk.node ≡ Some m
-    → target (dropped stand.walk.walked (form most call)) ≡ x ∷ l → take (stand.walk.walked + 1) (first_path (form most call)) ≡ take stand.walk.walked (first_path (form most call)) ++ x ∷ []
-    → IsTook (op_value most call stand reserved removed outcome) n (op_value most call (walk_on stand n) reserved removed outcome)
-step_by most call stand reserved removed outcome n m x l at rest more seat place = rw (at, rest, more, inner_dropped stand.walk.walked (form most call), holdings_node (form most call) m (behind_in stand.walk.behind stand.fork) stand.fork stand.victim) refl
+step_by : (limits : Limits) (call : Call) (stand : Stand) (reserved removed : Option ℕ) (outcome : Outcome) (n m : ℕ) (x : Name) (l : Key) → stand.walk.node ≡ Some m
+    → target (dropped stand.walk.walked (form limits call)) ≡ x ∷ l → take (stand.walk.walked + 1) (first_path (form limits call)) ≡ take stand.walk.walked (first_path (form limits call)) ++ x ∷ []
+    → IsTook (op_value limits call stand reserved removed outcome) n (op_value limits call (walk_on stand n) reserved removed outcome)
+step_by limits call stand reserved removed outcome n m x l at rest more seat place = rw (at, rest, more, inner_dropped stand.walk.walked (form limits call), holdings_node (form limits call) m (behind_in stand.walk.behind stand.fork) stand.fork stand.victim) refl
 
-step_took : (most : ℕ) (call : Call) (stand : Stand) (reserved removed : Option ℕ) (outcome : Outcome) (n m : ℕ) → stand.walk.node ≡ Some m → stand.walk.names ≡ length (target (form most call)) → stand.walk.walked < stand.walk.names
-    → IsTook (op_value most call stand reserved removed outcome) n (op_value most call (walk_on stand n) reserved removed outcome)
-step_took most call stand reserved removed outcome n m at names less =
+step_took : (limits : Limits) (call : Call) (stand : Stand) (reserved removed : Option ℕ) (outcome : Outcome) (n m : ℕ) → stand.walk.node ≡ Some m → stand.walk.names ≡ length (target (form limits call)) → stand.walk.walked < stand.walk.names
+    → IsTook (op_value limits call stand reserved removed outcome) n (op_value limits call (walk_on stand n) reserved removed outcome)
+step_took limits call stand reserved removed outcome n m at names less =
     let k = stand.walk.walked in
-    let name : (x : Name) × (slice_get (target (form most call)) k ≡ Some x) = within_some (target (form most call)) k (omega arith) in
-    let rest : target (dropped k (form most call)) ≡ name.0 ∷ drop (suc k) (target (form most call)) = target_drop k (form most call) (omega arith) ∙ ahead_some (target (form most call)) k name.0 name.1 in
-    let whole : slice_get (first_path (form most call)) k ≡ Some name.0 = sym (take_get (length (target (form most call))) k (first_path (form most call)) (omega arith)) ∙ (ap (λ (l : Key). slice_get l k) (target_take (form most call)) ∙ name.1) in
-    step_by most call stand reserved removed outcome n m name.0 (drop (suc k) (target (form most call))) at rest (take_more (first_path (form most call)) k name.0 whole)
+    let name : (x : Name) × (slice_get (target (form limits call)) k ≡ Some x) = within_some (target (form limits call)) k (omega arith) in
+    let rest : target (dropped k (form limits call)) ≡ name.0 ∷ drop (suc k) (target (form limits call)) = target_drop k (form limits call) (omega arith) ∙ ahead_some (target (form limits call)) k name.0 name.1 in
+    let whole : slice_get (first_path (form limits call)) k ≡ Some name.0 = sym (take_get (length (target (form limits call))) k (first_path (form limits call)) (omega arith)) ∙ (ap (λ (l : Key). slice_get l k) (target_take (form limits call)) ∙ name.1) in
+    step_by limits call stand reserved removed outcome n m name.0 (drop (suc k) (target (form limits call))) at rest (take_more (first_path (form limits call)) k name.0 whole)
 
 -- at the target
-arrived_took : (most : ℕ) (call : Call) (stand new : Stand) (reserved removed : Option ℕ) (outcome : Outcome) (n m : ℕ) → stand.walk.node ≡ Some m → stand.walk.names ≡ length (target (form most call)) → stand.walk.walked ≡ stand.walk.names → new.walk ≡ stand.walk
-    → TakesTo (form most call) stand.walk m n stand.fork stand.victim new.fork new.victim → IsTook (op_value most call stand reserved removed outcome) n (op_value most call new reserved removed outcome)
-arrived_took most call stand new reserved removed outcome n m at names all same to seat place =
-    let rest : target (dropped stand.walk.walked (form most call)) ≡ [] = target_drop stand.walk.walked (form most call) (omega arith) ∙ ahead_none (target (form most call)) stand.walk.walked (slice_get_past (target (form most call)) stand.walk.walked (omega arith)) in
+arrived_took : (limits : Limits) (call : Call) (stand new : Stand) (reserved removed : Option ℕ) (outcome : Outcome) (n m : ℕ) → stand.walk.node ≡ Some m → stand.walk.names ≡ length (target (form limits call)) → stand.walk.walked ≡ stand.walk.names → new.walk ≡ stand.walk
+    → TakesTo (form limits call) stand.walk m n stand.fork stand.victim new.fork new.victim → IsTook (op_value limits call stand reserved removed outcome) n (op_value limits call new reserved removed outcome)
+arrived_took limits call stand new reserved removed outcome n m at names all same to seat place =
+    let rest : target (dropped stand.walk.walked (form limits call)) ≡ [] = target_drop stand.walk.walked (form limits call) (omega arith) ∙ ahead_none (target (form limits call)) stand.walk.walked (slice_get_past (target (form limits call)) stand.walk.walked (omega arith)) in
     rw (same, at, rest, to) refl
 
 -- what a head that steps leaves behind, and where it is then
@@ -244,14 +244,14 @@ pair_forks c p q way fork n m at all names forks = go fork (took_forked p q way 
         by false = tt
 
 -- a walk that may take a node takes it
-pub walk_took : (most : ℕ) (call : Call) (stand : Stand) (reserved removed : Option ℕ) (outcome : Outcome) (n : ℕ) → stand.walk.names ≡ length (target (form most call)) → may_take stand.walk ≡ true → IsTook (op_value most call stand reserved removed outcome) n (op_value most call (walk_on stand n) reserved removed outcome)
-walk_took most call stand reserved removed outcome n names may = by_node stand.walk.node refl
+pub walk_took : (limits : Limits) (call : Call) (stand : Stand) (reserved removed : Option ℕ) (outcome : Outcome) (n : ℕ) → stand.walk.names ≡ length (target (form limits call)) → may_take stand.walk ≡ true → IsTook (op_value limits call stand reserved removed outcome) n (op_value limits call (walk_on stand n) reserved removed outcome)
+walk_took limits call stand reserved removed outcome n names may = by_node stand.walk.node refl
   where
-    by_node : (o : Option ℕ) → stand.walk.node ≡ o → IsTook (op_value most call stand reserved removed outcome) n (op_value most call (walk_on stand n) reserved removed outcome)
-    by_node None e = root_took most call stand reserved removed outcome n e
+    by_node : (o : Option ℕ) → stand.walk.node ≡ o → IsTook (op_value limits call stand reserved removed outcome) n (op_value limits call (walk_on stand n) reserved removed outcome)
+    by_node None e = root_took limits call stand reserved removed outcome n e
     by_node (Some m) e =
         let test : nat_lt stand.walk.walked stand.walk.names ≡ true = rw e at may in
-        step_took most call stand reserved removed outcome n m e names (grind (arith, nat_tests))
+        step_took limits call stand reserved removed outcome n m e names (grind (arith, nat_tests))
 
 -- and one that may not has arrived
 pub walk_arrived : (way : Way) → may_take way ≡ false → way.walked ≤ way.names → (way.walked ≡ way.names) × ((m : ℕ) × (way.node ≡ Some m))
@@ -263,22 +263,22 @@ walk_arrived way may within = by_node way.node refl
         let test : nat_lt way.walked way.names ≡ false = rw e at may in
         (grind (arith, nat_tests), (m, e))
 
-pub target_took_is : (most : ℕ) (call : Call) (stand new : Stand) (reserved removed : Option ℕ) (outcome : Outcome) (n : ℕ) → stand.walk.names ≡ length (target (form most call)) → may_take stand.walk ≡ false → stand.walk.walked ≤ stand.walk.names → new.walk ≡ stand.walk
-    → ((at : ℕ) → stand.walk.node ≡ Some at → TakesTo (form most call) stand.walk at n stand.fork stand.victim new.fork new.victim)
-    → IsTook (op_value most call stand reserved removed outcome) n (op_value most call new reserved removed outcome)
-target_took_is most call stand new reserved removed outcome n names may within same to =
+pub target_took_is : (limits : Limits) (call : Call) (stand new : Stand) (reserved removed : Option ℕ) (outcome : Outcome) (n : ℕ) → stand.walk.names ≡ length (target (form limits call)) → may_take stand.walk ≡ false → stand.walk.walked ≤ stand.walk.names → new.walk ≡ stand.walk
+    → ((at : ℕ) → stand.walk.node ≡ Some at → TakesTo (form limits call) stand.walk at n stand.fork stand.victim new.fork new.victim)
+    → IsTook (op_value limits call stand reserved removed outcome) n (op_value limits call new reserved removed outcome)
+target_took_is limits call stand new reserved removed outcome n names may within same to =
     let arrived : (stand.walk.walked ≡ stand.walk.names) × ((m : ℕ) × (stand.walk.node ≡ Some m)) = walk_arrived stand.walk may within in
-    arrived_took most call stand new reserved removed outcome n arrived.1.0 arrived.1.1 names arrived.0 same (to arrived.1.0 arrived.1.1)
+    arrived_took limits call stand new reserved removed outcome n arrived.1.0 arrived.1.1 names arrived.0 same (to arrived.1.0 arrived.1.1)
 
 -- ---- where a call goes, and its heads, are the same by every limit of files
 
-pub target_any : (most other : ℕ) (aim : Target) → target (form_of most aim) ≡ target (form_of other aim)
-target_any most other (Node c p) = refl
-target_any most other (Entry c p) = refl
-target_any most other (Pair c p q) = refl
+pub target_any : (limits other : Limits) (aim : Target) → target (form_of limits aim) ≡ target (form_of other aim)
+target_any limits other (Node c p) = refl
+target_any limits other (Entry c p) = refl
+target_any limits other (Pair c p q) = refl
 
-pub forks_any : (most other : ℕ) (aim : Target) (way : Way) (fork : Option ForkWay) → Forks (form_of most aim) way fork → Forks (form_of other aim) way fork
-forks_any most other aim way None h = tt
-forks_any most other (Node c p) way (Some fork) h = absurd h
-forks_any most other (Entry c p) way (Some fork) h = absurd h
-forks_any most other (Pair c p q) way (Some fork) h = h
+pub forks_any : (limits other : Limits) (aim : Target) (way : Way) (fork : Option ForkWay) → Forks (form_of limits aim) way fork → Forks (form_of other aim) way fork
+forks_any limits other aim way None h = tt
+forks_any limits other (Node c p) way (Some fork) h = absurd h
+forks_any limits other (Entry c p) way (Some fork) h = absurd h
+forks_any limits other (Pair c p q) way (Some fork) h = h

@@ -1,6 +1,7 @@
 -- What the code of a call keeps, seen as an OpValue: counts of walked names in the place of keys.
 use Rattle.std.specs.Prelude.{ℕ, zero, suc, ◌≡◌, ◌+◌, ◌-◌, ◌≤◌, List, ◌++◌, length, take, drop, Option, Some, None}
 use Rattle.fs_names.specs.Keys.{Key, parent_of}
+use Rattle.fs_names.specs.declared.limits.Limits.{Limits}
 use Rattle.fs_calls.specs.Forms.{Form, AtNode, AtEntry, AtPair, by_paths, form}
 use Rattle.fs_calls.specs.declared.errno.Errno.{Errno}
 use Rattle.fs_calls.specs.declared.call.Call.{Call}
@@ -62,13 +63,13 @@ abbrev pub stands : Form → Stand → Option Holdings
 stands call stand = holdings_of call stand.walk.node (behind_in stand.walk.behind stand.fork) stand.fork stand.victim
 
 -- its value, where a file has at most so many bytes
-abbrev pub op_value : ℕ → Call → Stand → Option ℕ → Option ℕ → Outcome → OpValue
-op_value most call stand reserved removed outcome =
+abbrev pub op_value : Limits → Call → Stand → Option ℕ → Option ℕ → Outcome → OpValue
+op_value limits call stand reserved removed outcome =
     record {
       call = call;
-      walked = take stand.walk.walked (first_path (form most call));
-      remaining = dropped stand.walk.walked (form most call);
-      holdings = stands (form most call) stand;
+      walked = take stand.walk.walked (first_path (form limits call));
+      remaining = dropped stand.walk.walked (form limits call);
+      holdings = stands (form limits call) stand;
       reply = reply_of outcome;
       reserved = reserved;
       removed = removed;
@@ -99,9 +100,9 @@ IsReady call st (Open prepared) = Suffices call prepared
 IsReady call st (Fixed reply held) = (gone : List ℕ) × (held ++ gone ≡ taken_if st)
 
 -- what the fields of a call keep: the error that its paths decide is kept from the begin, and the walk goes to the target
-pub record IsOp (most : ℕ) (call : Call) (path_error : Option Errno) (stand : Stand) (outcome : Outcome) : Type 0 where
+pub record IsOp (limits : Limits) (call : Call) (path_error : Option Errno) (stand : Stand) (outcome : Outcome) : Type 0 where
   pub decided : path_error ≡ by_paths call
-  pub names : stand.walk.names ≡ length (target (form most call))
+  pub names : stand.walk.names ≡ length (target (form limits call))
   pub within : stand.walk.walked ≤ stand.walk.names
-  pub forks : Forks (form most call) stand.walk stand.fork
-  pub ready : IsReady (form most call) (stands (form most call) stand) outcome
+  pub forks : Forks (form limits call) stand.walk stand.fork
+  pub ready : IsReady (form limits call) (stands (form limits call) stand) outcome

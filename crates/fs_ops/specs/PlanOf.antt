@@ -6,9 +6,8 @@ use Rattle.fs_names.specs.Parts.{left}
 use Rattle.fs_names.specs.Shapes.{is_full}
 use Rattle.fs_nodes.specs.Graphs.{Graph, entry_shape}
 use Rattle.fs_nodes.specs.Seen.{Seen, IsReal}
-use Rattle.fs_calls.specs.Forms.{Form, AtNode, AtEntry, AtPair, by_paths, new_shape}
-use Rattle.fs_calls.specs.declared.target.PairCall.{PairCall}
-use Rattle.fs_calls.specs.declared.target.PairCall.TheVariants as pairs
+use Rattle.fs_calls.specs.Forms.{Form, AtNode, AtEntry, AtPair, by_paths, new_shape, PairCall}
+use Rattle.fs_calls.specs.Forms as pairs
 use Rattle.fs_calls.specs.Rows.{as_dir, entry_fault, rename_fault, exchange_fault}
 use Rattle.fs_calls.specs.declared.errno.Errno.{Errno}
 use Rattle.fs_calls.specs.declared.errno.Errno.TheVariants.{Enoent}
@@ -47,9 +46,9 @@ IsFound next store = IfFinish next (λ plan. Changes plan (IsReal store))
 
 -- a call on two entries where both heads stand, by how its paths stand to each other and by what kept the heads from both parents
 abbrev pub parents_plan : Graph → PairCall → ℕ → Name → ℕ → Name → Bool → Bool → Bool → Option Errno → Option Errno → Plan
-parents_plan graph pairs.Rename source x dest y same_path above one_parent a b =
+parents_plan graph (pairs.Rename most) source x dest y same_path above one_parent a b =
     pair_plan
-    (rename_fault a b (entry_shape graph source x) same_path (there_by above (entry_shape graph dest y)) (one_parent || not (is_full (graph.shape dest))))
+    (rename_fault a b (entry_shape graph source x) same_path (there_by above (entry_shape graph dest y)) (one_parent || not (is_full most (graph.shape dest))))
     same_path
     (moving (is_some (graph.child dest y)) (graph.child source x))
 parents_plan graph pairs.Exchange source x dest y same_path above one_parent a b =
@@ -66,7 +65,7 @@ pair_plan_at graph c p q st [] =
 -- each form of call where it stands
 abbrev pub plan_at : Graph → Form → Holdings → Plan
 plan_at graph (AtNode c p) st = node_plan (path_error p (graph.shape st.node)) st.node
-plan_at graph (AtEntry c p) st = entry_plan (entry_fault c (dir_error (parent_of p) (graph.shape st.node)) (is_full (graph.shape st.node)) (entry_shape graph st.node (last_of p))) (new_shape c) st.node
+plan_at graph (AtEntry c p) st = entry_plan (entry_fault c (dir_error (parent_of p) (graph.shape st.node)) (graph.shape st.node) (entry_shape graph st.node (last_of p))) (new_shape c) st.node
 plan_at graph (AtPair c p q) st = pair_plan_at graph c p q st (target (AtPair c p q))
 
 -- a call that its paths decide, and else where it stands

@@ -1,10 +1,11 @@
 //! How calls begin.
 
 ghost use Rattle.std.specs.Prelude.{ℕ, ◌≡◌, ◌≢◌, ◌≤◌, ◌↔◌, Err, None, IfOk, OnOk, OnErr, IsSome, length, option_map};
+ghost use Rattle.fs_names.specs.declared.limits.Limits.{Limits};
 ghost use Rattle.fs_nodes.specs.Seen.{seen};
 ghost use Rattle.fs_nodes.specs.Stores.{graph_of, in_use, new_shape};
 ghost use Rattle.fs_calls.specs.Forms.{reserves, reserved_by, new_shape as entry_shape};
-ghost use Rattle.fs_calls.specs.code.Targets.{form_of};
+ghost use Rattle.fs_calls.specs.code.Targets.{form_of, entry_call};
 ghost use Rattle.fs_machine.specs.Moves.{target};
 ghost use Rattle.fs_names.specs.Keys.{parent_of};
 ghost use Rattle.fs_names.specs.Parts.{common};
@@ -40,14 +41,14 @@ macro_rules! kinds {
 
 /// The kind of node that a call on an entry may add.
 fn kind_of(entry: EntryCall) -> Option<Kind>
-    ensures { option_map new_shape result ≡ entry_shape entry }
+    ensures { (limits : Limits) → option_map new_shape result ≡ entry_shape (entry_call limits entry) }
 {
     calls!(kinds(entry))
 }
 
 /// The kind of node that a call reserves a number for.
 fn new_kind(aim: Target<'_>) -> Option<Kind>
-    ensures { (most : ℕ) → option_map new_shape result ≡ reserves (form_of most aim.entry) }
+    ensures { (limits : Limits) → option_map new_shape result ≡ reserves (form_of limits aim.entry) }
 {
     match aim {
         Target::Entry(entry, path) if !path.is_empty() => kind_of(entry),
@@ -67,7 +68,7 @@ fn common_len(path: &Path, other: &Path) -> usize
 
 /// How many names lead to the target of a call.
 pub(crate) fn target_len(aim: Target<'_>) -> usize
-    ensures len { (most : ℕ) → result ≡ length (target (form_of most aim.entry)) }
+    ensures len { (limits : Limits) → result ≡ length (target (form_of limits aim.entry)) }
     ensures most { result ≤ PATH_LIMIT }
 {
     match aim {
@@ -109,7 +110,7 @@ fn prepare(
     ensures granted { OnOk result (memory.new ≡ memory.old) }
     ensures refused { OnErr result (memory.new ≢ memory.old) }
 {
-    let room = Room::new(alloc, memory, limits.file(), call)?;
+    let room = Room::new(alloc, memory, limits, call)?;
     let copy = call.copy_counted(memory)?;
     Ok(Prepared {
         call: copy,

@@ -40,7 +40,7 @@ impl Op {
             plan,
             route,
             self.reserved,
-            self.limits.file(),
+            self.limits,
             prepared,
             store,
         );

@@ -25,15 +25,14 @@ pub struct Op {
 }
 
 impl Model for Op {
-    ghost use Rattle.fs_names.specs.Limits.{file_limit};
     ghost use Rattle.fs_machine.specs.OpValues.{OpValue};
     ghost use Rattle.fs_ops.specs.OpValue.{op_value, with_held, IsOp};
 
     ghost Value = { OpValue };
 
-    ghost view = { λ o. with_held o.outcome (op_value (file_limit o.limits) o.call o.stand o.reserved o.removed o.outcome) };
+    ghost view = { λ o. with_held o.outcome (op_value o.limits o.call o.stand o.reserved o.removed o.outcome) };
 
-    ghost invariant = { λ o. IsOp (file_limit o.limits) o.call o.path_error o.stand o.outcome };
+    ghost invariant = { λ o. IsOp o.limits o.call o.path_error o.stand o.outcome };
 }
 
 impl Op {

@@ -28,7 +28,6 @@ pub struct Prepared {
 }
 
 impl Model for Prepared {
-    ghost use Rattle.fs_names.specs.Limits.{file_limit};
     ghost use Rattle.fs_calls.specs.Forms.{form};
     ghost use Rattle.fs_finish.specs.Rooms.{Suffices};
     ghost use Rattle.fs_machine.specs.OpValues.{OpValue, new_value};
@@ -37,7 +36,7 @@ impl Model for Prepared {
 
     ghost view = { λ p. new_value p.limits p.call p.reserved };
 
-    ghost invariant = { λ p. Suffices (form (file_limit p.limits) p.call) p.room };
+    ghost invariant = { λ p. Suffices (form p.limits p.call) p.room };
 }
 
 impl Prepared {

@@ -4,9 +4,11 @@ ghost use Rattle.std.specs.Prelude.{◌≡◌, ◌≤◌, ℕ, Some, None, cond,
 ghost use Rattle.fs_names.specs.declared.limits.TheConstants.{PATH_LIMIT};
 ghost use Rattle.fs_names.specs.Keys.{parent_of};
 ghost use Rattle.fs_names.specs.Parts.{common};
+ghost use Rattle.fs_names.specs.declared.limits.Limits.{Limits};
+ghost use Rattle.fs_names.specs.declared.limits.Limits.TheVariants.{V1};
 ghost use Rattle.fs_calls.specs.code.Targets.{form_of};
 ghost use Rattle.fs_calls.specs.Forms as forms;
-ghost use Rattle.fs_calls.specs.declared.target.PairCall.{PairCall};
+ghost use Rattle.fs_calls.specs.Forms.{PairCall};
 ghost use Rattle.fs_walk.specs.Ways.{fork_took, has_arrived};
 ghost use Rattle.fs_machine.specs.Moves.{target};
 ghost use Rattle.fs_ops.specs.OpValue.{Forks};
@@ -62,12 +64,12 @@ fn pair_took(source: &Path, dest: &Path, stand: &mut Stand, node: NodeNo)
 /// A call at its target takes a node: one on two entries with one of its heads, or else the victim.
 #[inline(never)]
 fn took_at_target(aim: Target<'_>, stand: &mut Stand, node: NodeNo)
-    requires names { stand.old.walk.names ≡ length (target (form_of 0 aim)) }
+    requires names { stand.old.walk.names ≡ length (target (form_of V1 aim)) }
     requires arrived { stand.old.walk.walked ≡ stand.old.walk.names }
-    requires forks { Forks (form_of 0 aim) stand.old.walk stand.old.fork }
+    requires forks { Forks (form_of V1 aim) stand.old.walk stand.old.fork }
     ensures walk { stand.new.walk ≡ stand.old.walk }
-    ensures forks { (most : ℕ) → Forks (form_of most aim.entry) stand.old.walk stand.new.fork }
-    ensures stands { (most at : ℕ) → stand.old.walk.node ≡ Some at → TakesTo (form_of most aim.entry) stand.old.walk at node stand.old.fork stand.old.victim stand.new.fork stand.new.victim }
+    ensures forks { (limits : Limits) → Forks (form_of limits aim.entry) stand.old.walk stand.new.fork }
+    ensures stands { (limits : Limits) (at : ℕ) → stand.old.walk.node ≡ Some at → TakesTo (form_of limits aim.entry) stand.old.walk at node stand.old.fork stand.old.victim stand.new.fork stand.new.victim }
 {
     match aim {
         Target::Node(_, _) => {}

@@ -4,6 +4,7 @@ use Rattle.std.proofs.Common.{leb}
 use Rattle.std.proofs.lemmas.List.{take_all, take-map}
 use Rattle.std.specs.Borrow.{Bor}
 use Rattle.std.specs.Prelude.{IsTrue, ◌↔◌, if◌then◌else◌}
+use Rattle.fs_names.specs.declared.limits.Limits.{Limits}
 use Rattle.fs_replay.specs.code.Seen.{calls_in}
 use Rattle.std.proofs.lemmas.Bool.{leb-true, leb-false}
 use mathlib.Core.Path.{fun_ext}
@@ -59,24 +60,24 @@ resolves t p n is h = resolve_from t (directories_above t is) p [] n h
 abbrev stat_by : Option Errno → Option Shape → Reply
 stat_by found there = replied (first_failure (found ∷ check (is_missing there) Enoent ∷ [])) (status there)
 
-stat_is : (most : ℕ) (t : Tree) (p : Key) → reply most t (Stat p) ≡ stat_by (resolve (tree_shapes t) p) (tree_shapes t p)
+stat_is : (limits : Limits) (t : Tree) (p : Key) → reply limits t (Stat p) ≡ stat_by (resolve (tree_shapes t) p) (tree_shapes t p)
 unfolding reply fault
-stat_is most t p = refl
+stat_is limits t p = refl
 
 abbrev read_by : Option Errno → Option Shape → ℕ → ℕ → Reply
 read_by found there off count = replied (first_failure (found ∷ check (is_missing there) Enoent ∷ check (is_dir there) Eisdir ∷ [])) (answer.Bytes (take count (drop off (bytes_of there))))
 
-read_is : (most : ℕ) (t : Tree) (p : Key) (off count : ℕ) → reply most t (Read p off count) ≡ read_by (resolve (tree_shapes t) p) (tree_shapes t p) off count
+read_is : (limits : Limits) (t : Tree) (p : Key) (off count : ℕ) → reply limits t (Read p off count) ≡ read_by (resolve (tree_shapes t) p) (tree_shapes t p) off count
 unfolding reply fault
-read_is most t p off count = refl
+read_is limits t p off count = refl
 
 missing : (t : Tree) (p : Key) (found : Option Errno) → look t p ≡ None → StandsAt t p (kind_in (stat_by found None))
 missing t p None h = h
 missing t p (Some e) h = h
 
 -- what is known by the reply to a stat
-pub stat_tells : (most : ℕ) (t : Tree) (p : Key) → IsTree t → StandsAt t p (kind_in (reply most t (Stat p)))
-stat_tells most t p is = subst (λ r. StandsAt t p (kind_in r)) (sym (stat_is most t p)) (go (look t p) refl)
+pub stat_tells : (limits : Limits) (t : Tree) (p : Key) → IsTree t → StandsAt t p (kind_in (reply limits t (Stat p)))
+stat_tells limits t p is = subst (λ r. StandsAt t p (kind_in r)) (sym (stat_is limits t p)) (go (look t p) refl)
   where
     at : (n : Node) → look t p ≡ Some n → stat_by (resolve (tree_shapes t) p) (tree_shapes t p) ≡ stat_by None (shape_of t p (Some n))
     at n h = ap (λ found. stat_by found (tree_shapes t p)) (resolves t p n is h) ∙ ap (λ o. stat_by None (shape_of t p o)) h
@@ -87,9 +88,9 @@ stat_tells most t p is = subst (λ r. StandsAt t p (kind_in r)) (sym (stat_is mo
     go (Some (tree.File bytes)) h = subst (λ r. StandsAt t p (kind_in r)) (sym (at (tree.File bytes) h)) (bytes, h, refl)
 
 -- and by that to a read of all bytes
-pub read_tells : (most : ℕ) (t : Tree) (p : Key) (bytes : List ℕ) (size : ℕ) → IsTree t → look t p ≡ Some (tree.File bytes) → length bytes ≡ size → bytes_in (reply most t (Read p 0 size)) ≡ bytes
-read_tells most t p bytes size is h long =
-    ap bytes_in (read_is most t p 0 size ∙ ap (λ found. read_by found (tree_shapes t p) 0 size) (resolves t p (tree.File bytes) is h) ∙ ap (λ o. read_by None (shape_of t p o) 0 size) h)
+pub read_tells : (limits : Limits) (t : Tree) (p : Key) (bytes : List ℕ) (size : ℕ) → IsTree t → look t p ≡ Some (tree.File bytes) → length bytes ≡ size → bytes_in (reply limits t (Read p 0 size)) ≡ bytes
+read_tells limits t p bytes size is h long =
+    ap bytes_in (read_is limits t p 0 size ∙ ap (λ found. read_by found (tree_shapes t p) 0 size) (resolves t p (tree.File bytes) is h) ∙ ap (λ o. read_by None (shape_of t p o) 0 size) h)
     ∙ take_all size bytes (omega (arith, long))
 
 -- ---- the last change

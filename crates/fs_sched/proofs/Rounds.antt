@@ -1,6 +1,8 @@
 -- Rounds to the end come to an end: each leaves less to do.
 use Rattle.std.proofs.Common.{◌≡◌, ℕ, zero, suc, ◌+◌, ◌<◌, ◌≤◌, ◌||◌, Bool, true, false, List, [], ◌∷◌, length, drop, get_or, slice_get, slice_set, is_some, Option, Some, None, refl, sym, ap, ap₂, ◌∙◌, subst, arith, Ok}
 use Rattle.std.specs.List.{range_with_len}
+use Rattle.fs_names.specs.declared.limits.Limits.{Limits}
+use Rattle.fs_names.specs.declared.limits.Limits.TheVariants.{V1}
 use Rattle.fs_calls.specs.Forms.{form}
 use Rattle.fs_calls.specs.declared.call.Call.{Call}
 use Rattle.fs_calls.specs.declared.call.Call.TheVariants as calls
@@ -31,21 +33,21 @@ owed cost (calls ∷ lists) (n ∷ begun) = cost_of cost (drop n calls) + owed c
 
 -- the steps that a call takes at most, and its begin
 abbrev steps_of : Call → ℕ
-steps_of call = first_steps (form 0 call) + 1
+steps_of call = first_steps (form V1 call) + 1
 
 -- which no limit of files changes
-steps_any : (most : ℕ) (call : Call) → first_steps (form most call) ≡ first_steps (form 0 call)
-steps_any most (calls.Mkdir p) = refl
-steps_any most (calls.Mknod p) = refl
-steps_any most (calls.Unlink p) = refl
-steps_any most (calls.Rmdir p) = refl
-steps_any most (calls.Rename p q) = refl
-steps_any most (calls.Exchange p q) = refl
-steps_any most (calls.Stat p) = refl
-steps_any most (calls.Readdir p) = refl
-steps_any most (calls.Read p off count) = refl
-steps_any most (calls.Write p off bytes) = refl
-steps_any most (calls.Truncate p size) = refl
+steps_any : (limits : Limits) (call : Call) → first_steps (form limits call) ≡ first_steps (form V1 call)
+steps_any limits (calls.Mkdir p) = refl
+steps_any limits (calls.Mknod p) = refl
+steps_any limits (calls.Unlink p) = refl
+steps_any limits (calls.Rmdir p) = refl
+steps_any limits (calls.Rename p q) = refl
+steps_any limits (calls.Exchange p q) = refl
+steps_any limits (calls.Stat p) = refl
+steps_any limits (calls.Readdir p) = refl
+steps_any limits (calls.Read p off count) = refl
+steps_any limits (calls.Write p off bytes) = refl
+steps_any limits (calls.Truncate p size) = refl
 
 -- the events that are not spent and not busy, at most
 abbrev pub left_over : List (List Call) → Stage → ℕ
@@ -80,9 +82,9 @@ same_stage old new a b = ap₂ (λ (s : State) (n : List ℕ). record { state = 
 starts_less : (lists : List (List Call)) (old new : Stage) (seat c : ℕ) (call : Call) → Run old.state → length old.begun ≡ length lists → next_call lists old seat ≡ Some call → Begins old.state seat call (Ok c) new.state
     → new.begun ≡ slice_set old.begun seat (get_or old.begun seat 0 + 1) → left_over lists new + 1 ≤ left_over lists old
 starts_less lists old new seat c call run same is begins set =
-    let a : steps_left new.state ≡ steps_left old.state + first_steps (form 0 call) = adds_work old.state run seat c call new.state begins ∙ ap (λ (n : ℕ). steps_left old.state + n) (steps_any _ call) in
+    let a : steps_left new.state ≡ steps_left old.state + first_steps (form V1 call) = adds_work old.state run seat c call new.state begins ∙ ap (λ (n : ℕ). steps_left old.state + n) (steps_any _ call) in
     let b : owed steps_of lists new.begun ≡ owed steps_of lists (slice_set old.begun seat (get_or old.begun seat 0 + 1)) = ap (owed steps_of lists) set in
-    let d : owed steps_of lists (slice_set old.begun seat (get_or old.begun seat 0 + 1)) + (first_steps (form 0 call) + 1) ≡ owed steps_of lists old.begun = owed_less steps_of lists old.begun seat (get_or old.begun seat 0 + 1) call same (omega arith) is in
+    let d : owed steps_of lists (slice_set old.begun seat (get_or old.begun seat 0 + 1)) + (first_steps (form V1 call) + 1) ≡ owed steps_of lists old.begun = owed_less steps_of lists old.begun seat (get_or old.begun seat 0 + 1) call same (omega arith) is in
     omega (arith, a, b, d)
 
 -- it leaves all as it was, or less to do

@@ -2,7 +2,7 @@
 use Rattle.std.proofs.Common.{◌≡◌, ℕ, zero, suc, Bool, true, false, List, [], ◌∷◌, ◌++◌, length, get_or, replicate, Option, Some, None, slice_get, sym, ap, ◌∙◌, subst, Ok}
 use Rattle.std.specs.List.{AllByRecursion, range_with_len}
 use Rattle.fs_names.specs.Names.{Name}
-use Rattle.fs_names.specs.Limits.{name_limit, file_limit}
+use Rattle.fs_names.specs.Limits.{name_limit}
 use Rattle.fs_names.specs.Shapes.{Shape}
 use Rattle.fs_names.specs.declared.limits.Limits.{Limits}
 use Rattle.fs_names.specs.declared.limits.Limits.TheVariants.{V2}
@@ -156,7 +156,7 @@ short_nodes more most [] h s = tt
 short_nodes more most ((key, Dir) ∷ t) h s = (short_names more most key h.0 s.0, short_nodes more most t h.1 s.1)
 short_nodes more most ((key, File bytes) ∷ t) h s = ((short_names more most key h.0.0 s.0, h.0.1), short_nodes more most t h.1 s.1)
 
-pub again_short : (limits : Limits) (start : Start) (es : List Entry) → IsWithinLimits (file_limit start.limits) start.tree → IsToldFit start → AllFit (name_limit V2) es
+pub again_short : (limits : Limits) (start : Start) (es : List Entry) → IsWithinLimits start.limits start.tree → IsToldFit start → AllFit (name_limit V2) es
     → AllByRecursion (NamesEntry (IsShort (name_limit limits))) es → NamesTree (IsShort (name_limit limits)) start.tree → start.limits ≡ limits → IsReadAgain start es
 again_short limits start es within told fit entries tree kept short =
     let named = subst (λ (l : Limits). AllByRecursion (NamesEntry (IsShort (name_limit l))) es) (sym kept) entries in

@@ -5,8 +5,8 @@ use Rattle.fs_names.specs.Names.{Name, has_name}
 use Rattle.fs_names.specs.Shapes as shape
 use Rattle.fs_names.specs.Shapes.{Shape}
 use Rattle.fs_names.proofs.Lemmas.{same_name_refl}
+use Rattle.fs_names.specs.Limits.{entry_limit}
 use Rattle.fs_calls.specs.Sights.{tree_shapes, shape_of}
-use Rattle.fs_names.specs.Limits.{file_limit}
 use Rattle.fs_calls.specs.Tree.{Node, Dir, look, names_in}
 use Rattle.fs_calls.specs.Starts.{Start}
 use Rattle.fs_nodes.specs.Graphs.{Graph, numbers, then_at}
@@ -42,18 +42,18 @@ there start b d y ys e = go (look start.tree (d ++ y ∷ [])) refl (sym (old_has
     go None f h = absurd (let z : ◌≡◌ {A = Bool} false true = h in cc)
     go (Some n) f h = b.is.tree.inside d y n f
 
-within : (start : Start) → Begins start → IsWithinLimits (file_limit start.limits) start.tree
+within : (start : Start) → Begins start → IsWithinLimits start.limits start.tree
 within start b = record {
   tree = b.is.tree;
   entries = λ d. few d (names_in start.tree d) refl;
   bytes = λ k bytes e. (let n : (n : ℕ) × (b.graph.shape n ≡ Some (shape.File bytes)) = node_at start b k (shape.File bytes) (ap (shape_of start.tree k) e) in b.is.bounded.bytes n.0 bytes n.1);
 }
   where
-    few : (d : Key) (names : List Name) → names_in start.tree d ≡ names → length (names_in start.tree d) ≤ 256
+    few : (d : Key) (names : List Name) → names_in start.tree d ≡ names → length (names_in start.tree d) ≤ entry_limit start.limits
     few d [] e = let z : length (names_in start.tree d) ≡ 0 = ap length e in omega (arith, z)
     few d (y ∷ ys) e =
         let n : (n : ℕ) × (b.graph.shape n ≡ Some (shape.Dir (names_in start.tree d))) = node_at start b d (shape.Dir (names_in start.tree d)) (ap (shape_of start.tree d) (there start b d y ys e)) in
         b.is.bounded.entries n.0 (names_in start.tree d) n.1
 
-pub starts_within : (s : State) → Run s → IsWithinLimits (file_limit s.start.limits) s.start.tree
+pub starts_within : (s : State) → Run s → IsWithinLimits s.start.limits s.start.tree
 starts_within s run = within s.start (begins s run)

@@ -11,7 +11,7 @@ use Rattle.percent_encoding.specs.Percent.{percent_encode_byte}
 use Rattle.percent_encoding.proofs.PercentLemmas.{IsEscapeByte, All-percent_encode_byte}
 use Rattle.fs_names.specs.Names.{Name, IsName}
 use Rattle.fs_names.specs.Keys.{Key}
-use Rattle.fs_names.specs.Limits.{name_limit, file_limit}
+use Rattle.fs_names.specs.Limits.{name_limit}
 use Rattle.fs_names.specs.declared.limits.Limits.{Limits}
 use Rattle.fs_names.specs.declared.limits.Limits.TheVariants.{V1, V2}
 use Rattle.fs_names.specs.Reading.{is_slash}
@@ -146,14 +146,14 @@ not_entries (key, File bytes) = refl
 abbrev Told : Limits → List (Key × Node) → Type 0
 Told limits u = AllByRecursion (FitsNode (name_limit limits)) u
 
-grows : (limits : Limits) (first : Key × Node) (t : Tree) (e : Key × Node) (u : Tree) → IsWithinLimits (file_limit limits) (first ∷ (t ++ e ∷ u)) → grown limits (first ∷ t) (told_of e) ≡ Ok (first ∷ (t ++ e ∷ []))
-grows limits first t (key, Dir) u within = cond-true _ _ _ (node_fits (file_limit limits) first t key kinds.Dir [] u within refl)
-grows limits first t (key, File bytes) u within = cond-true _ _ _ (node_fits (file_limit limits) first t key kinds.File bytes u within refl)
+grows : (limits : Limits) (first : Key × Node) (t : Tree) (e : Key × Node) (u : Tree) → IsWithinLimits limits (first ∷ (t ++ e ∷ u)) → grown limits (first ∷ t) (told_of e) ≡ Ok (first ∷ (t ++ e ∷ []))
+grows limits first t (key, Dir) u within = cond-true _ _ _ (node_fits limits first t key kinds.Dir [] u within refl)
+grows limits first t (key, File bytes) u within = cond-true _ _ _ (node_fits limits first t key kinds.File bytes u within refl)
 
 abbrev rest_lines : List (Key × Node) → List Entry → List (List ℕ)
 rest_lines u es = map line_of u ++ codes "entries" ∷ map joined es
 
-started_again : (limits : Limits) (first : Key × Node) (t u : Tree) (n : ℕ) (es : List Entry) → IsWithinLimits (file_limit limits) (first ∷ (t ++ u)) → Told limits u → AllFit (name_limit limits) es
+started_again : (limits : Limits) (first : Key × Node) (t u : Tree) (n : ℕ) (es : List Entry) → IsWithinLimits limits (first ∷ (t ++ u)) → Told limits u → AllFit (name_limit limits) es
     → started_from limits (first ∷ t) n (rest_lines u es) ≡ Ok (starting limits (first ∷ (t ++ u)), es)
 unfolding started_from
 started_again limits first t [] n es within told fit =
@@ -162,7 +162,7 @@ started_again limits first t (e ∷ u) n es within told fit =
     cond-false _ _ _ (not_passed e) ∙ cond-false _ _ _ (not_entries e)
     ∙ ap (λ r. in_start n (r >>= grown limits (first ∷ t)) >>= λ v. started_from limits v (n + 1) (rest_lines u es)) (node_again (name_limit limits) e told.0)
     ∙ ap (λ r. in_start n r >>= λ v. started_from limits v (n + 1) (rest_lines u es)) (grows limits first t e u within)
-    ∙ started_again limits first (t ++ e ∷ []) u (n + 1) es (subst (λ (z : Tree). IsWithinLimits (file_limit limits) (first ∷ z)) (sym (append_assoc t (e ∷ []) u)) within) told.1 fit
+    ∙ started_again limits first (t ++ e ∷ []) u (n + 1) es (subst (λ (z : Tree). IsWithinLimits limits (first ∷ z)) (sym (append_assoc t (e ∷ []) u)) within) told.1 fit
     ∙ ap (λ (z : Tree). Ok (starting limits (first ∷ z), es)) (append_assoc t (e ∷ []) u)
 
 -- ---- the lines of the text
@@ -229,7 +229,7 @@ unfolding journal_of
 read_by V1 text more lines are is = cond-false _ _ _ (ap (first_is (started_header V2)) are) ∙ told_by V1 text _ lines is
 read_by V2 text more lines are is = told_by V2 text _ lines is
 
-told_again : (limits : Limits) (u : Tree) (es : List Entry) → IsWithinLimits (file_limit limits) (([], Dir) ∷ u) → AreTold (starting limits (([], Dir) ∷ u)) → Told limits (([], Dir) ∷ u) → AllFit (name_limit limits) es
+told_again : (limits : Limits) (u : Tree) (es : List Entry) → IsWithinLimits limits (([], Dir) ∷ u) → AreTold (starting limits (([], Dir) ∷ u)) → Told limits (([], Dir) ∷ u) → AllFit (name_limit limits) es
     → length (journal_text (starting limits (([], Dir) ∷ u)) es) ≤ 16777216 → journal_of (journal_text (starting limits (([], Dir) ∷ u)) es) ≡ Ok (starting limits (([], Dir) ∷ u), es)
 told_again limits u es within is told fit short =
     let start : Start = starting limits (([], Dir) ∷ u) in

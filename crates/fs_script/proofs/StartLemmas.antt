@@ -4,14 +4,13 @@ use Rattle.std.specs.Prelude.{MatchResult}
 use Rattle.std.specs.Str.{bytes_eq}
 use Rattle.std.proofs.lemmas.Bool.{cond-true, cond-false}
 use Rattle.fs_names.specs.Keys.{Key, is_root}
-use Rattle.fs_names.specs.Limits.{name_limit, file_limit}
+use Rattle.fs_names.specs.Limits.{name_limit, entry_limit, file_limit}
 use Rattle.fs_names.specs.declared.limits.Limits.{Limits}
 use Rattle.fs_names.specs.declared.kind.Kind.{Kind}
 use Rattle.fs_names.specs.declared.kind.Kind.TheVariants.{Dir}
 use Rattle.fs_calls.specs.Tree.{Tree, Node, root_tree, look, names_in}
 use Rattle.fs_calls.specs.Tree.{Dir as IsDir, File as IsFile}
 use Rattle.fs_calls.proofs.TreeLaws.{played_trees_are_trees}
-use Rattle.fs_names.specs.declared.limits.TheConstants.{ENTRY_LIMIT}
 use Rattle.fs_calls.specs.Starts.{Start}
 use Rattle.fs_calls.specs.Sights.{has_any}
 use Rattle.fs_timeline.specs.declared.entry.Entry.{Entry}
@@ -71,12 +70,12 @@ grown_or true n k x f = refl
 grown_or false n k x f = refl
 
 step_row : (limits : Limits) (t : Tree) (n : ℕ) (line : List ℕ) (more : List (List ℕ)) (row : Row) → is_passed_over line ≡ false → bytes_eq line (codes "entries") ≡ false → node_in_line (name_limit limits) line ≡ Ok (node_of_row row)
-    → started_from limits t n (line ∷ more) ≡ cond {A = Read} (fits (file_limit limits) t row) (started_from limits (t ++ row_of row ∷ []) (n + 1) more) (Err (fault_at n kind.BadStart))
+    → started_from limits t n (line ∷ more) ≡ cond {A = Read} (fits limits t row) (started_from limits (t ++ row_of row ∷ []) (n + 1) more) (Err (fault_at n kind.BadStart))
 unfolding started_from
 step_row limits t n line more row p other is =
     cond-false _ _ _ p ∙ cond-false _ _ _ other
     ∙ ap (λ r. in_start n (r >>= grown limits t) >>= λ u. started_from limits u (n + 1) more) is
-    ∙ grown_or (fits (file_limit limits) t row) n kind.BadStart (t ++ row_of row ∷ []) (λ u. started_from limits u (n + 1) more)
+    ∙ grown_or (fits limits t row) n kind.BadStart (t ++ row_of row ∷ []) (λ u. started_from limits u (n + 1) more)
 
 step_wrong : (limits : Limits) (t : Tree) (n : ℕ) (line : List ℕ) (more : List (List ℕ)) (k : FaultKind) → is_passed_over line ≡ false → bytes_eq line (codes "entries") ≡ false → node_in_line (name_limit limits) line ≡ Err k → started_from limits t n (line ∷ more) ≡ Err (fault_at n kind.BadStart)
 unfolding started_from
@@ -94,14 +93,14 @@ step_none limits t n = refl
 pub rest_same : (limits : Limits) (t : Tree) (ns : List ℕ) (rows : List Row) (f g : Start → Read) → ((u : Tree) → f (starting limits u) ≡ g (starting limits u)) → behind_rows limits t ns rows f ≡ behind_rows limits t ns rows g
 rest_same limits t ns [] f g same = same t
 rest_same limits t [] (row ∷ rows) f g same = same t
-rest_same limits t (n ∷ ns) (row ∷ rows) f g same = ap (λ r. cond {A = Read} (fits (file_limit limits) t row) r (Err (fault_at n kind.BadStart))) (rest_same limits (t ++ row_of row ∷ []) ns rows f g same)
+rest_same limits t (n ∷ ns) (row ∷ rows) f g same = ap (λ r. cond {A = Read} (fits limits t row) r (Err (fault_at n kind.BadStart))) (rest_same limits (t ++ row_of row ∷ []) ns rows f g same)
 
 one_more : (limits : Limits) (t : Tree) (ns : List ℕ) (rows : List Row) (n : ℕ) (row : Row) (f : Start → Read) → length ns ≡ length rows
-    → behind_rows limits t (ns ++ n ∷ []) (rows ++ row ∷ []) f ≡ behind_rows limits t ns rows (λ (s : Start). cond {A = Read} (fits (file_limit limits) s.tree row) (f (starting limits (s.tree ++ row_of row ∷ []))) (Err (fault_at n kind.BadStart)))
+    → behind_rows limits t (ns ++ n ∷ []) (rows ++ row ∷ []) f ≡ behind_rows limits t ns rows (λ (s : Start). cond {A = Read} (fits limits s.tree row) (f (starting limits (s.tree ++ row_of row ∷ []))) (Err (fault_at n kind.BadStart)))
 one_more limits t [] [] n row f each = refl
 one_more limits t [] (r ∷ rows) n row f each = absurd (omega (arith, each))
 one_more limits t (m ∷ ns) [] n row f each = absurd (omega (arith, each))
-one_more limits t (m ∷ ns) (r ∷ rows) n row f each = ap (λ q. cond {A = Read} (fits (file_limit limits) t r) q (Err (fault_at m kind.BadStart))) (one_more limits (t ++ row_of r ∷ []) ns rows n row f (omega (arith, each)))
+one_more limits t (m ∷ ns) (r ∷ rows) n row f each = ap (λ q. cond {A = Read} (fits limits t r) q (Err (fault_at m kind.BadStart))) (one_more limits (t ++ row_of r ∷ []) ns rows n row f (omega (arith, each)))
 
 -- where a reader of rows stands
 abbrev pub At : LinesLeft → Start → Read
@@ -126,8 +125,8 @@ row_taken limits old left new before rows after numbers more_numbers line row ta
       ap length numbered ∙ omega (arith, one, other, same);
   read = λ t.
       taken.read t
-      ∙ rest_same limits t numbers taken.more (At left) (λ (s : Start). cond {A = Read} (fits (file_limit limits) s.tree row) (started_from limits (s.tree ++ row_of row ∷ []) (line.number + 1) new.lines) (Err (fault_at line.number kind.BadStart))) (λ u. next_line limits u left new line next ∙ step_row limits u line.number line.text.now new.lines row next.taken other is)
-      ∙ rest_same limits t numbers taken.more (λ (s : Start). cond {A = Read} (fits (file_limit limits) s.tree row) (started_from limits (s.tree ++ row_of row ∷ []) (line.number + 1) new.lines) (Err (fault_at line.number kind.BadStart))) (λ (s : Start). cond {A = Read} (fits (file_limit limits) s.tree row) (At new (starting limits (s.tree ++ row_of row ∷ []))) (Err (fault_at line.number kind.BadStart))) (λ u. ap (λ n. cond {A = Read} (fits (file_limit limits) u row) (started_from limits (u ++ row_of row ∷ []) n new.lines) (Err (fault_at line.number kind.BadStart))) (sym next.number))
+      ∙ rest_same limits t numbers taken.more (At left) (λ (s : Start). cond {A = Read} (fits limits s.tree row) (started_from limits (s.tree ++ row_of row ∷ []) (line.number + 1) new.lines) (Err (fault_at line.number kind.BadStart))) (λ u. next_line limits u left new line next ∙ step_row limits u line.number line.text.now new.lines row next.taken other is)
+      ∙ rest_same limits t numbers taken.more (λ (s : Start). cond {A = Read} (fits limits s.tree row) (started_from limits (s.tree ++ row_of row ∷ []) (line.number + 1) new.lines) (Err (fault_at line.number kind.BadStart))) (λ (s : Start). cond {A = Read} (fits limits s.tree row) (At new (starting limits (s.tree ++ row_of row ∷ []))) (Err (fault_at line.number kind.BadStart))) (λ u. ap (λ n. cond {A = Read} (fits limits u row) (started_from limits (u ++ row_of row ∷ []) n new.lines) (Err (fault_at line.number kind.BadStart))) (sym next.number))
       ∙ sym (one_more limits t numbers taken.more line.number row (At new) taken.each)
       ∙ ap (λ ns. behind_rows limits t ns (taken.more ++ row ∷ []) (At new)) (sym numbered);
 }
@@ -156,13 +155,13 @@ none_told o told h is = subst (λ (q : Option Row). IsToldBy q told) is h
 
 -- ---- rows that make a tree
 
-rows_fit : (limits : Limits) (t : Tree) (p : ℕ) (ns : List ℕ) (rows : List Row) (rest : Start → Read) → length ns ≡ length rows → misfit_from (file_limit limits) t p rows ≡ None → behind_rows limits t ns rows rest ≡ rest (starting limits (t ++ map row_of rows))
+rows_fit : (limits : Limits) (t : Tree) (p : ℕ) (ns : List ℕ) (rows : List Row) (rest : Start → Read) → length ns ≡ length rows → misfit_from limits t p rows ≡ None → behind_rows limits t ns rows rest ≡ rest (starting limits (t ++ map row_of rows))
 rows_fit limits t p ns [] rest each fit = ap (λ u. rest (starting limits u)) (sym (append-nil t))
 rows_fit limits t p [] (row ∷ rows) rest each fit = absurd (omega (arith, each))
-rows_fit limits t p (n ∷ ns) (row ∷ rows) rest each fit = go (fits (file_limit limits) t row) refl fit (λ h. rows_fit limits (t ++ row_of row ∷ []) (p + 1) ns rows rest (omega (arith, each)) h)
+rows_fit limits t p (n ∷ ns) (row ∷ rows) rest each fit = go (fits limits t row) refl fit (λ h. rows_fit limits (t ++ row_of row ∷ []) (p + 1) ns rows rest (omega (arith, each)) h)
   where
-    go : (b : Bool) → fits (file_limit limits) t row ≡ b → cond {A = Option ℕ} b (misfit_from (file_limit limits) (t ++ row_of row ∷ []) (p + 1) rows) (Some p) ≡ None
-        → (misfit_from (file_limit limits) (t ++ row_of row ∷ []) (p + 1) rows ≡ None → behind_rows limits (t ++ row_of row ∷ []) ns rows rest ≡ rest (starting limits ((t ++ row_of row ∷ []) ++ map row_of rows)))
+    go : (b : Bool) → fits limits t row ≡ b → cond {A = Option ℕ} b (misfit_from limits (t ++ row_of row ∷ []) (p + 1) rows) (Some p) ≡ None
+        → (misfit_from limits (t ++ row_of row ∷ []) (p + 1) rows ≡ None → behind_rows limits (t ++ row_of row ∷ []) ns rows rest ≡ rest (starting limits ((t ++ row_of row ∷ []) ++ map row_of rows)))
         → behind_rows limits t (n ∷ ns) (row ∷ rows) rest ≡ rest (starting limits (t ++ row_of row ∷ map row_of rows))
     go true e h later = cond-true _ _ _ e ∙ later h ∙ ap (λ u. rest (starting limits u)) (append_assoc t (row_of row ∷ []) (map row_of rows))
     go false e h later = absurd (cc)
@@ -177,13 +176,13 @@ record IsMisfit (limits : Limits) (t : Tree) (p : ℕ) (ns : List ℕ) (rows : L
   high : place - p < length rows
   read : (rest : Start → Read) → behind_rows limits t ns rows rest ≡ Err (fault_at (get_or ns (place - p) 0) kind.BadStart)
 
-row_misfits : (limits : Limits) (t : Tree) (p : ℕ) (ns : List ℕ) (rows : List Row) (place : ℕ) → length ns ≡ length rows → misfit_from (file_limit limits) t p rows ≡ Some place → IsMisfit limits t p ns rows place
+row_misfits : (limits : Limits) (t : Tree) (p : ℕ) (ns : List ℕ) (rows : List Row) (place : ℕ) → length ns ≡ length rows → misfit_from limits t p rows ≡ Some place → IsMisfit limits t p ns rows place
 row_misfits limits t p ns [] place each bad = absurd (cc)
 row_misfits limits t p [] (row ∷ rows) place each bad = absurd (omega (arith, each))
-row_misfits limits t p (n ∷ ns) (row ∷ rows) place each bad = go (fits (file_limit limits) t row) refl bad (λ h. row_misfits limits (t ++ row_of row ∷ []) (p + 1) ns rows place (omega (arith, each)) h)
+row_misfits limits t p (n ∷ ns) (row ∷ rows) place each bad = go (fits limits t row) refl bad (λ h. row_misfits limits (t ++ row_of row ∷ []) (p + 1) ns rows place (omega (arith, each)) h)
   where
-    go : (b : Bool) → fits (file_limit limits) t row ≡ b → cond {A = Option ℕ} b (misfit_from (file_limit limits) (t ++ row_of row ∷ []) (p + 1) rows) (Some p) ≡ Some place
-        → (misfit_from (file_limit limits) (t ++ row_of row ∷ []) (p + 1) rows ≡ Some place → IsMisfit limits (t ++ row_of row ∷ []) (p + 1) ns rows place)
+    go : (b : Bool) → fits limits t row ≡ b → cond {A = Option ℕ} b (misfit_from limits (t ++ row_of row ∷ []) (p + 1) rows) (Some p) ≡ Some place
+        → (misfit_from limits (t ++ row_of row ∷ []) (p + 1) rows ≡ Some place → IsMisfit limits (t ++ row_of row ∷ []) (p + 1) ns rows place)
         → IsMisfit limits t p (n ∷ ns) (row ∷ rows) place
     go true e h later =
         let found = later h in
@@ -217,19 +216,19 @@ root_is root is = ap (λ (n : Key × Kind × List ℕ). (n.0, node_of_kind n.1 n
 root_first : (root : Row) → IsRootRow root → is_first root ≡ true
 root_first root is = ap (λ (n : Key × Kind × List ℕ). is_root n.0 && is_dirs n.1 && not (has_any n.2)) is
 
-misfit_more : (limits : Limits) (root : Row) (more : List Row) → IsRootRow root → misfit (file_limit limits) (root ∷ more) ≡ misfit_from (file_limit limits) root_tree 2 more
-misfit_more limits root more is = cond-true _ _ _ (root_first root is) ∙ ap (λ (r : Key × Node). misfit_from (file_limit limits) (r ∷ []) 2 more) (root_is root is)
+misfit_more : (limits : Limits) (root : Row) (more : List Row) → IsRootRow root → misfit limits (root ∷ more) ≡ misfit_from limits root_tree 2 more
+misfit_more limits root more is = cond-true _ _ _ (root_first root is) ∙ ap (λ (r : Key × Node). misfit_from limits (r ∷ []) 2 more) (root_is root is)
 
-pub made : (limits : Limits) (rows : List Row) (numbers : List ℕ) (start : Start) → AreNumbered rows numbers → start ≡ starting limits (map row_of rows) → misfit (file_limit limits) rows ≡ None → MakesTree limits rows numbers (Ok start)
+pub made : (limits : Limits) (rows : List Row) (numbers : List ℕ) (start : Start) → AreNumbered rows numbers → start ≡ starting limits (map row_of rows) → misfit limits rows ≡ None → MakesTree limits rows numbers (Ok start)
 made limits rows numbers start (root, more, is_root_row, is, each) told fit =
     subst (λ (rs : List Row). MakesTree limits rs numbers (Ok start)) (sym is) (λ rest.
-    rows_fit limits root_tree 2 numbers more rest each (sym (misfit_more limits root more is_root_row) ∙ ap (misfit (file_limit limits)) (sym is) ∙ fit)
+    rows_fit limits root_tree 2 numbers more rest each (sym (misfit_more limits root more is_root_row) ∙ ap (misfit limits) (sym is) ∙ fit)
     ∙ ap rest (sym (told ∙ ap (λ (rs : List Row). starting limits (map row_of rs)) is ∙ ap (λ (r : Key × Node). starting limits (r ∷ map row_of more)) (root_is root is_root_row))))
 
-misfit_at : (limits : Limits) (rows : List Row) (numbers : List ℕ) (place : ℕ) (h : AreNumbered rows numbers) → misfit (file_limit limits) rows ≡ Some place → IsMisfit limits root_tree 2 numbers h.1 place
-misfit_at limits rows numbers place (root, more, is_root_row, is, each) bad = row_misfits limits root_tree 2 numbers more place each (sym (misfit_more limits root more is_root_row) ∙ ap (misfit (file_limit limits)) (sym is) ∙ bad)
+misfit_at : (limits : Limits) (rows : List Row) (numbers : List ℕ) (place : ℕ) (h : AreNumbered rows numbers) → misfit limits rows ≡ Some place → IsMisfit limits root_tree 2 numbers h.1 place
+misfit_at limits rows numbers place (root, more, is_root_row, is, each) bad = row_misfits limits root_tree 2 numbers more place each (sym (misfit_more limits root more is_root_row) ∙ ap (misfit limits) (sym is) ∙ bad)
 
-pub place_within : (limits : Limits) (rows : List Row) (numbers : List ℕ) (place : ℕ) → AreNumbered rows numbers → misfit (file_limit limits) rows ≡ Some place → (2 ≤ place) × (place - 2 < length numbers)
+pub place_within : (limits : Limits) (rows : List Row) (numbers : List ℕ) (place : ℕ) → AreNumbered rows numbers → misfit limits rows ≡ Some place → (2 ≤ place) × (place - 2 < length numbers)
 place_within limits rows numbers place h bad =
     let at = misfit_at limits rows numbers place h bad in
     let low : 2 ≤ place = at.low in
@@ -237,7 +236,7 @@ place_within limits rows numbers place h bad =
     let each : length numbers ≡ length h.1 = h.4 in
     (low, omega (arith, high, each))
 
-pub faulted : (limits : Limits) (rows : List Row) (numbers : List ℕ) (place n : ℕ) → AreNumbered rows numbers → misfit (file_limit limits) rows ≡ Some place → n ≡ get_or numbers (place - 2) 0 → MakesTree limits rows numbers (Err (fault_at n kind.BadStart))
+pub faulted : (limits : Limits) (rows : List Row) (numbers : List ℕ) (place n : ℕ) → AreNumbered rows numbers → misfit limits rows ≡ Some place → n ≡ get_or numbers (place - 2) 0 → MakesTree limits rows numbers (Err (fault_at n kind.BadStart))
 faulted limits rows numbers place n h bad at =
     subst (λ (rs : List Row). MakesTree limits rs numbers (Err (fault_at n kind.BadStart))) (sym h.3) (λ rest.
     (misfit_at limits rows numbers place h bad).read rest ∙ ap bad_at (sym at))
@@ -272,14 +271,14 @@ read_behind limits old before rows numbers rest result (root, is_root_row, is) t
     subst (λ (r : Read). MatchResult result (λ tree. r ≡ rest tree) (λ f. FailsThere f.line f.kind r)) (sym whole) (made_of rest)
 
 -- the root alone is within the limits
-pub root_within : (most : ℕ) → IsWithinLimits most root_tree
+pub root_within : (limits : Limits) → IsWithinLimits limits root_tree
 unfolding look
-root_within most = record { tree = played_trees_are_trees.0; entries = few; bytes = none }
+root_within limits = record { tree = played_trees_are_trees.0; entries = few; bytes = none }
   where
-    few : (d : Key) → length (names_in root_tree d) ≤ ENTRY_LIMIT
+    few : (d : Key) → length (names_in root_tree d) ≤ entry_limit limits
     few [] = omega arith
     few (x ∷ d) = omega arith
 
-    none : (k : Key) (bytes : List ℕ) → look root_tree k ≡ Some (IsFile bytes) → length bytes ≤ most
+    none : (k : Key) (bytes : List ℕ) → look root_tree k ≡ Some (IsFile bytes) → length bytes ≤ file_limit limits
     none [] bytes e = absurd (let dir : ◌≡◌ {A = Option Node} (Some IsDir) (Some (IsFile bytes)) = e in cc)
     none (x ∷ k) bytes e = absurd (let missing : ◌≡◌ {A = Option Node} None (Some (IsFile bytes)) = e in cc)

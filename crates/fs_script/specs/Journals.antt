@@ -3,7 +3,7 @@ use Rattle.std.specs.Prelude.{ℕ, ◌+◌, ◌-◌, slice_index, take, drop, Bo
 use Rattle.std.specs.List.{flat_map, join_with_byte, slice_split}
 use Rattle.std.specs.Str.{bytes_eq}
 use Rattle.fs_names.specs.Keys.{Key}
-use Rattle.fs_names.specs.Limits.{name_limit, file_limit}
+use Rattle.fs_names.specs.Limits.{name_limit}
 use Rattle.fs_names.specs.declared.limits.Limits.{Limits}
 use Rattle.fs_names.specs.declared.limits.Limits.TheVariants.{V1, V2}
 use Rattle.fs_names.specs.Reading.{is_slash}
@@ -67,7 +67,7 @@ node_in_line most line = words_of line >>= node_at most >>= λ n. if bytes_eq li
 
 -- the tree with one node more, where it fits by these limits
 abbrev pub grown : Limits → Tree → Key × Kind × List ℕ → Result Tree FaultKind
-grown limits t n = if fits_at (file_limit limits) t n.0 n.1 n.2 then Ok (t ++ (n.0, node_of_kind n.1 n.2) ∷ []) else Err kind.BadStart
+grown limits t n = if fits_at limits t n.0 n.1 n.2 then Ok (t ++ (n.0, node_of_kind n.1 n.2) ∷ []) else Err kind.BadStart
 
 -- whatever is wrong with a line of a start tree, the fault is the same
 abbrev pub in_start : {X : Type 0} → ℕ → Result X FaultKind → Result X ScriptFault

@@ -3,7 +3,7 @@ use Rattle.std.specs.Prelude.{ℕ, ◌≡◌, ◌≤◌, true, List, length, Ok}
 use Rattle.std.specs.List.{AllByRecursion}
 use Rattle.fs_names.specs.Names.{AreBytes}
 use Rattle.fs_names.specs.Keys.{Key}
-use Rattle.fs_names.specs.Limits.{name_limit, file_limit}
+use Rattle.fs_names.specs.Limits.{name_limit}
 use Rattle.fs_calls.specs.Tree.{Node, Dir, File}
 use Rattle.fs_calls.specs.Starts.{Start}
 use Rattle.fs_timeline.specs.declared.entry.Entry.{Entry}
@@ -27,7 +27,7 @@ FitsNode most (key, File bytes) = AllByRecursion (FitsName most) key × AreBytes
 
 -- a start tree within its limits; where it is told, its nodes have such names and bytes
 pub record FitsStart (start : Start) : Type 0 where
-  pub within : IsTreeWithinLimits (file_limit start.limits) start.tree
+  pub within : IsTreeWithinLimits start.limits start.tree
   pub told : is_told start.limits (length start.tree) ≡ true → AllByRecursion (FitsNode (name_limit start.limits)) start.tree
 
 -- a journal that was written is read again as the same start and the same entries, where their names keep its limit

@@ -4,7 +4,7 @@ ghost use Rattle.std.specs.Prelude.{◌≡◌, ◌∷◌, ◌++◌, ◌==◌, �
 ghost use Rattle.std.specs.List.{slice_split, join_with_byte};
 ghost use Rattle.std.specs.Str.{bytes_eq};
 ghost use Rattle.fs_names.specs.Reading.{is_slash};
-ghost use Rattle.fs_names.specs.Limits.{file_limit, name_limit};
+ghost use Rattle.fs_names.specs.Limits.{name_limit};
 ghost use Rattle.fs_seq.specs.Rows.{key_of, node_of_kind, row_of, is_first, IsWithinLimits};
 ghost use Rattle.fs_names.specs.declared.limits.Limits.TheVariants.{V1};
 ghost use Rattle.fs_calls.specs.Tree.{root_tree};
@@ -255,7 +255,7 @@ fn tree_of(
 ) -> Result<SeqTree, ScriptFault>
     requires { AreNumbered rows.now numbers.now }
     ensures tree { MakesTree limits rows.now numbers.now result }
-    ensures within { IfOk result (λ start. IsWithinLimits (file_limit start.limits) start.tree) }
+    ensures within { IfOk result (λ start. IsWithinLimits start.limits start.tree) }
 {
     match SeqTree::from_rows(alloc, rows, limits) {
         Ok(tree) => Ok(tree),
@@ -286,7 +286,7 @@ fn with_entries(
 /// The journal of the lines behind the one of the root.
 fn behind_root(alloc: Global, limits: Limits, lines: Lines<'_>) -> Result<Journal, ScriptFault>
     ensures read { GivesText journal_seen result (started_from limits root_tree lines.entry.number lines.entry.lines) }
-    ensures within { IfOk result (λ journal. IsWithinLimits (file_limit journal.start.limits) journal.start.tree) }
+    ensures within { IfOk result (λ journal. IsWithinLimits journal.start.limits journal.start.tree) }
 {
     let mut left = lines;
     let mut numbers = Vec::new(alloc);
@@ -305,7 +305,7 @@ fn behind_root(alloc: Global, limits: Limits, lines: Lines<'_>) -> Result<Journa
 /// The journal of the lines behind a header that announces a start tree.
 fn started(alloc: Global, limits: Limits, lines: Lines<'_>) -> Result<Journal, ScriptFault>
     ensures read { GivesText journal_seen result (behind_line (codes "start") (behind_line (codes "dir /") (started_from limits root_tree)) lines.entry.number lines.entry.lines) }
-    ensures within { IfOk result (λ journal. IsWithinLimits (file_limit journal.start.limits) journal.start.tree) }
+    ensures within { IfOk result (λ journal. IsWithinLimits journal.start.limits journal.start.tree) }
 {
     let mut left = lines;
     if let Err(fault) = expect(&mut left, b"start") {
@@ -320,7 +320,7 @@ fn started(alloc: Global, limits: Limits, lines: Lines<'_>) -> Result<Journal, S
 /// The journal of a text of the first version, which starts at the root alone.
 fn from_root(alloc: Global, text: &[u8]) -> Result<Journal, ScriptFault>
     ensures read { GivesText journal_seen result (with_start (root_start V1) (entries_of text.now)) }
-    ensures within { IfOk result (λ journal. IsWithinLimits (file_limit journal.start.limits) journal.start.tree) }
+    ensures within { IfOk result (λ journal. IsWithinLimits journal.start.limits journal.start.tree) }
 {
     let entries = match read_entries(alloc, text) {
         Ok(entries) => entries,
@@ -338,7 +338,7 @@ fn from_root(alloc: Global, text: &[u8]) -> Result<Journal, ScriptFault>
 /// The journal of a text of the first version or the second, which have the first set of limits.
 fn by_first_limits(alloc: Global, text: &[u8]) -> Result<Journal, ScriptFault>
     ensures read { GivesText journal_seen result (started_or V1 text.now (with_start (root_start V1) (entries_of text.now))) }
-    ensures within { IfOk result (λ journal. IsWithinLimits (file_limit journal.start.limits) journal.start.tree) }
+    ensures within { IfOk result (λ journal. IsWithinLimits journal.start.limits journal.start.tree) }
 {
     match Lines::behind_header(text, b"atomfs-journal 2") {
         Ok(lines) => started(alloc, Limits::V1, lines),
@@ -350,7 +350,7 @@ fn by_first_limits(alloc: Global, text: &[u8]) -> Result<Journal, ScriptFault>
 /// its line.
 pub fn read_journal(alloc: Global, text: &[u8]) -> Result<Journal, ScriptFault>
     ensures read { GivesText journal_seen result (journal_of text.now) }
-    ensures within { IfOk result (λ journal. IsWithinLimits (file_limit journal.start.limits) journal.start.tree) }
+    ensures within { IfOk result (λ journal. IsWithinLimits journal.start.limits journal.start.tree) }
 {
     match Lines::behind_header(text, b"atomfs-journal 3") {
         Ok(lines) => started(alloc, Limits::V2, lines),

@@ -1,7 +1,6 @@
 //! Trees that are read from their text.
 
 ghost use Rattle.std.specs.Prelude.{◌≡◌, IfOk};
-ghost use Rattle.fs_names.specs.Limits.{file_limit};
 ghost use Rattle.fs_seq.specs.Rows.{IsWithinLimits};
 ghost use Rattle.fs_words.specs.code.Answers.{GivesText};
 ghost use Rattle.fs_script.specs.Journals.{by_limits, journal_of, line_end, nodes_journal, start_of, start_read, tree_of};
@@ -40,7 +39,7 @@ fn nodes_journal(alloc: Global, limits: Limits, nodes: &[u8]) -> Result<Vec<u8>,
 /// The tree of these lines.
 fn tree_of_nodes(alloc: Global, nodes: &[u8], limits: Limits) -> Result<SeqTree, ScriptFault>
     ensures read { GivesText (λ start. start) result (start_read (journal_of (nodes_journal limits nodes.now))) }
-    ensures within { IfOk result (λ start. IsWithinLimits (file_limit start.limits) start.tree) }
+    ensures within { IfOk result (λ start. IsWithinLimits start.limits start.tree) }
 {
     let Ok(journal) = nodes_journal(alloc, limits, nodes) else {
         return Err(ScriptFault {
@@ -72,7 +71,7 @@ fn bad_header() -> ScriptFault
 #[tactic(auto, unfolding(crate::specs::Journals::tree_of))]
 pub fn read_tree(alloc: Global, text: &[u8], limits: Limits) -> Result<SeqTree, ScriptFault>
     ensures read { GivesText (λ start. start) result (tree_of limits text.now) }
-    ensures within { IfOk result (λ start. IsWithinLimits (file_limit start.limits) start.tree) }
+    ensures within { IfOk result (λ start. IsWithinLimits start.limits start.tree) }
 {
     match text.strip_prefix(b"tree\n") {
         Some(nodes) => tree_of_nodes(alloc, nodes, limits),
@@ -83,7 +82,7 @@ pub fn read_tree(alloc: Global, text: &[u8], limits: Limits) -> Result<SeqTree, 
 /// The tree at which a journal by these limits starts.
 fn start_of_journal(alloc: Global, text: &[u8], limits: Limits) -> Result<SeqTree, ScriptFault>
     ensures read { GivesText (λ start. start) result (by_limits limits (journal_of text.now)) }
-    ensures within { IfOk result (λ start. IsWithinLimits (file_limit start.limits) start.tree) }
+    ensures within { IfOk result (λ start. IsWithinLimits start.limits start.tree) }
 {
     let start = match read_journal(alloc, text) {
         Ok(journal) => journal.start,
@@ -101,7 +100,7 @@ fn start_of_journal(alloc: Global, text: &[u8], limits: Limits) -> Result<SeqTre
 /// journal by these limits.
 pub fn read_start(alloc: Global, text: &[u8], limits: Limits) -> Result<SeqTree, ScriptFault>
     ensures read { GivesText (λ start. start) result (start_of limits text.now) }
-    ensures within { IfOk result (λ start. IsWithinLimits (file_limit start.limits) start.tree) }
+    ensures within { IfOk result (λ start. IsWithinLimits start.limits start.tree) }
 {
     match text.strip_prefix(b"tree\n") {
         Some(nodes) => tree_of_nodes(alloc, nodes, limits),

@@ -6,9 +6,11 @@ use Rattle.std.specs.Ordering.{is_eq, is_lt, ordering_index, ordering_reverse}
 use Rattle.std.specs.FinMap.{find, put, is_sorted}
 use Rattle.std.specs.FinMap.Entries.{by_order}
 use Rattle.std.proofs.lemmas.List.{length-map}
+use Rattle.fs_names.specs.Limits.{entry_limit}
 use Rattle.fs_names.specs.Names.{Name, name_cmp}
 use Rattle.fs_names.specs.Keys.{Key, key_cmp, parent_of}
 use Rattle.fs_names.proofs.Lemmas.{key_total}
+use Rattle.fs_names.specs.declared.limits.Limits.{Limits}
 use Rattle.fs_calls.specs.Tree.{Node, Tree, look, inserted}
 use Rattle.fs_calls.specs.Sights.{tree_shapes, is_dir, is_full}
 use Rattle.fs_seq.specs.declared.rows.Row.{Row}
@@ -94,9 +96,9 @@ less_by_index Less b e f = refl
 less_by_index Equal b e f = absurd (cc)
 less_by_index Greater b e f = absurd (cc)
 
-module _ (most : ℕ) (g : Slots) (forest : IsForest g) (row : Row) where
+module _ (limits : Limits) (g : Slots) (forest : IsForest g) (row : Row) where
   -- a row without names
-  pub fails_at_root : length (key_of row) ≡ 0 → fits most (tree_of g) row ≡ false
+  pub fails_at_root : length (key_of row) ≡ 0 → fits limits (tree_of g) row ≡ false
   fails_at_root none = first_fails _ _ (first_fails _ _ (first_fails _ _ (not_below_root (last_key (tree_of g)) (key_of row) none)))
 
   -- a row in a directory
@@ -105,7 +107,7 @@ module _ (most : ℕ) (g : Slots) (forest : IsForest g) (row : Row) where
     parent_is = ap parent_of split ∙ parent_of-snoc d x
 
     -- a row without a parent
-    pub fails_lost : walk g d ≡ None → fits most (tree_of g) row ≡ false
+    pub fails_lost : walk g d ≡ None → fits limits (tree_of g) row ≡ false
     fails_lost lost = first_fails _ _ (first_fails _ _ (second_fails _ _ (ap is_dir (ap (tree_shapes (tree_of g)) parent_is ∙ seen_none g d forest lost))))
 
     module _ (dir : ℕ) (w : walk g d ≡ Some dir) where
@@ -114,15 +116,15 @@ module _ (most : ℕ) (g : Slots) (forest : IsForest g) (row : Row) where
       seen_parent at e = ap (tree_shapes (tree_of g)) parent_is ∙ seen_at g d dir forest w ∙ ap shape_of e
 
       -- a row in a file
-      pub fails_in_file : (bytes : List ℕ) → place_at g dir ≡ Some (File bytes) → fits most (tree_of g) row ≡ false
+      pub fails_in_file : (bytes : List ℕ) → place_at g dir ≡ Some (File bytes) → fits limits (tree_of g) row ≡ false
       fails_in_file bytes e = first_fails _ _ (first_fails _ _ (second_fails _ _ (ap is_dir (seen_parent (File bytes) e))))
 
       -- whether the parent is full
-      full_by : (links : List (Name × ℕ)) → place_at g dir ≡ Some (Dir links) → is_full (tree_shapes (tree_of g) (parent_of (key_of row))) ≡ nat_le 256 (length links)
-      full_by links e = ap is_full (seen_parent (Dir links) e) ∙ ap (nat_le 256) (length-map links (λ (l : Name × ℕ). l.0))
+      full_by : (links : List (Name × ℕ)) → place_at g dir ≡ Some (Dir links) → is_full (entry_limit limits) (tree_shapes (tree_of g) (parent_of (key_of row))) ≡ nat_le (entry_limit limits) (length links)
+      full_by links e = ap (is_full (entry_limit limits)) (seen_parent (Dir links) e) ∙ ap (nat_le (entry_limit limits)) (length-map links (λ (l : Name × ℕ). l.0))
 
       -- a row in a full directory
-      pub fails_full : (links : List (Name × ℕ)) → place_at g dir ≡ Some (Dir links) → nat_le 256 (length links) ≡ true → fits most (tree_of g) row ≡ false
+      pub fails_full : (links : List (Name × ℕ)) → place_at g dir ≡ Some (Dir links) → nat_le (entry_limit limits) (length links) ≡ true → fits limits (tree_of g) row ≡ false
       fails_full links e full = first_fails _ _ (second_fails _ _ (ap not (full_by links e ∙ full)))
 
       -- a name in order is not there yet
@@ -135,8 +137,8 @@ module _ (most : ℕ) (g : Slots) (forest : IsForest g) (row : Row) where
           let wrong : false ≡ true = ap is_some (sym none) ∙ some in cc
 
       -- a row that fits
-      pub is_place : (links : List (Name × ℕ)) (i : ℕ) → key_cmp (last_key (tree_of g)) (key_of row) ≡ Less → place_at g dir ≡ Some (Dir links) → nat_le 256 (length links) ≡ false → may_have most row.kind row.bytes.items ≡ true → BelongsAt links x i
-          → IsPlaceOf most g row dir i x
+      pub is_place : (links : List (Name × ℕ)) (i : ℕ) → key_cmp (last_key (tree_of g)) (key_of row) ≡ Less → place_at g dir ≡ Some (Dir links) → nat_le (entry_limit limits) (length links) ≡ false → may_have limits row.kind row.bytes.items ≡ true → BelongsAt links x i
+          → IsPlaceOf limits g row dir i x
       is_place links i less e room may belongs =
           let same : links ≡ links_at g dir = sym (links_got g dir _ e) in
           record {
@@ -170,10 +172,10 @@ less_if Equal e = absurd (cc)
 less_if Greater e = absurd (cc)
 
 -- a row that fits comes behind the last key
-pub in_order : (most : ℕ) (t : Tree) (row : Row) → fits most t row ≡ true → key_cmp (last_key t) (key_of row) ≡ Less
-in_order most t row h = less_if _ (first_holds _ _ (first_holds _ _ (first_holds _ _ h)))
+pub in_order : (limits : Limits) (t : Tree) (row : Row) → fits limits t row ≡ true → key_cmp (last_key t) (key_of row) ≡ Less
+in_order limits t row h = less_if _ (first_holds _ _ (first_holds _ _ (first_holds _ _ h)))
 
-module _ (most : ℕ) (g g' : Slots) (forest : IsForest g) (row : Row) (dir i : ℕ) (x : Name) (node : nodes.the_data) (bare : links_of (Some (place node)) ≡ []) (at : IsPlaceOf most g row dir i x) (new : Attaches g g' dir i x (place node)) where
+module _ (limits : Limits) (g g' : Slots) (forest : IsForest g) (row : Row) (dir i : ℕ) (x : Name) (node : nodes.the_data) (bare : links_of (Some (place node)) ≡ []) (at : IsPlaceOf limits g row dir i x) (new : Attaches g g' dir i x (place node)) where
   linking : Sets g new.between dir (Some (Dir (put name_cmp x new.number (links_at g dir))))
   linking = subst (λ ls. Sets g new.between dir (Some (Dir ls))) (sym (at.belongs.placed new.number)) new.linking
 
@@ -187,5 +189,5 @@ module _ (most : ℕ) (g g' : Slots) (forest : IsForest g) (row : Row) (dir i : 
       let k = key_of row in
       tree_made g new.between g' forest (place node) bare at.above dir at.parent (links_at g dir) at.directory x at.belongs.absent new.number new.free linking new.adding (tree_node node) (node_place node)
       ∙ ap (λ (key : Key). inserted (tree_of g) key (tree_node node)) (sym at.split)
-      ∙ inserted-last (tree_of g) k (tree_node node) (all_below (tree_of g) k (sorted-tree_of g) (in_order most (tree_of g) row at.fits))
+      ∙ inserted-last (tree_of g) k (tree_node node) (all_below (tree_of g) k (sorted-tree_of g) (in_order limits (tree_of g) row at.fits))
       ∙ ap (λ (n : Node). tree_of g ++ (k, n) ∷ []) is

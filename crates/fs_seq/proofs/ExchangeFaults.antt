@@ -4,7 +4,7 @@ use Rattle.fs_names.specs.Failures.{check, first_failure}
 use Rattle.fs_names.specs.Keys.{Key, is_root, is_proper_prefix}
 use Rattle.fs_names.proofs.FailureLemmas.{check-none}
 use Rattle.fs_calls.specs.Forms.{AtPair, by_text}
-use Rattle.fs_calls.specs.declared.target.PairCall.TheVariants as pairs
+use Rattle.fs_calls.specs.Forms as pairs
 use Rattle.fs_calls.specs.Rows.{exchange_errors, exchange_fault}
 use Rattle.fs_calls.specs.Sights.{Shape, tree_shapes}
 use Rattle.fs_calls.specs.Tree.{Tree}
@@ -25,7 +25,7 @@ use Rattle.fs_seq.proofs.Replies.{fault_by_row}
 -- the errors of an exchange, by all that is read
 by_sights : (t : Tree) (p q : Key) (source dest : Option Errno) (one other : Option Shape) → by_text (AtPair pairs.Exchange p q) ≡ None
     → parents_resolution t p ≡ source → parents_resolution t q ≡ dest → tree_shapes t p ≡ one → tree_shapes t q ≡ other → HasFault t (Exchange p q) (exchange_fault source dest one other)
-by_sights t p q source dest one other text a b c d most = fault_by_row most t (Exchange p q) (exchange_fault source dest one other) text (λ i. exchange_fault (a i) (b i) (c i) (d i))
+by_sights t p q source dest one other text a b c d limits = fault_by_row limits t (Exchange p q) (exchange_fault source dest one other) text (λ i. exchange_fault (a i) (b i) (c i) (d i))
 
 module _ (g : Slots) (forest : IsForest g) (p q : Key) (text : by_text (AtPair pairs.Exchange p q) ≡ None) where
   -- neither path is the root

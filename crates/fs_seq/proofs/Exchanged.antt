@@ -8,6 +8,7 @@ use Rattle.std.proofs.lemmas.Float.{T_from_true}
 use Rattle.fs_names.specs.Names.{Name, name_cmp, same_name}
 use Rattle.fs_names.specs.Keys.{Key, after_prefix, parent_of, last_of}
 use Rattle.fs_names.proofs.Lemmas.{same_name_refl}
+use Rattle.fs_names.specs.declared.limits.Limits.TheVariants.{V1}
 use Rattle.fs_calls.specs.Tree.{Tree, exchanged, Dir as IsDir}
 use Rattle.fs_calls.specs.Sights.{is_same}
 use Rattle.fs_calls.specs.Outcomes.{change}
@@ -117,18 +118,18 @@ still_within g between n1 i l n2 j edit within = which n2 n1 (j < length (links_
 -- ---- replies
 
 -- an exchange without an error, which leaves the tree of its change
-done : (g g' : Slots) (p q : Key) → HasFault (tree_of g) (Exchange p q) None → IsForest g' → tree_of g' ≡ change 0 (tree_of g) (Exchange p q) → Answers g g' (Exchange p q) Done
+done : (g g' : Slots) (p q : Key) → HasFault (tree_of g) (Exchange p q) None → IsForest g' → tree_of g' ≡ change V1 (tree_of g) (Exchange p q) → Answers g g' (Exchange p q) Done
 done g g' p q sound forest made =
-    at_each g g' (Exchange p q) Done (λ most. answers most g g' (Exchange p q) None Done (change most (tree_of g) (Exchange p q)) Done (sound most) refl refl (works g g' None Done (change most (tree_of g) (Exchange p q)) refl made forest))
+    at_each g g' (Exchange p q) Done (λ limits. answers limits g g' (Exchange p q) None Done (change limits (tree_of g) (Exchange p q)) Done (sound limits) refl refl (works g g' None Done (change limits (tree_of g) (Exchange p q)) refl made forest))
 
 module _ (g : Slots) (forest : IsForest g) (p q : Key) (sound : HasFault (tree_of g) (Exchange p q) None) (one two : Entry) (at : IsAt g p one) (to : IsAt g q two) where
   -- the first path leads to the first node
   to_one : walk g p ≡ Some one.node
-  to_one = taken_walk g forest p (named g forest p q (by_text_none 0 (tree_of g) (Exchange p q) (sound 0))) one.dir one.place one.node at
+  to_one = taken_walk g forest p (named g forest p q (by_text_none V1 (tree_of g) (Exchange p q) (sound V1))) one.dir one.place one.node at
 
   -- and the second one to the second
   to_two : walk g q ≡ Some two.node
-  to_two = taken_walk g forest q (other_named g forest p q (by_text_none 0 (tree_of g) (Exchange p q) (sound 0))) two.dir two.place two.node to
+  to_two = taken_walk g forest q (other_named g forest p q (by_text_none V1 (tree_of g) (Exchange p q) (sound V1))) two.dir two.place two.node to
 
   -- one node at both paths
   pub stayed : one.node ≡ two.node → Answers g g (Exchange p q) Done
@@ -144,7 +145,7 @@ module _ (g : Slots) (forest : IsForest g) (p q : Key) (sound : HasFault (tree_o
       differ e = let both : Some one.node ≡ Some two.node = sym to_one ∙ ap (walk g) e ∙ to_two in other (let same : one.node ≡ two.node = cc in same)
 
       finds : Exchanges (tree_of g) p q
-      finds = exchange_exchanges 0 (tree_of g) p q (forest_tree g forest) (sound 0) differ
+      finds = exchange_exchanges V1 (tree_of g) p q (forest_tree g forest) (sound V1) differ
 
       -- both paths by their parents
       first_key : p ≡ parent_of p ++ last_of p ∷ []
@@ -185,7 +186,7 @@ module _ (g : Slots) (forest : IsForest g) (p q : Key) (sound : HasFault (tree_o
       whole : IsForest g'
       whole = forest_swapped g g' forest (parent_of p) one.dir (last_of p) one.node (parent_of q) two.dir (last_of q) two.node beside at.parent at.leads to.parent to.leads turned
 
-      made : tree_of g' ≡ change 0 (tree_of g) (Exchange p q)
+      made : tree_of g' ≡ change V1 (tree_of g) (Exchange p q)
       made =
           tree_swapped g g' forest (parent_of p) one.dir (last_of p) one.node (parent_of q) two.dir (last_of q) two.node beside at.parent at.leads to.parent to.leads turned
           ∙ (λ i. exchanged (tree_of g) (sym first_key i) (sym second_key i))

@@ -7,13 +7,16 @@ use Rattle.std.specs.FinMap.{find, is_sorted}
 use Rattle.std.specs.FinMap.Entries.{below_all}
 use Rattle.std.proofs.lemmas.Bool.Decides.{nat_tests}
 use Rattle.std.proofs.lemmas.Cmp.{tied_itself}
+use Rattle.fs_names.specs.Limits.{entry_limit, file_limit}
 use Rattle.fs_names.specs.Names.{Name}
 use Rattle.fs_names.specs.Keys.{Key, key_cmp, same_key, after_prefix, is_root, parent_of, last_of}
 use Rattle.fs_names.specs.declared.kind.Kind.{Kind}
 use Rattle.fs_names.specs.declared.kind.Kind.TheVariants as kinds
 use Rattle.fs_names.proofs.Lemmas.{name_total, key_total, after_prefix-append, after_prefix-exact}
+use Rattle.fs_names.proofs.LimitLemmas.{some_entries}
+use Rattle.fs_names.specs.declared.limits.Limits.{Limits}
 use Rattle.fs_calls.specs.Tree.{Node, Dir, File, Tree, IsTree, look, root_tree, inserted, names_in, name_in, only_name, with_name}
-use Rattle.fs_calls.specs.Sights.{Shape, tree_shapes, is_dir, is_full, has_any}
+use Rattle.fs_calls.specs.Sights.{tree_shapes, is_dir, is_full, has_any}
 use Rattle.fs_calls.specs.Sights as shapes
 use Rattle.fs_calls.proofs.KeyLemmas.{parent_of-snoc, parent_and_last}
 use Rattle.fs_calls.proofs.ListLemmas.{true_T}
@@ -51,22 +54,22 @@ dir_there t k (Some Dir) e h = e
 dir_there t k (Some (File bytes)) e h = let none : is_dir (tree_shapes t k) ≡ false = ap (λ o. is_dir (shapes.shape_of t k o)) e in absurd (cc)
 
 -- a directory that is not full has room for one more
-room_for : (t : Tree) (k : Key) → look t k ≡ Some Dir → not (is_full (tree_shapes t k)) ≡ true → length (names_in t k) + 1 ≤ 256
-room_for t k there room =
-    let full : not (nat_le 256 (length (names_in t k))) ≡ true = sym (ap (λ o. not (is_full (shapes.shape_of t k o))) there) ∙ room in
+room_for : (most : ℕ) (t : Tree) (k : Key) → look t k ≡ Some Dir → not (is_full most (tree_shapes t k)) ≡ true → length (names_in t k) + 1 ≤ most
+room_for most t k there room =
+    let full : not (nat_le most (length (names_in t k))) ≡ true = sym (ap (λ o. not (is_full most (shapes.shape_of t k o))) there) ∙ room in
     grind (arith, nat_tests)
 
 -- the bytes that a file of this row may have
-bytes_within : (most : ℕ) (kind : Kind) (bytes : List ℕ) (others : List ℕ) → may_have most kind bytes ≡ true → node_of_kind kind bytes ≡ File others → length others ≤ most
-bytes_within most kinds.Dir bytes others may e = absurd (cc)
-bytes_within most kinds.File bytes others may e =
+bytes_within : (limits : Limits) (kind : Kind) (bytes : List ℕ) (others : List ℕ) → may_have limits kind bytes ≡ true → node_of_kind kind bytes ≡ File others → length others ≤ file_limit limits
+bytes_within limits kinds.Dir bytes others may e = absurd (cc)
+bytes_within limits kinds.File bytes others may e =
     let same : bytes ≡ others = cc in
-    let may : nat_le (length others) most ≡ true = ap (λ bs. nat_le (length bs) most) (sym same) ∙ may in
+    let may : nat_le (length others) (file_limit limits) ≡ true = ap (λ bs. nat_le (length bs) (file_limit limits)) (sym same) ∙ may in
     grind (arith, nat_tests)
 
-module _ (most : ℕ) (t : Tree) (row : Row) (within : IsWithinLimits most t) (fit : fits most t row ≡ true) where
+module _ (limits : Limits) (t : Tree) (row : Row) (within : IsWithinLimits limits t) (fit : fits limits t row ≡ true) where
   all : AllBelow t (key_of row)
-  all = all_below t (key_of row) (true_T within.tree.sorted) (in_order most t row fit)
+  all = all_below t (key_of row) (true_T within.tree.sorted) (in_order limits t row fit)
 
   at_end : inserted t (key_of row) (row_of row).1 ≡ t ++ row_of row ∷ []
   at_end = inserted-last t (key_of row) (row_of row).1 all
@@ -74,53 +77,53 @@ module _ (most : ℕ) (t : Tree) (row : Row) (within : IsWithinLimits most t) (f
   parent_there : look t (parent_of (key_of row)) ≡ Some Dir
   parent_there = dir_there t (parent_of (key_of row)) _ refl (second_holds _ _ (first_holds _ _ (first_holds _ _ fit)))
 
-  parent_room : length (names_in t (parent_of (key_of row))) + 1 ≤ 256
-  parent_room = room_for t (parent_of (key_of row)) parent_there (second_holds _ _ (first_holds _ _ fit))
+  parent_room : length (names_in t (parent_of (key_of row))) + 1 ≤ entry_limit limits
+  parent_room = room_for (entry_limit limits) t (parent_of (key_of row)) parent_there (second_holds _ _ (first_holds _ _ fit))
 
   tree_next : IsTree (t ++ row_of row ∷ [])
   tree_next = subst IsTree at_end (tree-inserted t (key_of row) (row_of row).1 within.tree
       (λ e. let none = look-above t (key_of row) all in absurd (cc))
       (λ d x e. ap (look t) (sym (ap parent_of e ∙ parent_of-snoc d x)) ∙ parent_there))
 
-  entries_next : (d : Key) → length (names_in (t ++ row_of row ∷ []) d) ≤ 256
+  entries_next : (d : Key) → length (names_in (t ++ row_of row ∷ []) d) ≤ entry_limit limits
   entries_next d = go (name_in d (key_of row)) refl
     where
       count : (o : Option Name) → name_in d (key_of row) ≡ o → length (names_in (t ++ row_of row ∷ []) d) ≡ length (names_in t d) + length (with_name o [])
       count o e = ap length (names_in-append t (row_of row ∷ []) d) ∙ length-append (names_in t d) (names_in (row_of row ∷ []) d) ∙ ap (λ o. length (names_in t d) + length (with_name o [])) e
 
-      go : (o : Option Name) → name_in d (key_of row) ≡ o → length (names_in (t ++ row_of row ∷ []) d) ≤ 256
-      go None e = let before : length (names_in t d) ≤ 256 = within.entries d in omega (arith, count None e)
+      go : (o : Option Name) → name_in d (key_of row) ≡ o → length (names_in (t ++ row_of row ∷ []) d) ≤ entry_limit limits
+      go None e = let before : length (names_in t d) ≤ entry_limit limits = within.entries d in omega (arith, count None e)
       go (Some x) e =
           let at : parent_of (key_of row) ≡ d = name_in-parent d (key_of row) x _ refl e in
-          let room : length (names_in t d) + 1 ≤ 256 = subst (λ (k : Key). length (names_in t k) + 1 ≤ 256) at parent_room in
+          let room : length (names_in t d) + 1 ≤ entry_limit limits = subst (λ (k : Key). length (names_in t k) + 1 ≤ entry_limit limits) at parent_room in
           omega (arith, count (Some x) e)
 
-  bytes_next : (k : Key) (bytes : List ℕ) → look (t ++ row_of row ∷ []) k ≡ Some (File bytes) → length bytes ≤ most
+  bytes_next : (k : Key) (bytes : List ℕ) → look (t ++ row_of row ∷ []) k ≡ Some (File bytes) → length bytes ≤ file_limit limits
   bytes_next k bytes e = go (same_key k (key_of row)) (sym (look-inserted t (key_of row) (row_of row).1 k) ∙ ap (λ (z : Tree). look z k) at_end ∙ e)
     where
-      go : (b : Bool) → cond {A = Option Node} b (Some (row_of row).1) (look t k) ≡ Some (File bytes) → length bytes ≤ most
-      go true h = bytes_within most row.kind row.bytes.items bytes (second_holds _ _ fit) (let same : (row_of row).1 ≡ File bytes = cc in same)
+      go : (b : Bool) → cond {A = Option Node} b (Some (row_of row).1) (look t k) ≡ Some (File bytes) → length bytes ≤ file_limit limits
+      go true h = bytes_within limits row.kind row.bytes.items bytes (second_holds _ _ fit) (let same : (row_of row).1 ≡ File bytes = cc in same)
       go false h = within.bytes k bytes h
 
-  within_next : IsWithinLimits most (t ++ row_of row ∷ [])
+  within_next : IsWithinLimits limits (t ++ row_of row ∷ [])
   within_next = record { tree = tree_next; entries = entries_next; bytes = bytes_next }
 
 -- a row that may have its bytes is plain
-plain_by : (most : ℕ) (kind : Kind) (bytes : List ℕ) → may_have most kind bytes ≡ true → not (is_dirs kind && has_any bytes) ≡ true
-plain_by most kinds.Dir bytes e = e
-plain_by most kinds.File bytes e = refl
+plain_by : (limits : Limits) (kind : Kind) (bytes : List ℕ) → may_have limits kind bytes ≡ true → not (is_dirs kind && has_any bytes) ≡ true
+plain_by limits kinds.Dir bytes e = e
+plain_by limits kinds.File bytes e = refl
 
 -- rows that all fit
-all_fit : (most : ℕ) (t : Tree) (place : ℕ) (rows : List Row) → IsWithinLimits most t → misfit_from most t place rows ≡ None → IsWithinLimits most (t ++ map row_of rows) × IsTrue (list_all is_plain rows)
-all_fit most t place [] within e = (subst (IsWithinLimits most) (sym (append-nil t)) within, refl)
-all_fit most t place (row ∷ rows) within e = go (fits most t row) refl e (λ next h. all_fit most (t ++ row_of row ∷ []) (place + 1) rows next h)
+all_fit : (limits : Limits) (t : Tree) (place : ℕ) (rows : List Row) → IsWithinLimits limits t → misfit_from limits t place rows ≡ None → IsWithinLimits limits (t ++ map row_of rows) × IsTrue (list_all is_plain rows)
+all_fit limits t place [] within e = (subst (IsWithinLimits limits) (sym (append-nil t)) within, refl)
+all_fit limits t place (row ∷ rows) within e = go (fits limits t row) refl e (λ next h. all_fit limits (t ++ row_of row ∷ []) (place + 1) rows next h)
   where
-    go : (b : Bool) → fits most t row ≡ b → cond {A = Option ℕ} b (misfit_from most (t ++ row_of row ∷ []) (place + 1) rows) (Some place) ≡ None
-        → (IsWithinLimits most (t ++ row_of row ∷ []) → misfit_from most (t ++ row_of row ∷ []) (place + 1) rows ≡ None → IsWithinLimits most ((t ++ row_of row ∷ []) ++ map row_of rows) × IsTrue (list_all is_plain rows))
-        → IsWithinLimits most (t ++ row_of row ∷ map row_of rows) × IsTrue (is_plain row && list_all is_plain rows)
+    go : (b : Bool) → fits limits t row ≡ b → cond {A = Option ℕ} b (misfit_from limits (t ++ row_of row ∷ []) (place + 1) rows) (Some place) ≡ None
+        → (IsWithinLimits limits (t ++ row_of row ∷ []) → misfit_from limits (t ++ row_of row ∷ []) (place + 1) rows ≡ None → IsWithinLimits limits ((t ++ row_of row ∷ []) ++ map row_of rows) × IsTrue (list_all is_plain rows))
+        → IsWithinLimits limits (t ++ row_of row ∷ map row_of rows) × IsTrue (is_plain row && list_all is_plain rows)
     go true fit h later =
-        let rest = later (within_next most t row within fit) h in
-        (subst (IsWithinLimits most) (append_assoc t (row_of row ∷ []) (map row_of rows)) rest.0, both_hold _ _ (plain_by most row.kind row.bytes.items (second_holds _ _ fit)) rest.1)
+        let rest = later (within_next limits t row within fit) h in
+        (subst (IsWithinLimits limits) (append_assoc t (row_of row ∷ []) (map row_of rows)) rest.0, both_hold _ _ (plain_by limits row.kind row.bytes.items (second_holds _ _ fit)) rest.1)
     go false fit h later = absurd (cc)
 
 -- ---- the rows of a tree within the limits fit
@@ -180,15 +183,15 @@ dir_before [] x = refl
 dir_before (y ∷ d) x = ap (λ o. ordering_then o (key_cmp d (d ++ x ∷ []))) (tied_itself name_total y) ∙ dir_before d x
 
 -- no room is left
-room_left : (n more : ℕ) → n + (1 + more) ≤ 256 → not (nat_le 256 n) ≡ true
-room_left n more h = grind (arith, nat_tests)
+room_left : (most n more : ℕ) → n + (1 + more) ≤ most → not (nat_le most n) ≡ true
+room_left most n more h = grind (arith, nat_tests)
 
 -- bytes within the limit
-bytes_fit : (most : ℕ) (kind : Kind) (bytes : List ℕ) → not (is_dirs kind && has_any bytes) ≡ true → ((others : List ℕ) → node_of_kind kind bytes ≡ File others → length others ≤ most) → may_have most kind bytes ≡ true
-bytes_fit most kinds.Dir bytes plain within = plain
-bytes_fit most kinds.File bytes plain within = let small : length bytes ≤ most = within bytes refl in grind (arith, nat_tests)
+bytes_fit : (limits : Limits) (kind : Kind) (bytes : List ℕ) → not (is_dirs kind && has_any bytes) ≡ true → ((others : List ℕ) → node_of_kind kind bytes ≡ File others → length others ≤ file_limit limits) → may_have limits kind bytes ≡ true
+bytes_fit limits kinds.Dir bytes plain within = plain
+bytes_fit limits kinds.File bytes plain within = let small : length bytes ≤ file_limit limits = within bytes refl in grind (arith, nat_tests)
 
-module _ (most : ℕ) (e : Key × Node) (t : Tree) (key : Key) (kind : Kind) (bytes : List ℕ) (u : Tree) (within : IsWithinLimits most (e ∷ (t ++ (key, node_of_kind kind bytes) ∷ u))) (plain : not (is_dirs kind && has_any bytes) ≡ true) where
+module _ (limits : Limits) (e : Key × Node) (t : Tree) (key : Key) (kind : Kind) (bytes : List ℕ) (u : Tree) (within : IsWithinLimits limits (e ∷ (t ++ (key, node_of_kind kind bytes) ∷ u))) (plain : not (is_dirs kind && has_any bytes) ≡ true) where
   whole : Tree
   whole = (e ∷ t) ++ (key, node_of_kind kind bytes) ∷ u
 
@@ -227,7 +230,7 @@ module _ (most : ℕ) (e : Key × Node) (t : Tree) (key : Key) (kind : Kind) (by
       ∙ within.tree.inside d (last_of key) (node_of_kind kind bytes) (sym (ap (look ((e ∷ t) ++ (key, node_of_kind kind bytes) ∷ u)) split) ∙ there)
 
   -- which has room
-  has_room : not (nat_le 256 (length (names_in (e ∷ t) (parent_of key)))) ≡ true
+  has_room : not (nat_le (entry_limit limits) (length (names_in (e ∷ t) (parent_of key)))) ≡ true
   has_room =
       let d = parent_of key in
       let named : name_in d key ≡ Some (last_of key) = ap (name_in d) split ∙ ap only_name (after_prefix-append d (last_of key ∷ [])) in
@@ -235,23 +238,23 @@ module _ (most : ℕ) (e : Key × Node) (t : Tree) (key : Key) (kind : Kind) (by
       ap length (names_in-append (e ∷ t) ((key, node_of_kind kind bytes) ∷ u) d) ∙ length-append (names_in (e ∷ t) d) (names_in ((key, node_of_kind kind bytes) ∷ u) d)
       ∙ ap (λ o. length (names_in (e ∷ t) d) + length (with_name o (names_in u d))) named ∙ one_more (length (names_in (e ∷ t) d)) (length (names_in u d)) in
       let full = within.entries d in
-      room_left (length (names_in (e ∷ t) d)) (length (names_in u d)) (omega (arith, count, full))
+      room_left (entry_limit limits) (length (names_in (e ∷ t) d)) (length (names_in u d)) (omega (arith, count, full))
 
-  pub node_fits : fits_at most (e ∷ t) key kind bytes ≡ true
+  pub node_fits : fits_at limits (e ∷ t) key kind bytes ≡ true
   node_fits =
       let d = parent_of key in
       both_hold _ _
       (both_hold _ _
       (both_hold _ _ (ap is_lt less) (ap (λ o. is_dir (shapes.shape_of (e ∷ t) d o)) parent_before))
-      (ap (λ o. not (is_full (shapes.shape_of (e ∷ t) d o))) parent_before ∙ has_room))
-      (bytes_fit most kind bytes plain (λ others is. within.bytes key others (there ∙ ap Some is)))
+      (ap (λ o. not (is_full (entry_limit limits) (shapes.shape_of (e ∷ t) d o))) parent_before ∙ has_room))
+      (bytes_fit limits kind bytes plain (λ others is. within.bytes key others (there ∙ ap Some is)))
 
 -- rows that follow others in a tree
-fit_all : (most : ℕ) (e : Key × Node) (t : Tree) (place : ℕ) (rows : List Row) → IsWithinLimits most (e ∷ (t ++ map row_of rows)) → list_all is_plain rows ≡ true → misfit_from most (e ∷ t) place rows ≡ None
-fit_all most e t place [] within plain = refl
-fit_all most e t place (row ∷ rows) within plain =
-    ap (λ b. cond {A = Option ℕ} b (misfit_from most (e ∷ (t ++ row_of row ∷ [])) (place + 1) rows) (Some place)) (node_fits most e t (key_of row) row.kind row.bytes.items (map row_of rows) within (first_holds _ _ plain))
-    ∙ fit_all most e (t ++ row_of row ∷ []) (place + 1) rows (subst (λ z. IsWithinLimits most (e ∷ z)) (sym (append_assoc t (row_of row ∷ []) (map row_of rows))) within) (second_holds _ _ plain)
+fit_all : (limits : Limits) (e : Key × Node) (t : Tree) (place : ℕ) (rows : List Row) → IsWithinLimits limits (e ∷ (t ++ map row_of rows)) → list_all is_plain rows ≡ true → misfit_from limits (e ∷ t) place rows ≡ None
+fit_all limits e t place [] within plain = refl
+fit_all limits e t place (row ∷ rows) within plain =
+    ap (λ b. cond {A = Option ℕ} b (misfit_from limits (e ∷ (t ++ row_of row ∷ [])) (place + 1) rows) (Some place)) (node_fits limits e t (key_of row) row.kind row.bytes.items (map row_of rows) within (first_holds _ _ plain))
+    ∙ fit_all limits e (t ++ row_of row ∷ []) (place + 1) rows (subst (λ z. IsWithinLimits limits (e ∷ z)) (sym (append_assoc t (row_of row ∷ []) (map row_of rows))) within) (second_holds _ _ plain)
 
 -- ---- the first row
 
@@ -262,16 +265,16 @@ root_of_first kinds.Dir bytes (x ∷ k) root dir = absurd (cc)
 root_of_first kinds.File bytes k root dir = absurd (cc)
 
 -- the root alone is within the limits
-root_within : (most : ℕ) → IsWithinLimits most root_tree
-root_within most = record {
+root_within : (limits : Limits) → IsWithinLimits limits root_tree
+root_within limits = record {
   tree = played_trees_are_trees.0;
   entries = λ d. few (after_prefix d []) d refl;
   bytes = λ k bytes e. absurd (no_file (same_key k []) bytes (sym (look-find root_tree k) ∙ e));
 }
   where
-    few : (o : Option Key) (d : Key) → after_prefix d [] ≡ o → length (with_name (only_name (after_prefix d [])) []) ≤ 256
-    few o [] e = omega arith
-    few o (x ∷ d) e = omega arith
+    few : (o : Option Key) (d : Key) → after_prefix d [] ≡ o → length (with_name (only_name (after_prefix d [])) []) ≤ entry_limit limits
+    few o [] e = let some = some_entries limits in omega (arith, some)
+    few o (x ∷ d) e = let some = some_entries limits in omega (arith, some)
 
     no_file : (b : Bool) (bytes : List ℕ) → cond {A = Option Node} b (Some Dir) None ≡ Some (File bytes) → ⊥
     no_file true bytes e = cc
@@ -287,8 +290,8 @@ dirs kinds.Dir bytes e = refl
 dirs kinds.File bytes e = absurd (cc)
 
 -- what is the first of a tree's rows
-root_row : (most : ℕ) (row : Row) (u : Tree) → IsWithinLimits most (row_of row ∷ u) → is_plain row ≡ true → is_first row ≡ true
-root_row most row u within plain = go (key_of row) refl
+root_row : (limits : Limits) (row : Row) (u : Tree) → IsWithinLimits limits (row_of row ∷ u) → is_plain row ≡ true → is_first row ≡ true
+root_row limits row u within plain = go (key_of row) refl
   where
     found : (k : Key) → key_of row ≡ k → find key_cmp [] ((k, (row_of row).1) ∷ u) ≡ Some Dir
     found k e = ap (λ z. find key_cmp [] ((z, (row_of row).1) ∷ u)) (sym e) ∙ sym (look-find (row_of row ∷ u) []) ∙ within.tree.root
@@ -323,21 +326,21 @@ root_first ((k, n) ∷ u) is = go k refl
 -- ---- the law
 
 pub fitting_rows_are_trees : FittingRowsAreTrees
-fitting_rows_are_trees most rows = (to rows, λ h. from rows h.0 h.1)
+fitting_rows_are_trees limits rows = (to rows, λ h. from rows h.0 h.1)
   where
-    to : (rows : List Row) → misfit most rows ≡ None → IsWithinLimits most (map row_of rows) × IsTrue (list_all is_plain rows)
+    to : (rows : List Row) → misfit limits rows ≡ None → IsWithinLimits limits (map row_of rows) × IsTrue (list_all is_plain rows)
     to [] e = absurd (cc)
     to (row ∷ rows) e = go (is_first row) refl e
       where
-        go : (b : Bool) → is_first row ≡ b → cond {A = Option ℕ} b (misfit_from most (row_of row ∷ []) 2 rows) (Some 1) ≡ None → IsWithinLimits most (row_of row ∷ map row_of rows) × IsTrue (is_plain row && list_all is_plain rows)
+        go : (b : Bool) → is_first row ≡ b → cond {A = Option ℕ} b (misfit_from limits (row_of row ∷ []) 2 rows) (Some 1) ≡ None → IsWithinLimits limits (row_of row ∷ map row_of rows) × IsTrue (is_plain row && list_all is_plain rows)
         go true first h =
             let root : ◌≡◌ {A = Tree} root_tree (row_of row ∷ []) = root_of_first row.kind row.bytes.items (key_of row) (first_holds _ _ (first_holds _ _ first)) (second_holds _ _ (first_holds _ _ first)) in
-            let rest = all_fit most (row_of row ∷ []) 2 rows (subst (IsWithinLimits most) root (root_within most)) h in
+            let rest = all_fit limits (row_of row ∷ []) 2 rows (subst (IsWithinLimits limits) root (root_within limits)) h in
             (rest.0, both_hold _ _ (ap (λ b. not (b && has_any row.bytes.items)) (second_holds _ _ (first_holds _ _ first)) ∙ second_holds _ _ first) rest.1)
         go false first h = absurd (cc)
 
-    from : (rows : List Row) → IsWithinLimits most (map row_of rows) → IsTrue (list_all is_plain rows) → misfit most rows ≡ None
+    from : (rows : List Row) → IsWithinLimits limits (map row_of rows) → IsTrue (list_all is_plain rows) → misfit limits rows ≡ None
     from [] within plain = let none : ◌≡◌ {A = Option Node} None (Some Dir) = sym (look-find [] []) ∙ within.tree.root in absurd (cc)
     from (row ∷ rows) within plain =
-        ap (λ b. cond {A = Option ℕ} b (misfit_from most (row_of row ∷ []) 2 rows) (Some 1)) (root_row most row (map row_of rows) within (first_holds _ _ plain))
-        ∙ fit_all most (row_of row) [] 2 rows within (second_holds _ _ plain)
+        ap (λ b. cond {A = Option ℕ} b (misfit_from limits (row_of row ∷ []) 2 rows) (Some 1)) (root_row limits row (map row_of rows) within (first_holds _ _ plain))
+        ∙ fit_all limits (row_of row) [] 2 rows within (second_holds _ _ plain)

@@ -1,6 +1,7 @@
 -- What the calls on one path answer, by what stands there.
 use Rattle.std.proofs.Common.{◌≡◌, ℕ, zero, suc, ◌<◌, ◌++◌, get_or, arith, List, [], ◌∷◌, length, take, map, Some, None, refl, sym, ap, ◌∙◌}
 use Rattle.fs_names.specs.Keys.{Key}
+use Rattle.fs_names.specs.declared.limits.Limits.{Limits}
 use Rattle.fs_slab.specs.declared.nodes.Link.{Link}
 use Rattle.fs_slab.specs.code.Nodes.{pairs}
 use Rattle.fs_calls.specs.declared.call.Call.{Call}
@@ -28,19 +29,19 @@ error_there g c p n at forest w placed = λ i. node_fault c (resolution_walked g
 pub is_found : (g : Slots) (c : NodeCall) (p : Key) (n : ℕ) (at : Place) → IsForest g → walk g p ≡ Some n → place_at g n ≡ Some at → node_fault c None (shape_of (Some at)) ≡ None → IsFound (tree_of g) c p at
 is_found g c p n at forest w placed sound = record { sound = error_there g c p n at forest w placed ∙ sound; shape = seen_at g p n forest w ∙ ap shape_of placed }
 
-module _ (most : ℕ) (call : Call) (c : NodeCall) (p : Key) (on_node : form most call ≡ AtNode c p) (t : Tree) where
+module _ (limits : Limits) (call : Call) (c : NodeCall) (p : Key) (on_node : form limits call ≡ AtNode c p) (t : Tree) where
   -- the first error of a call on a node
-  pub looking_fault : fault most t call ≡ node_error t c p
+  pub looking_fault : fault limits t call ≡ node_error t c p
   unfolding fault
   looking_fault = ap (λ f. or_else (by_text f) (row_in (tree_shapes t) f)) on_node
 
   -- its reply where it fails
-  pub failed_reply : (e : Errno) → node_error t c p ≡ Some e → replies.Failed e ≡ reply most t call
+  pub failed_reply : (e : Errno) → node_error t c p ≡ Some e → replies.Failed e ≡ reply limits t call
   unfolding reply
-  failed_reply e h = sym (ap (λ f. replied f (success most t call)) (looking_fault ∙ h))
+  failed_reply e h = sym (ap (λ f. replied f (success limits t call)) (looking_fault ∙ h))
 
   -- its reply where it finds its node
-  pub found_reply : (at : Place) → IsFound t c p at → node_reply c (shape_of (Some at)) ≡ reply most t call
+  pub found_reply : (at : Place) → IsFound t c p at → node_reply c (shape_of (Some at)) ≡ reply limits t call
   unfolding reply
   found_reply at found = sym (λ i. replied ((looking_fault ∙ found.sound) i) ((ap (reply_of t) on_node ∙ ap (node_reply c) found.shape) i))
 

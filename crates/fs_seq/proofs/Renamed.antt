@@ -2,16 +2,19 @@
 use Rattle.std.proofs.Common.{◌≡◌, ◌≢◌, ℕ, ◌≤◌, Bool, true, false, cond, not, ◌&&◌, List, length, Some, None, Option, is_some, Ok, refl, sym, ap, subst, ◌∙◌, IsTrue}
 use Rattle.std.specs.Prelude.{insert, remove, slice_set}
 use Rattle.std.specs.FinMap.{find, put, is_sorted}
+use Rattle.fs_names.specs.Limits.{entry_limit}
 use Rattle.fs_names.specs.Names.{Name, name_cmp, same_name}
+use Rattle.fs_names.specs.declared.limits.Limits.{Limits}
 use Rattle.fs_names.specs.Keys.{Key, parent_of, last_of}
 use Rattle.fs_calls.specs.Tree.{Tree, renamed, Dir as IsDir}
 use Rattle.fs_calls.specs.Sights.{is_missing}
 use Rattle.fs_calls.specs.Forms.{AtPair, by_text}
-use Rattle.fs_calls.specs.declared.target.PairCall.TheVariants as pairs
+use Rattle.fs_calls.specs.Forms as pairs
 use Rattle.fs_calls.specs.Outcomes.{change}
+use Rattle.fs_seq.specs.Memory.{needs_memory}
 use Rattle.fs_slab.specs.code.Slots.{Dir, Slots, place_at, node_of, links_of, links_at, walk, node_at, tree_of, IsForest, Sets}
 use Rattle.fs_slab.specs.code.Nodes.{without, IsNameAt, IsTaken, IsFree, IsAt}
-use Rattle.fs_seq.specs.code.Effects.{Answers, HasFault, NeedsMemory}
+use Rattle.fs_seq.specs.code.Effects.{AnswersWithin, HasFaultBy}
 use Rattle.fs_seq.specs.code.Renaming.{Moves, Plans, Displaces, Transfers}
 use Rattle.fs_slab.specs.declared.nodes.Entry.{Entry}
 use Rattle.fs_seq.specs.declared.rename.Plan.{Plan}
@@ -28,30 +31,30 @@ use Rattle.fs_seq.proofs.Rewiring.{Crosses, Turns, Rewires, which, crossed, turn
 use Rattle.fs_seq.proofs.LinkEdits.{set_in_place, set_then_removed}
 use Rattle.fs_seq.proofs.RenameFaults.{new_named, taken_walk, free_walk}
 use Rattle.fs_seq.proofs.Spots.{has_names}
-use Rattle.fs_seq.proofs.Replies.{works, fails, answers, at_each, needs}
+use Rattle.fs_seq.proofs.Replies.{works, fails, answers, needs}
 
 -- ---- replies
 
 -- a rename with an error leaves all as it was
-pub failed : (g : Slots) (p q : Key) (e : Errno) → IsForest g → HasFault (tree_of g) (Rename p q) (Some e) → Answers g g (Rename p q) (Failed e)
-failed g p q e forest h =
-    at_each g g (Rename p q) (Failed e) (λ most. answers most g g (Rename p q) (Some e) Done (change most (tree_of g) (Rename p q)) (Failed e) (h most) refl refl (fails g (Some e) Done (change most (tree_of g) (Rename p q)) e refl forest))
+pub failed : (limits : Limits) (g : Slots) (p q : Key) (e : Errno) → IsForest g → HasFaultBy limits (tree_of g) (Rename p q) (Some e) → AnswersWithin limits g g (Rename p q) (Failed e)
+failed limits g p q e forest h =
+    answers limits g g (Rename p q) (Some e) Done (change limits (tree_of g) (Rename p q)) (Failed e) h refl refl (fails g (Some e) Done (change limits (tree_of g) (Rename p q)) e refl forest)
 
 -- a rename without an error, which leaves the tree of its change
-done : (g g' : Slots) (p q : Key) → HasFault (tree_of g) (Rename p q) None → IsForest g' → tree_of g' ≡ change 0 (tree_of g) (Rename p q) → Answers g g' (Rename p q) Done
-done g g' p q h forest made =
-    at_each g g' (Rename p q) Done (λ most. answers most g g' (Rename p q) None Done (change most (tree_of g) (Rename p q)) Done (h most) refl refl (works g g' None Done (change most (tree_of g) (Rename p q)) refl made forest))
+done : (limits : Limits) (g g' : Slots) (p q : Key) → HasFaultBy limits (tree_of g) (Rename p q) None → IsForest g' → tree_of g' ≡ change limits (tree_of g) (Rename p q) → AnswersWithin limits g g' (Rename p q) Done
+done limits g g' p q h forest made =
+    answers limits g g' (Rename p q) None Done (change limits (tree_of g) (Rename p q)) Done h refl refl (works g g' None Done (change limits (tree_of g) (Rename p q)) refl made forest)
 
 -- and so does one of a path onto itself
-pub stayed : (g : Slots) (p q : Key) → IsForest g → HasFault (tree_of g) (Rename p q) None → p ≡ q → Answers g g (Rename p q) Done
-stayed g p q forest h same = done g g p q h forest (sym (same_after (tree_of g) p q same))
+pub stayed : (limits : Limits) (g : Slots) (p q : Key) → IsForest g → HasFaultBy limits (tree_of g) (Rename p q) None → p ≡ q → AnswersWithin limits g g (Rename p q) Done
+stayed limits g p q forest h same = done limits g g p q h forest (sym (same_after (tree_of g) p q same))
   where
-    same_after : (t : Tree) (p q : Key) → p ≡ q → change 0 t (Rename p q) ≡ t
+    same_after : (t : Tree) (p q : Key) → p ≡ q → change limits t (Rename p q) ≡ t
     same_after t p q e = ap (λ b. cond {A = Tree} b t (renamed t p q)) (ap (is_same p) (sym e) ∙ is_same_refl p)
 
 -- a rename that is done, by the tree that it leaves
-moved : (g g' : Slots) (p q : Key) → Moves g p q → IsForest g' × (tree_of g' ≡ renamed (tree_of g) p q) → Answers g g' (Rename p q) Done
-moved g g' p q may made = done g g' p q may.allowed made.0 (made.1 ∙ sym (ap (λ b. cond {A = Tree} b (tree_of g) (renamed (tree_of g) p q)) (never_same p q may.differ)))
+moved : (limits : Limits) (g g' : Slots) (p q : Key) → Moves limits g p q → IsForest g' × (tree_of g' ≡ renamed (tree_of g) p q) → AnswersWithin limits g g' (Rename p q) Done
+moved limits g g' p q may made = done limits g g' p q may.allowed made.0 (made.1 ∙ sym (ap (λ b. cond {A = Tree} b (tree_of g) (renamed (tree_of g) p q)) (never_same p q may.differ)))
 
 -- ---- edits
 
@@ -76,28 +79,28 @@ turns g between g' n i j x z s rising apart leading unlinking at to = record {
 -- ---- the paths
 
 -- what is planned has no error
-pub allowed : (g : Slots) (p q : Key) (plan : Plan) → Plans g p q (Ok plan) → HasFault (tree_of g) (Rename p q) None
-allowed g p q Stay h = h.0
-allowed g p q (Onto entry victim) h = h.0.allowed
-allowed g p q (Within entry) h = h.0.allowed
-allowed g p q (Across entry dir i) h = h.0.allowed
+pub allowed : (limits : Limits) (g : Slots) (p q : Key) (plan : Plan) → Plans limits g p q (Ok plan) → HasFaultBy limits (tree_of g) (Rename p q) None
+allowed limits g p q Stay h = h.0
+allowed limits g p q (Onto entry victim) h = h.0.allowed
+allowed limits g p q (Within entry) h = h.0.allowed
+allowed limits g p q (Across entry dir i) h = h.0.allowed
 
 -- a rename that is done has a new path with a name
-pub new_path_named : (g : Slots) (p q : Key) (plan : Plan) → IsForest g → Plans g p q (Ok plan) → 1 ≤ length q
-new_path_named g p q plan forest h = has_names q (new_named g forest p q (by_text_none 0 (tree_of g) (Rename p q) (allowed g p q plan h 0)))
+pub new_path_named : (limits : Limits) (g : Slots) (p q : Key) (plan : Plan) → IsForest g → Plans limits g p q (Ok plan) → 1 ≤ length q
+new_path_named limits g p q plan forest h = has_names q (new_named limits g forest p q (by_text_none limits (tree_of g) (Rename p q) (allowed limits g p q plan h)))
 
-module _ (g : Slots) (forest : IsForest g) (p q : Key) (may : Moves g p q) where
+module _ (limits : Limits) (g : Slots) (forest : IsForest g) (p q : Key) (may : Moves limits g p q) where
   -- what such a rename finds in the tree
   renames : Renames (tree_of g) p q
-  renames = rename_renames 0 (tree_of g) p q (forest_tree g forest) (may.allowed 0) may.differ
+  renames = rename_renames limits (tree_of g) p q (forest_tree g forest) may.allowed may.differ
 
   -- the paths alone decide no error
-  text : by_text (AtPair pairs.Rename p q) ≡ None
-  text = by_text_none 0 (tree_of g) (Rename p q) (may.allowed 0)
+  text : by_text (AtPair (pairs.Rename (entry_limit limits)) p q) ≡ None
+  text = by_text_none limits (tree_of g) (Rename p q) may.allowed
 
   -- the number of a node at a path has a place
   pub node_placed : (dir i n : ℕ) → IsTaken g q dir i n → is_some (place_at g n) ≡ true
-  node_placed dir i n to = forest.inside q n (taken_walk g forest p q text q dir i n renames.new_named to)
+  node_placed dir i n to = forest.inside q n (taken_walk limits g forest p q text q dir i n renames.new_named to)
 
   -- ---- within a directory
 
@@ -120,11 +123,11 @@ module _ (g : Slots) (forest : IsForest g) (p q : Key) (may : Moves g p q) where
         either_none true = refl
         either_none false = refl
 
-    pub moved_within : (g' : Slots) (x : Name) (i entries : ℕ) → IsFree g q entry.dir i entries → last_of q ≡ x → Sets g g' entry.dir (Some (Dir (put name_cmp x entry.node (remove (links_at g entry.dir) entry.place)))) → Answers g g' (Rename p q) Done
+    pub moved_within : (g' : Slots) (x : Name) (i entries : ℕ) → IsFree g q entry.dir i entries → last_of q ≡ x → Sets g g' entry.dir (Some (Dir (put name_cmp x entry.node (remove (links_at g entry.dir) entry.place)))) → AnswersWithin limits g g' (Rename p q) Done
     moved_within g' x i entries to last edit =
         let links : put name_cmp x entry.node (remove (links_at g entry.dir) entry.place) ≡ put name_cmp (last_of q) entry.node (without (last_of p) (links_at g entry.dir)) = (λ j. put name_cmp (sym last j) entry.node (at.stands.others j)) in
         let turns : Turns g g' entry.dir (last_of p) (last_of q) entry.node = subst (λ ls. Sets g g' entry.dir (Some (Dir ls))) links edit in
-        moved g g' p q may (renamed_free g forest p q entry.dir entry.node entry.dir renames at.parent at.leads to.parent g'
+        moved limits g g' p q may (renamed_free g forest p q entry.dir entry.node entry.dir renames at.parent at.leads to.parent g'
         (turned_in g g' forest.rising entry.dir (last_of p) (last_of q) entry.node dir_node dir_placed turns))
 
     -- ---- onto another entry
@@ -146,29 +149,29 @@ module _ (g : Slots) (forest : IsForest g) (p q : Key) (may : Moves g p q) where
           (other_last g forest p q renames.named renames.new_named may.differ entry.dir at.parent (to.parent ∙ ap Some same)) leading_here unlinking at.stands stands_here in
           subst (λ d. Rewires g unlinked entry.dir (last_of p) d (last_of q) entry.node) (sym same) (turned_in g unlinked forest.rising entry.dir (last_of p) (last_of q) entry.node dir_node dir_placed one)
 
-      pub moved_onto : (g' : Slots) (x : Name) → last_of q ≡ x → Displaces g g' entry victim x → Answers g g' (Rename p q) Done
+      pub moved_onto : (g' : Slots) (x : Name) → last_of q ≡ x → Displaces g g' entry victim x → AnswersWithin limits g g' (Rename p q) Done
       moved_onto g' x last edit =
           let leading : Sets g edit.between victim.dir (Some (Dir (slice_set (links_at g victim.dir) victim.place (last_of q, entry.node)))) = subst (λ y. Sets g edit.between victim.dir (Some (Dir (slice_set (links_at g victim.dir) victim.place (y, entry.node))))) (sym last) edit.leading in
           let rewires : Rewires g edit.unlinked entry.dir (last_of p) victim.dir (last_of q) entry.node =
           which victim.dir entry.dir (Rewires g edit.unlinked entry.dir (last_of p) victim.dir (last_of q) entry.node)
           (λ same. rewired_within edit.between edit.unlinked same leading edit.unlinking)
           (λ other. rewired_across edit.between edit.unlinked (λ e. other (sym e)) leading edit.unlinking) in
-          moved g g' p q may (renamed_onto g forest p q entry.dir entry.node victim.dir renames at.parent at.leads to.parent edit.unlinked g' victim.node to.leads rewires edit.removing)
+          moved limits g g' p q may (renamed_onto g forest p q entry.dir entry.node victim.dir renames at.parent at.leads to.parent edit.unlinked g' victim.node to.leads rewires edit.removing)
 
     -- ---- to another directory
 
     module _ (dir i entries : ℕ) (to : IsFree g q dir i entries) (apart : entry.dir ≢ dir) where
-      pub moved_across : (g' : Slots) (x : Name) → last_of q ≡ x → Transfers g g' entry dir i x → Answers g g' (Rename p q) Done
+      pub moved_across : (g' : Slots) (x : Name) → last_of q ≡ x → Transfers g g' entry dir i x → AnswersWithin limits g g' (Rename p q) Done
       moved_across g' x last edit =
           let put_in : insert (links_at g dir) i (x, entry.node) ≡ put name_cmp (last_of q) entry.node (links_at g dir) = ap (λ y. insert (links_at g dir) i (y, entry.node)) (sym last) ∙ sym (to.belongs.placed entry.node) in
-          moved g g' p q may (renamed_free g forest p q entry.dir entry.node dir renames at.parent at.leads to.parent g'
+          moved limits g g' p q may (renamed_free g forest p q entry.dir entry.node dir renames at.parent at.leads to.parent g'
           (crossed g g' forest.rising entry.dir (last_of p) dir (last_of q) entry.node dir_node dir_placed (ap node_of to.directory)
           (crosses g edit.between g' entry.dir dir entry.place (last_of p) (last_of q) entry.node (insert (links_at g dir) i (x, entry.node)) apart edit.linking put_in edit.unlinking at.stands)))
 
       -- only then the rename needs memory
-      pub memory_needed : NeedsMemory (tree_of g) (Rename p q)
-      memory_needed most = needs most (tree_of g) (Rename p q) (may.allowed most)
-          (λ j. is_missing (seen_none g q forest (free_walk g forest p q text q dir i entries renames.new_named to) j) && not (never_same (parent_of p) (parent_of q) other j))
+      pub memory_needed : IsTrue (needs_memory limits (tree_of g) (Rename p q))
+      memory_needed = needs limits (tree_of g) (Rename p q) may.allowed
+          (λ j. is_missing (seen_none g q forest (free_walk limits g forest p q text q dir i entries renames.new_named to) j) && not (never_same (parent_of p) (parent_of q) other j))
         where
           other : parent_of p ≢ parent_of q
           other same = let both : Some entry.dir ≡ Some dir = sym at.parent ∙ ap (walk g) same ∙ to.parent in apart (let e : entry.dir ≡ dir = cc in e)

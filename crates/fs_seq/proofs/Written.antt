@@ -2,8 +2,10 @@
 use Rattle.std.proofs.Common.{◌≡◌, ℕ, ◌+◌, ◌&&◌, List, length, Some, None, Option, IsTrue, refl, sym, ap, subst, ◌∙◌}
 use Rattle.std.specs.Prelude.{nat_lt}
 use Rattle.slab.specs.Slab.{Slab, get, with_value}
+use Rattle.fs_names.specs.Limits.{file_limit}
 use Rattle.fs_names.specs.Keys.{Key}
 use Rattle.fs_names.specs.Names.{Name}
+use Rattle.fs_names.specs.declared.limits.Limits.{Limits}
 use Rattle.fs_calls.specs.declared.call.Call.{Call}
 use Rattle.fs_calls.specs.declared.call.Call.TheVariants.{Write, Truncate}
 use Rattle.fs_calls.specs.declared.errno.Errno.{Errno}
@@ -37,14 +39,14 @@ row_change : (t : Tree) (p : Key) (found : Option Errno) (well : Reply) (bytes :
 row_change t p None well bytes = refl
 row_change t p (Some e) well bytes = refl
 
-module _ (most : ℕ) (s : Slab Node) (call : Call) (c : NodeCall) (p : Key) (on_node : form most call ≡ AtNode c p) (n : ℕ) (node : Node) (forest : IsForest (graph s)) (walked : walk (graph s) p ≡ Some n) (got : get s n ≡ Some node) where
+module _ (limits : Limits) (s : Slab Node) (call : Call) (c : NodeCall) (p : Key) (on_node : form limits call ≡ AtNode c p) (n : ℕ) (node : Node) (forest : IsForest (graph s)) (walked : walk (graph s) p ≡ Some n) (got : get s n ≡ Some node) where
   -- what is seen at the path
   pub seen : tree_shapes (tree_of (graph s)) p ≡ shape_of (Some (place node))
   seen = seen_at (graph s) p n forest walked ∙ ap shape_of (place_got s n node got)
 
   -- the call's first error
-  pub node_found : fault most (tree_of (graph s)) call ≡ node_fault c None (shape_of (Some (place node)))
-  node_found = looking_fault most call c p on_node (tree_of (graph s)) ∙ error_there (graph s) c p n (place node) forest walked (place_got s n node got)
+  pub node_found : fault limits (tree_of (graph s)) call ≡ node_fault c None (shape_of (Some (place node)))
+  node_found = looking_fault limits call c p on_node (tree_of (graph s)) ∙ error_there (graph s) c p n (place node) forest walked (place_got s n node got)
 
   -- the tree with the new bytes of a file
   refills : (node' : Node) (at : Place) (o : Option (List ℕ)) → place node ≡ at → place node' ≡ refilled o at → ((links : List (Name × ℕ)) → at ≡ Dir links → o ≡ None)
@@ -58,7 +60,7 @@ module _ (most : ℕ) (s : Slab Node) (call : Call) (c : NodeCall) (p : Key) (on
       (tree_filled (graph s) (graph (with_value s n node')) forest p n walked old new file sets, forest_filled (graph s) (graph (with_value s n node')) forest p n walked old new file sets)
 
   -- what a call on a node answers and leaves
-  pub is_rewritten : (node' : Node) (r : Reply) → Rewrites (place node) (place node') c r → AnswersWithin most (graph s) (graph (with_value s n node')) call r
+  pub is_rewritten : (node' : Node) (r : Reply) → Rewrites (place node) (place node') c r → AnswersWithin limits (graph s) (graph (with_value s n node')) call r
   unfolding reply after
   is_rewritten node' r rewrites =
       let there = shape_of (Some (place node)) in
@@ -71,15 +73,15 @@ module _ (most : ℕ) (s : Slab Node) (call : Call) (c : NodeCall) (p : Key) (on
       }
 
 -- a write that needs memory
-pub write_needs : (most : ℕ) (s : Slab Node) (p : Key) (off : ℕ) (bytes : List ℕ) (n : ℕ) (node : Node) → IsForest (graph s) → walk (graph s) p ≡ Some n → get s n ≡ Some node → node_fault (forms.Write most off bytes) None (shape_of (Some (place node))) ≡ None
-    → IsTrue (has_any bytes && nat_lt (length (bytes_of (shape_of (Some (place node))))) (off + length bytes)) → IsTrue (needs_memory most (tree_of (graph s)) (Write p off bytes))
-write_needs most s p off bytes n node forest walked got sound longer =
-    needs most (tree_of (graph s)) (Write p off bytes) (node_found most s (Write p off bytes) (forms.Write most off bytes) p refl n node forest walked got ∙ sound)
-    (ap (λ z. has_any bytes && nat_lt (length (bytes_of z)) (off + length bytes)) (seen most s (Write p off bytes) (forms.Write most off bytes) p refl n node forest walked got) ∙ longer)
+pub write_needs : (limits : Limits) (s : Slab Node) (p : Key) (off : ℕ) (bytes : List ℕ) (n : ℕ) (node : Node) → IsForest (graph s) → walk (graph s) p ≡ Some n → get s n ≡ Some node → node_fault (forms.Write (file_limit limits) off bytes) None (shape_of (Some (place node))) ≡ None
+    → IsTrue (has_any bytes && nat_lt (length (bytes_of (shape_of (Some (place node))))) (off + length bytes)) → IsTrue (needs_memory limits (tree_of (graph s)) (Write p off bytes))
+write_needs limits s p off bytes n node forest walked got sound longer =
+    needs limits (tree_of (graph s)) (Write p off bytes) (node_found limits s (Write p off bytes) (forms.Write (file_limit limits) off bytes) p refl n node forest walked got ∙ sound)
+    (ap (λ z. has_any bytes && nat_lt (length (bytes_of z)) (off + length bytes)) (seen limits s (Write p off bytes) (forms.Write (file_limit limits) off bytes) p refl n node forest walked got) ∙ longer)
 
 -- a truncate that needs memory
-pub truncate_needs : (most : ℕ) (s : Slab Node) (p : Key) (size : ℕ) (n : ℕ) (node : Node) → IsForest (graph s) → walk (graph s) p ≡ Some n → get s n ≡ Some node → node_fault (forms.Truncate most size) None (shape_of (Some (place node))) ≡ None
-    → IsTrue (nat_lt (length (bytes_of (shape_of (Some (place node))))) size) → IsTrue (needs_memory most (tree_of (graph s)) (Truncate p size))
-truncate_needs most s p size n node forest walked got sound longer =
-    needs most (tree_of (graph s)) (Truncate p size) (node_found most s (Truncate p size) (forms.Truncate most size) p refl n node forest walked got ∙ sound)
-    (ap (λ z. nat_lt (length (bytes_of z)) size) (seen most s (Truncate p size) (forms.Truncate most size) p refl n node forest walked got) ∙ longer)
+pub truncate_needs : (limits : Limits) (s : Slab Node) (p : Key) (size : ℕ) (n : ℕ) (node : Node) → IsForest (graph s) → walk (graph s) p ≡ Some n → get s n ≡ Some node → node_fault (forms.Truncate (file_limit limits) size) None (shape_of (Some (place node))) ≡ None
+    → IsTrue (nat_lt (length (bytes_of (shape_of (Some (place node))))) size) → IsTrue (needs_memory limits (tree_of (graph s)) (Truncate p size))
+truncate_needs limits s p size n node forest walked got sound longer =
+    needs limits (tree_of (graph s)) (Truncate p size) (node_found limits s (Truncate p size) (forms.Truncate (file_limit limits) size) p refl n node forest walked got ∙ sound)
+    (ap (λ z. nat_lt (length (bytes_of z)) size) (seen limits s (Truncate p size) (forms.Truncate (file_limit limits) size) p refl n node forest walked got) ∙ longer)

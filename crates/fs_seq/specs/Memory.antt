@@ -1,6 +1,7 @@
 -- Which calls may need memory. All others never fail for want of it.
-use Rattle.std.specs.Prelude.{ℕ, ◌+◌, Bool, true, false, not, ◌&&◌, nat_lt, length, take, drop, is_some}
+use Rattle.std.specs.Prelude.{◌+◌, Bool, true, false, not, ◌&&◌, nat_lt, length, take, drop, is_some}
 use Rattle.fs_names.specs.Keys.{parent_of}
+use Rattle.fs_names.specs.declared.limits.Limits.{Limits}
 use Rattle.fs_calls.specs.Tree.{Tree}
 use Rattle.fs_calls.specs.Sights.{tree_shapes, is_missing, has_any, has_entries, bytes_of}
 use Rattle.fs_calls.specs.Outcomes.{fault}
@@ -22,6 +23,6 @@ takes_memory t (Read p off count) = has_any (take count (drop off (bytes_of (tre
 takes_memory t (Write p off bytes) = has_any bytes && nat_lt (length (bytes_of (tree_shapes t p))) (off + length bytes)
 takes_memory t (Truncate p size) = nat_lt (length (bytes_of (tree_shapes t p))) size
 
--- a call with an error takes none, where a file has at most so many bytes
-unfoldable pub needs_memory : ℕ → Tree → Call → Bool
-needs_memory most t call = not (is_some (fault most t call)) && takes_memory t call
+-- a call with an error takes none
+unfoldable pub needs_memory : Limits → Tree → Call → Bool
+needs_memory limits t call = not (is_some (fault limits t call)) && takes_memory t call

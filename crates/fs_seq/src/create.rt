@@ -1,15 +1,16 @@
 //! The calls that make a node.
 
-ghost use Rattle.std.specs.Prelude.{◌≡◌, ◌≢◌, ◌≤◌, Some, None, [], length, IfOk, OnOk, OnErr};
+ghost use Rattle.std.specs.Prelude.{◌≡◌, ◌≢◌, ◌≤◌, Some, None, [], length, IfOk, OnOk, OnErr, IsTrue};
 ghost use Rattle.fs_calls.specs.Tree.{inserted};
 ghost use Rattle.fs_slab.specs.code.Nodes.{graph, place};
 ghost use Rattle.fs_slab.specs.code.Slots.{IsForest, place_at, links_at, links_of, tree_of, Dir as IsDir};
-ghost use Rattle.fs_seq.specs.code.Effects.{Answers, Attaches, FindsGap, Gives, NeedsMemory, making_fault, tree_node};
+ghost use Rattle.fs_seq.specs.Memory.{needs_memory};
+ghost use Rattle.fs_seq.specs.code.Effects.{AnswersWithin, Attaches, FindsGap, Gives, making_fault, tree_node};
 
 use fs_calls::path_errors::root_error;
 use fs_calls::{Call, EntryCall, Errno, Reply};
 use fs_memory::Memory;
-use fs_names::{Name, Path};
+use fs_names::{Limits, Name, Path};
 use fs_slab::nodes::{add_link, look_up};
 use fs_slab::{HeldName, Link, Node};
 use slab::Slab;
@@ -45,19 +46,22 @@ pub fn attach(
 }
 
 /// Where a new entry belongs, or why there can be none: the number of its directory and the place among the entries.
-fn gap(nodes: &Slab<Node>, path: &Path) -> Result<(usize, usize), Errno>
+fn gap(nodes: &Slab<Node>, path: &Path, limits: Limits) -> Result<(usize, usize), Errno>
     requires { IsForest (graph nodes.now) }
-    ensures { FindsGap (graph nodes.now) path.now result }
+    ensures { FindsGap limits (graph nodes.now) path.now result }
 {
     if path.len() == 0 {
         return Err(root_error(EntryCall::Mkdir));
     }
     match look_up(nodes, path) {
         Err(errno) => Err(errno),
-        Ok(spot) => match EntryCall::Mkdir.error(spot.sight(nodes), spot.is_full()) {
-            Some(errno) => Err(errno),
-            None => Ok(spot.place()),
-        },
+        Ok(spot) => {
+            let full = spot.is_full(limits.entries());
+            match EntryCall::Mkdir.error(spot.sight(nodes), full) {
+                Some(errno) => Err(errno),
+                None => Ok(spot.place()),
+            }
+        }
     }
 }
 
@@ -67,17 +71,18 @@ fn make(
     memory: &mut Memory,
     nodes: &mut Slab<Node>,
     path: &Path,
+    limits: Limits,
     node: Node,
 ) -> Result<Reply, AllocError>
     requires forest { IsForest (graph nodes.old) }
     requires bare { links_of (Some (place node)) ≡ [] }
-    ensures given { IfOk result (Gives (graph nodes.old) (graph nodes.new) (making_fault (tree_of (graph nodes.old)) path.now) Reply.Done (inserted (tree_of (graph nodes.old)) path.now (tree_node node))) }
+    ensures given { IfOk result (Gives (graph nodes.old) (graph nodes.new) (making_fault limits (tree_of (graph nodes.old)) path.now) Reply.Done (inserted (tree_of (graph nodes.old)) path.now (tree_node node))) }
     ensures err { OnErr result (graph nodes.new ≡ graph nodes.old) }
-    ensures memory { OnErr result (making_fault (tree_of (graph nodes.old)) path.now ≡ None) }
+    ensures memory { OnErr result (making_fault limits (tree_of (graph nodes.old)) path.now ≡ None) }
     ensures granted { OnOk result (memory.new ≡ memory.old) }
     ensures refused { OnErr result (memory.new ≢ memory.old) }
 {
-    match gap(nodes, path) {
+    match gap(nodes, path, limits) {
         Err(errno) => Ok(Reply::Failed(errno)),
         Ok((dir, i)) => {
             attach(
@@ -100,15 +105,23 @@ pub fn mkdir(
     memory: &mut Memory,
     nodes: &mut Slab<Node>,
     path: &Path,
+    limits: Limits,
 ) -> Result<Reply, AllocError>
     requires { IsForest (graph nodes.old) }
-    ensures given { IfOk result (Answers (graph nodes.old) (graph nodes.new) (Call.Mkdir path.now)) }
+    ensures given { IfOk result (AnswersWithin limits (graph nodes.old) (graph nodes.new) (Call.Mkdir path.now)) }
     ensures err { OnErr result (graph nodes.new ≡ graph nodes.old) }
-    ensures memory { OnErr result (NeedsMemory (tree_of (graph nodes.old)) (Call.Mkdir path.now)) }
+    ensures memory { OnErr result (IsTrue (needs_memory limits (tree_of (graph nodes.old)) (Call.Mkdir path.now))) }
     ensures granted { OnOk result (memory.new ≡ memory.old) }
     ensures refused { OnErr result (memory.new ≢ memory.old) }
 {
-    make(alloc, memory, nodes, path, Node::Dir(Vec::new(alloc)))
+    make(
+        alloc,
+        memory,
+        nodes,
+        path,
+        limits,
+        Node::Dir(Vec::new(alloc)),
+    )
 }
 
 /// Makes an empty file.
@@ -117,13 +130,21 @@ pub fn mknod(
     memory: &mut Memory,
     nodes: &mut Slab<Node>,
     path: &Path,
+    limits: Limits,
 ) -> Result<Reply, AllocError>
     requires { IsForest (graph nodes.old) }
-    ensures given { IfOk result (Answers (graph nodes.old) (graph nodes.new) (Call.Mknod path.now)) }
+    ensures given { IfOk result (AnswersWithin limits (graph nodes.old) (graph nodes.new) (Call.Mknod path.now)) }
     ensures err { OnErr result (graph nodes.new ≡ graph nodes.old) }
-    ensures memory { OnErr result (NeedsMemory (tree_of (graph nodes.old)) (Call.Mknod path.now)) }
+    ensures memory { OnErr result (IsTrue (needs_memory limits (tree_of (graph nodes.old)) (Call.Mknod path.now))) }
     ensures granted { OnOk result (memory.new ≡ memory.old) }
     ensures refused { OnErr result (memory.new ≢ memory.old) }
 {
-    make(alloc, memory, nodes, path, Node::File(Vec::new(alloc)))
+    make(
+        alloc,
+        memory,
+        nodes,
+        path,
+        limits,
+        Node::File(Vec::new(alloc)),
+    )
 }

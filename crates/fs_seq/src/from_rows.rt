@@ -12,7 +12,7 @@ use crate::create::attach;
 use crate::rows::Row;
 use fs_calls::ranges::{fits_size, is_full};
 use fs_memory::Memory;
-use fs_names::{Kind, Name};
+use fs_names::{Kind, Limits, Name};
 use fs_slab::Node;
 use fs_slab::copying::copied_bytes;
 use fs_slab::nodes::{search, step};
@@ -30,13 +30,13 @@ pub enum NotTree {
     OutOfMemory,
 }
 
-/// Whether a node of a row's kind may have its bytes, where a file has at most so many.
-fn may_have(row: &Row, most: usize) -> bool
-    ensures { result ≡ may_have most row.now.kind row.now.bytes.items }
+/// Whether a node of a row's kind may have its bytes by these limits.
+fn may_have(row: &Row, limits: Limits) -> bool
+    ensures { result ≡ may_have limits row.now.kind row.now.bytes.items }
 {
     match row.kind {
         Kind::Dir => row.bytes.is_empty(),
-        Kind::File => fits_size(most, row.bytes.len() as u64),
+        Kind::File => fits_size(limits.file(), row.bytes.len() as u64),
     }
 }
 
@@ -68,16 +68,16 @@ fn place_of<'a>(
     nodes: &Slab<Node>,
     before: &Row,
     row: &'a Row,
-    most: usize,
+    limits: Limits,
 ) -> Option<(usize, usize, &'a Name)>
     requires forest { IsForest (graph nodes.now) }
     requires last { last_key (tree_of (graph nodes.now)) ≡ key_of before.now }
-    ensures { MatchOption result (fits most (tree_of (graph nodes.now)) row.now ≡ false) (λ at. IsPlaceOf most (graph nodes.now) row.now at.0 at.1 at.2.now) }
+    ensures { MatchOption result (fits limits (tree_of (graph nodes.now)) row.now ≡ false) (λ at. IsPlaceOf limits (graph nodes.now) row.now at.0 at.1 at.2.now) }
 {
     let Some((name, parent)) = row.key.split_last() else {
         return None;
     };
-    if before.key.cmp(&row.key) != Ordering::Less || !may_have(row, most) {
+    if before.key.cmp(&row.key) != Ordering::Less || !may_have(row, limits) {
         return None;
     }
     let Some(dir) = reached(nodes, parent) else {
@@ -86,7 +86,7 @@ fn place_of<'a>(
     match &nodes[dir] {
         Node::File(_) => None,
         Node::Dir(links) => {
-            if is_full(links.len()) {
+            if is_full(limits.entries(), links.len()) {
                 return None;
             }
             match search(links, name) {
@@ -114,15 +114,15 @@ fn add_row(
     nodes: &mut Slab<Node>,
     before: &Row,
     row: &Row,
-    most: usize,
+    limits: Limits,
 ) -> Result<bool, AllocError>
     requires forest { IsForest (graph nodes.old) }
     requires last { last_key (tree_of (graph nodes.old)) ≡ key_of before.now }
     ensures forest { IsForest (graph nodes.new) }
-    ensures fits { IfOk result (λ fit. fit ≡ fits most (tree_of (graph nodes.old)) row.now) }
+    ensures fits { IfOk result (λ fit. fit ≡ fits limits (tree_of (graph nodes.old)) row.now) }
     ensures tree { result ≡ Ok true → tree_of (graph nodes.new) ≡ tree_of (graph nodes.old) ++ row_of row.now ∷ [] }
 {
-    let Some((dir, i, name)) = place_of(nodes, before, row, most) else {
+    let Some((dir, i, name)) = place_of(nodes, before, row, limits) else {
         return Ok(false);
     };
     let node = bare_node(alloc, row)?;
@@ -130,26 +130,26 @@ fn add_row(
     Ok(true)
 }
 
-/// Adds the nodes of rows to the root alone, where a file has at most so many bytes.
+/// Adds the nodes of rows to the root alone, by these limits.
 pub fn add_rows(
     alloc: Global,
     nodes: &mut Slab<Node>,
     rows: &[Row],
-    most: usize,
+    limits: Limits,
 ) -> Result<(), NotTree>
     requires forest { IsForest (graph nodes.old) }
     requires root { tree_of (graph nodes.old) ≡ root_tree }
     ensures forest { IsForest (graph nodes.new) }
     ensures tree { OnOk result (tree_of (graph nodes.new) ≡ map row_of rows.now) }
-    ensures fits { OnOk result (misfit most rows.now ≡ None) }
-    ensures bad { (place : ℕ) → result ≡ Err (NotTree.Bad place) → misfit most rows.now ≡ Some place }
+    ensures fits { OnOk result (misfit limits rows.now ≡ None) }
+    ensures bad { (place : ℕ) → result ≡ Err (NotTree.Bad place) → misfit limits rows.now ≡ Some place }
 {
     match rows.first() {
         Some(first) if is_first(first) => {}
         _ => return Err(NotTree::Bad(1)),
     }
     for i in 1..rows.len() {
-        match add_row(alloc, nodes, &rows[i - 1], &rows[i], most) {
+        match add_row(alloc, nodes, &rows[i - 1], &rows[i], limits) {
             Ok(true) => {}
             Ok(false) => return Err(NotTree::Bad(i + 1)),
             Err(_) => return Err(NotTree::OutOfMemory),

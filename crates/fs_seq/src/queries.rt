@@ -1,6 +1,8 @@
 //! The calls that change nothing: what stands at a path.
 
-ghost use Rattle.std.specs.Prelude.{◌≡◌, ◌≢◌, ℕ, Some, MatchResult, IfOk, OnOk, OnErr, IsTrue, map};
+ghost use Rattle.std.specs.Prelude.{◌≡◌, ◌≢◌, Some, MatchResult, IfOk, OnOk, OnErr, IsTrue, map};
+ghost use Rattle.fs_names.specs.declared.limits.Limits.{Limits};
+ghost use Rattle.fs_names.specs.declared.limits.Limits.TheVariants.{V1};
 ghost use Rattle.fs_calls.specs.Outcomes.{reply};
 ghost use Rattle.fs_calls.specs.Sights.{has_any};
 ghost use Rattle.fs_calls.specs.code.Targets.{node_call};
@@ -11,25 +13,25 @@ ghost use Rattle.fs_seq.specs.code.Effects.{IsFound, NeedsMemory, node_error};
 use fs_calls::ranges::part;
 use fs_calls::{Bytes, Call, Errno, NameList, NodeCall, Reply};
 use fs_memory::Memory;
-use fs_names::{Kind, Path};
+use fs_names::{Kind, Limits, Path};
 use fs_slab::nodes::resolve;
 use fs_slab::{Link, Node};
 use slab::Slab;
 use std::alloc::{AllocError, Global};
 
-/// The node on which a call works at a path, or the call's first error. No call here asks how many bytes a file may have.
+/// The node on which a call works at a path, or the call's first error. No limit decides a call here.
 fn find<'a>(nodes: &'a Slab<Node>, path: &Path, call: NodeCall<'_>) -> Result<&'a Node, Errno>
     requires { IsForest (graph nodes.now) }
     ensures { MatchResult result
-        (λ node. IsFound (tree_of (graph nodes.now)) (node_call 0 call.entry) path.now (place node.now))
-        (λ e. node_error (tree_of (graph nodes.now)) (node_call 0 call.entry) path.now ≡ Some e) }
+        (λ node. IsFound (tree_of (graph nodes.now)) (node_call V1 call.entry) path.now (place node.now))
+        (λ e. node_error (tree_of (graph nodes.now)) (node_call V1 call.entry) path.now ≡ Some e) }
 {
     let at = match resolve(nodes, path, path.len()) {
         Ok(at) => at,
         Err(errno) => return Err(errno),
     };
     let node = &nodes[at];
-    match call.error(0, node.sight()) {
+    match call.error(Limits::V1, node.sight()) {
         Some(errno) => Err(errno),
         None => Ok(node),
     }
@@ -38,7 +40,7 @@ fn find<'a>(nodes: &'a Slab<Node>, path: &Path, call: NodeCall<'_>) -> Result<&'
 /// The kind of a node and its size.
 pub fn stat(nodes: &Slab<Node>, path: &Path) -> Reply
     requires { IsForest (graph nodes.now) }
-    ensures { (most : ℕ) → result ≡ reply most (tree_of (graph nodes.now)) (Call.Stat path.now) }
+    ensures { (limits : Limits) → result ≡ reply limits (tree_of (graph nodes.now)) (Call.Stat path.now) }
 {
     match find(nodes, path, NodeCall::Stat) {
         Err(errno) => Reply::Failed(errno),
@@ -69,7 +71,7 @@ pub fn readdir(
     path: &Path,
 ) -> Result<Reply, AllocError>
     requires { IsForest (graph nodes.now) }
-    ensures reply { IfOk result (λ r. (most : ℕ) → r ≡ reply most (tree_of (graph nodes.now)) (Call.Readdir path.now)) }
+    ensures reply { IfOk result (λ r. (limits : Limits) → r ≡ reply limits (tree_of (graph nodes.now)) (Call.Readdir path.now)) }
     ensures memory { OnErr result (NeedsMemory (tree_of (graph nodes.now)) (Call.Readdir path.now)) }
     ensures granted { OnOk result (memory.new ≡ memory.old) }
     ensures refused { OnErr result (memory.new ≢ memory.old) }
@@ -105,7 +107,7 @@ pub fn read(
     count: u64,
 ) -> Result<Reply, AllocError>
     requires { IsForest (graph nodes.now) }
-    ensures reply { IfOk result (λ r. (most : ℕ) → r ≡ reply most (tree_of (graph nodes.now)) (Call.Read path.now off count)) }
+    ensures reply { IfOk result (λ r. (limits : Limits) → r ≡ reply limits (tree_of (graph nodes.now)) (Call.Read path.now off count)) }
     ensures memory { OnErr result (NeedsMemory (tree_of (graph nodes.now)) (Call.Read path.now off count)) }
     ensures granted { OnOk result (memory.new ≡ memory.old) }
     ensures refused { OnErr result (memory.new ≢ memory.old) }

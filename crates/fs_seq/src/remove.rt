@@ -1,7 +1,9 @@
 //! The calls that remove a node.
 
 ghost use Rattle.std.specs.Prelude.{◌≡◌, ◌<◌, Some, None, length};
+ghost use Rattle.fs_names.specs.declared.limits.Limits.TheVariants.{V1};
 ghost use Rattle.fs_calls.specs.Forms.{new_shape};
+ghost use Rattle.fs_calls.specs.code.Targets.{entry_call};
 ghost use Rattle.fs_slab.specs.code.Nodes.{graph};
 ghost use Rattle.fs_slab.specs.code.Slots.{IsForest, place_at, links_at, Dir as IsDir};
 ghost use Rattle.fs_seq.specs.code.Effects.{Answers, Detaches, call_on};
@@ -26,7 +28,7 @@ fn detach(nodes: &mut Slab<Node>, dir: usize, i: usize, node: usize)
 /// Removes the entry at a path, unless the row has an error.
 fn remove(nodes: &mut Slab<Node>, path: &Path, entry: EntryCall) -> Reply
     requires forest { IsForest (graph nodes.old) }
-    requires removes { new_shape entry ≡ None }
+    requires removes { new_shape (entry_call V1 entry) ≡ None }
     ensures { Answers (graph nodes.old) (graph nodes.new) (call_on entry path.now) result }
 {
     if path.len() == 0 {

@@ -8,15 +8,16 @@ ghost use Rattle.fs_slab.specs.code.Slots.{IsForest, Sets, place_at, links_at, s
 ghost use Rattle.fs_calls.specs.Sights.{Shape};
 ghost use Rattle.fs_calls.specs.Rows.{place_fault};
 ghost use Rattle.fs_calls.specs.code.Seen.{sight};
+ghost use Rattle.fs_seq.specs.Memory.{needs_memory};
 ghost use Rattle.fs_seq.specs.code.Renaming.{Plans, Displaces, Transfers};
-ghost use Rattle.fs_seq.specs.code.Effects.{Answers, NeedsMemory};
+ghost use Rattle.fs_seq.specs.code.Effects.{AnswersWithin};
 ghost use Rattle.slab.specs.Slab.{ContainsKey};
 
 use fs_calls::ranges::is_full;
 use fs_calls::rows::PairSight;
 use fs_calls::{Call, Errno, PairCall, Reply, Sight, rename_error};
 use fs_memory::Memory;
-use fs_names::{Name, Path};
+use fs_names::{Limits, Name, Path};
 use fs_slab::nodes::{add_link, look_up, remove_link, search, sight_of};
 use fs_slab::{Entry, HeldName, Link, Node, Spot};
 use slab::Slab;
@@ -49,9 +50,9 @@ fn place_error(nodes: &Slab<Node>, node: usize, there: Sight, has_room: bool) ->
 }
 
 /// What a rename has to do, or its first error.
-fn decide(nodes: &Slab<Node>, from: &Path, to: &Path) -> Result<Plan, Errno>
+fn decide(nodes: &Slab<Node>, from: &Path, to: &Path, limits: Limits) -> Result<Plan, Errno>
     requires { IsForest (graph nodes.now) }
-    ensures { Plans (graph nodes.now) from.now to.now result }
+    ensures { Plans limits (graph nodes.now) from.now to.now result }
 {
     if let Some(errno) = rename_error(from, to) {
         return Err(errno);
@@ -78,7 +79,8 @@ fn decide(nodes: &Slab<Node>, from: &Path, to: &Path) -> Result<Plan, Errno>
         }
         Spot::Free(dir, _, _) if dir == entry.dir => Ok(Plan::Within(entry)),
         Spot::Free(dir, place, entries) => {
-            match place_error(nodes, entry.node, Sight::Nothing, !is_full(entries)) {
+            let has_room = !is_full(limits.entries(), entries);
+            match place_error(nodes, entry.node, Sight::Nothing, has_room) {
                 Some(errno) => Err(errno),
                 None => Ok(Plan::Across(entry, dir, place)),
             }
@@ -191,15 +193,16 @@ pub fn rename(
     nodes: &mut Slab<Node>,
     from: &Path,
     to: &Path,
+    limits: Limits,
 ) -> Result<Reply, AllocError>
     requires { IsForest (graph nodes.old) }
-    ensures given { IfOk result (Answers (graph nodes.old) (graph nodes.new) (Call.Rename from.now to.now)) }
+    ensures given { IfOk result (AnswersWithin limits (graph nodes.old) (graph nodes.new) (Call.Rename from.now to.now)) }
     ensures err { OnErr result (graph nodes.new ≡ graph nodes.old) }
-    ensures memory { OnErr result (NeedsMemory (tree_of (graph nodes.old)) (Call.Rename from.now to.now)) }
+    ensures memory { OnErr result (IsTrue (needs_memory limits (tree_of (graph nodes.old)) (Call.Rename from.now to.now))) }
     ensures granted { OnOk result (memory.new ≡ memory.old) }
     ensures refused { OnErr result (memory.new ≢ memory.old) }
 {
-    let plan = match decide(nodes, from, to) {
+    let plan = match decide(nodes, from, to, limits) {
         Ok(plan) => plan,
         Err(errno) => return Ok(Reply::Failed(errno)),
     };

@@ -1,7 +1,6 @@
 //! The sequential tree: a value of its own for one thread.
 
 ghost use Rattle.std.specs.Prelude.{◌≡◌, ◌≢◌, ℕ, true, None, Some, Err, map, IfOk, OnOk, OnErr, IsTrue};
-ghost use Rattle.fs_names.specs.Limits.{file_limit};
 ghost use Rattle.fs_calls.specs.Starts.{root_start};
 ghost use Rattle.fs_calls.specs.Tree.{IsTree};
 ghost use Rattle.fs_calls.specs.Outcomes.{reply_at, called};
@@ -109,13 +108,13 @@ impl SeqTree {
     /// place; where memory is wanted for a row in front of it, `OutOfMemory` is told.
     pub fn from_rows(alloc: Global, rows: &[Row], limits: Limits) -> Result<SeqTree, NotTree>
         ensures tree { IfOk result (λ tree. tree ≡ record { limits = limits; tree = map row_of rows.now }) }
-        ensures fits { OnOk result (misfit (file_limit limits) rows.now ≡ None) }
-        ensures bad { (place : ℕ) → result ≡ Err (NotTree.Bad place) → misfit (file_limit limits) rows.now ≡ Some place }
+        ensures fits { OnOk result (misfit limits rows.now ≡ None) }
+        ensures bad { (place : ℕ) → result ≡ Err (NotTree.Bad place) → misfit limits rows.now ≡ Some place }
     {
         let Ok(mut tree) = SeqTree::with_limits(alloc, limits) else {
             return Err(NotTree::OutOfMemory);
         };
-        match from_rows::add_rows(alloc, &mut tree.nodes, rows, limits.file()) {
+        match from_rows::add_rows(alloc, &mut tree.nodes, rows, limits) {
             Ok(()) => Ok(tree),
             Err(why) => Err(why),
         }
@@ -127,7 +126,7 @@ impl SeqTree {
         ensures reply { IfOk result (λ r. r ≡ reply_at self.old call.now) }
         ensures tree { OnOk result (self.new ≡ called self.old call.now) }
         ensures err { OnErr result (self.new ≡ self.old) }
-        ensures memory { OnErr result (IsTrue (needs_memory (file_limit self.old.limits) self.old.tree call.now)) }
+        ensures memory { OnErr result (IsTrue (needs_memory self.old.limits self.old.tree call.now)) }
     {
         self.apply_counted(alloc, &mut Memory::new(), call)
     }
@@ -142,7 +141,7 @@ impl SeqTree {
         ensures reply { IfOk result (λ r. r ≡ reply_at self.old call.now) }
         ensures tree { OnOk result (self.new ≡ called self.old call.now) }
         ensures err { OnErr result (self.new ≡ self.old) }
-        ensures memory { OnErr result (IsTrue (needs_memory (file_limit self.old.limits) self.old.tree call.now)) }
+        ensures memory { OnErr result (IsTrue (needs_memory self.old.limits self.old.tree call.now)) }
         ensures granted { OnOk result (memory.new ≡ memory.old) }
         ensures refused { OnErr result (memory.new ≢ memory.old) }
     {
@@ -166,7 +165,7 @@ impl SeqTree {
     pub fn look(&self, alloc: Global, call: &Call) -> Result<Reply, AllocError>
         requires { IsTrue (is_look call.now) }
         ensures reply { IfOk result (λ r. r ≡ reply_at self.now call.now) }
-        ensures memory { OnErr result (IsTrue (needs_memory (file_limit self.now.limits) self.now.tree call.now)) }
+        ensures memory { OnErr result (IsTrue (needs_memory self.now.limits self.now.tree call.now)) }
     {
         self.look_counted(alloc, &mut Memory::new(), call)
     }
@@ -180,7 +179,7 @@ impl SeqTree {
     ) -> Result<Reply, AllocError>
         requires { IsTrue (is_look call.now) }
         ensures reply { IfOk result (λ r. r ≡ reply_at self.now call.now) }
-        ensures memory { OnErr result (IsTrue (needs_memory (file_limit self.now.limits) self.now.tree call.now)) }
+        ensures memory { OnErr result (IsTrue (needs_memory self.now.limits self.now.tree call.now)) }
         ensures granted { OnOk result (memory.new ≡ memory.old) }
         ensures refused { OnErr result (memory.new ≢ memory.old) }
     {
@@ -203,11 +202,11 @@ impl SeqTree {
         ensures reply { IfOk result (λ r. r ≡ reply_at self.old (Call.Mkdir path.now)) }
         ensures tree { OnOk result (self.new ≡ called self.old (Call.Mkdir path.now)) }
         ensures err { OnErr result (self.new ≡ self.old) }
-        ensures memory { OnErr result (IsTrue (needs_memory (file_limit self.old.limits) self.old.tree (Call.Mkdir path.now))) }
+        ensures memory { OnErr result (IsTrue (needs_memory self.old.limits self.old.tree (Call.Mkdir path.now))) }
         ensures granted { OnOk result (memory.new ≡ memory.old) }
         ensures refused { OnErr result (memory.new ≢ memory.old) }
     {
-        create::mkdir(alloc, memory, &mut self.nodes, path)
+        create::mkdir(alloc, memory, &mut self.nodes, path, self.limits)
     }
 
     fn mknod(
@@ -219,11 +218,11 @@ impl SeqTree {
         ensures reply { IfOk result (λ r. r ≡ reply_at self.old (Call.Mknod path.now)) }
         ensures tree { OnOk result (self.new ≡ called self.old (Call.Mknod path.now)) }
         ensures err { OnErr result (self.new ≡ self.old) }
-        ensures memory { OnErr result (IsTrue (needs_memory (file_limit self.old.limits) self.old.tree (Call.Mknod path.now))) }
+        ensures memory { OnErr result (IsTrue (needs_memory self.old.limits self.old.tree (Call.Mknod path.now))) }
         ensures granted { OnOk result (memory.new ≡ memory.old) }
         ensures refused { OnErr result (memory.new ≢ memory.old) }
     {
-        create::mknod(alloc, memory, &mut self.nodes, path)
+        create::mknod(alloc, memory, &mut self.nodes, path, self.limits)
     }
 
     fn unlink(&mut self, path: &Path) -> Reply
@@ -250,11 +249,11 @@ impl SeqTree {
         ensures reply { IfOk result (λ r. r ≡ reply_at self.old (Call.Rename from.now to.now)) }
         ensures tree { OnOk result (self.new ≡ called self.old (Call.Rename from.now to.now)) }
         ensures err { OnErr result (self.new ≡ self.old) }
-        ensures memory { OnErr result (IsTrue (needs_memory (file_limit self.old.limits) self.old.tree (Call.Rename from.now to.now))) }
+        ensures memory { OnErr result (IsTrue (needs_memory self.old.limits self.old.tree (Call.Rename from.now to.now))) }
         ensures granted { OnOk result (memory.new ≡ memory.old) }
         ensures refused { OnErr result (memory.new ≢ memory.old) }
     {
-        rename::rename(alloc, memory, &mut self.nodes, from, to)
+        rename::rename(alloc, memory, &mut self.nodes, from, to, self.limits)
     }
 
     fn exchange(&mut self, path: &Path, other: &Path) -> Reply
@@ -272,7 +271,7 @@ impl SeqTree {
 
     fn readdir(&self, alloc: Global, memory: &mut Memory, path: &Path) -> Result<Reply, AllocError>
         ensures reply { IfOk result (λ r. r ≡ reply_at self.now (Call.Readdir path.now)) }
-        ensures memory { OnErr result (IsTrue (needs_memory (file_limit self.now.limits) self.now.tree (Call.Readdir path.now))) }
+        ensures memory { OnErr result (IsTrue (needs_memory self.now.limits self.now.tree (Call.Readdir path.now))) }
         ensures granted { OnOk result (memory.new ≡ memory.old) }
         ensures refused { OnErr result (memory.new ≢ memory.old) }
     {
@@ -288,7 +287,7 @@ impl SeqTree {
         count: u64,
     ) -> Result<Reply, AllocError>
         ensures reply { IfOk result (λ r. r ≡ reply_at self.now (Call.Read path.now off count)) }
-        ensures memory { OnErr result (IsTrue (needs_memory (file_limit self.now.limits) self.now.tree (Call.Read path.now off count))) }
+        ensures memory { OnErr result (IsTrue (needs_memory self.now.limits self.now.tree (Call.Read path.now off count))) }
         ensures granted { OnOk result (memory.new ≡ memory.old) }
         ensures refused { OnErr result (memory.new ≢ memory.old) }
     {
@@ -305,28 +304,21 @@ impl SeqTree {
         ensures reply { IfOk result (λ r. r ≡ reply_at self.old (Call.Write path.now off bytes.now)) }
         ensures tree { OnOk result (self.new ≡ called self.old (Call.Write path.now off bytes.now)) }
         ensures err { OnErr result (self.new ≡ self.old) }
-        ensures memory { OnErr result (IsTrue (needs_memory (file_limit self.old.limits) self.old.tree (Call.Write path.now off bytes.now))) }
+        ensures memory { OnErr result (IsTrue (needs_memory self.old.limits self.old.tree (Call.Write path.now off bytes.now))) }
         ensures granted { OnOk result (memory.new ≡ memory.old) }
         ensures refused { OnErr result (memory.new ≢ memory.old) }
     {
-        write::write(
-            memory,
-            &mut self.nodes,
-            path,
-            off,
-            bytes,
-            self.limits.file(),
-        )
+        write::write(memory, &mut self.nodes, path, off, bytes, self.limits)
     }
 
     fn truncate(&mut self, memory: &mut Memory, path: &Path, size: u64) -> Result<Reply, AllocError>
         ensures reply { IfOk result (λ r. r ≡ reply_at self.old (Call.Truncate path.now size)) }
         ensures tree { OnOk result (self.new ≡ called self.old (Call.Truncate path.now size)) }
         ensures err { OnErr result (self.new ≡ self.old) }
-        ensures memory { OnErr result (IsTrue (needs_memory (file_limit self.old.limits) self.old.tree (Call.Truncate path.now size))) }
+        ensures memory { OnErr result (IsTrue (needs_memory self.old.limits self.old.tree (Call.Truncate path.now size))) }
         ensures granted { OnOk result (memory.new ≡ memory.old) }
         ensures refused { OnErr result (memory.new ≢ memory.old) }
     {
-        write::truncate(memory, &mut self.nodes, path, size, self.limits.file())
+        write::truncate(memory, &mut self.nodes, path, size, self.limits)
     }
 }

@@ -1,6 +1,7 @@
 //! The calls that change the bytes of a file.
 
 ghost use Rattle.std.specs.Prelude.{◌≡◌, ◌≢◌, ◌<◌, ◌+◌, ◌++◌, ◌-◌, ◌^◌, replicate, IfOk, OnOk, OnErr, IsTrue, length, nat_lt, None, Some, ◌&&◌};
+ghost use Rattle.fs_names.specs.Limits.{file_limit};
 ghost use Rattle.fs_calls.specs.Rows.{node_fault, written, resized};
 ghost use Rattle.fs_calls.specs.Sights.{has_any, bytes_of};
 ghost use Rattle.fs_calls.specs.Forms as calls;
@@ -12,7 +13,7 @@ ghost use Rattle.fs_seq.specs.code.Effects.{AnswersWithin, Rewrites, written_if_
 use fs_calls::ranges::put;
 use fs_calls::{Call, Data, NodeCall, Reply};
 use fs_memory::Memory;
-use fs_names::Path;
+use fs_names::{Limits, Path};
 use fs_slab::Node;
 use fs_slab::nodes::resolve;
 use slab::Slab;
@@ -68,20 +69,21 @@ fn fill(memory: &mut Memory, old: &mut Vec<u8>, off: u64, bytes: &[u8]) -> Resul
 }
 
 /// Writes bytes into a node's, unless the row has an error.
+#[tactic(auto, using(fs_names::proofs::LimitLemmas::small_files))]
 fn write_node(
     memory: &mut Memory,
     node: &mut Node,
     off: u64,
     bytes: &Data,
-    most: usize,
+    limits: Limits,
 ) -> Result<Reply, AllocError>
-    ensures given { IfOk result (Rewrites (place node.old) (place node.new) (calls.Write most off bytes.now)) }
+    ensures given { IfOk result (Rewrites (place node.old) (place node.new) (calls.Write (file_limit limits) off bytes.now)) }
     ensures err { OnErr result (place node.new ≡ place node.old) }
-    ensures memory { OnErr result ((node_fault (calls.Write most off bytes.now) None (shape_of (Some (place node.old))) ≡ None) × IsTrue (has_any bytes.now && nat_lt (length (bytes_of (shape_of (Some (place node.old))))) (off + length bytes.now))) }
+    ensures memory { OnErr result ((node_fault (calls.Write (file_limit limits) off bytes.now) None (shape_of (Some (place node.old))) ≡ None) × IsTrue (has_any bytes.now && nat_lt (length (bytes_of (shape_of (Some (place node.old))))) (off + length bytes.now))) }
     ensures granted { OnOk result (memory.new ≡ memory.old) }
     ensures refused { OnErr result (memory.new ≢ memory.old) }
 {
-    if let Some(errno) = NodeCall::Write(off, bytes).error(most, node.sight()) {
+    if let Some(errno) = NodeCall::Write(off, bytes).error(limits, node.sight()) {
         return Ok(Reply::Failed(errno));
     }
     if let Node::File(old) = node {
@@ -105,19 +107,20 @@ fn resize(memory: &mut Memory, bytes: &mut Vec<u8>, size: u64) -> Result<(), All
 }
 
 /// Cuts a node's bytes to a size, or adds zeros up to it, unless the row has an error.
+#[tactic(auto, using(fs_names::proofs::LimitLemmas::small_files))]
 fn truncate_node(
     memory: &mut Memory,
     node: &mut Node,
     size: u64,
-    most: usize,
+    limits: Limits,
 ) -> Result<Reply, AllocError>
-    ensures given { IfOk result (Rewrites (place node.old) (place node.new) (calls.Truncate most size)) }
+    ensures given { IfOk result (Rewrites (place node.old) (place node.new) (calls.Truncate (file_limit limits) size)) }
     ensures err { OnErr result (place node.new ≡ place node.old) }
-    ensures memory { OnErr result ((node_fault (calls.Truncate most size) None (shape_of (Some (place node.old))) ≡ None) × IsTrue (nat_lt (length (bytes_of (shape_of (Some (place node.old))))) size)) }
+    ensures memory { OnErr result ((node_fault (calls.Truncate (file_limit limits) size) None (shape_of (Some (place node.old))) ≡ None) × IsTrue (nat_lt (length (bytes_of (shape_of (Some (place node.old))))) size)) }
     ensures granted { OnOk result (memory.new ≡ memory.old) }
     ensures refused { OnErr result (memory.new ≢ memory.old) }
 {
-    if let Some(errno) = NodeCall::Truncate(size).error(most, node.sight()) {
+    if let Some(errno) = NodeCall::Truncate(size).error(limits, node.sight()) {
         return Ok(Reply::Failed(errno));
     }
     if let Node::File(bytes) = node {
@@ -126,45 +129,45 @@ fn truncate_node(
     Ok(Reply::Done)
 }
 
-/// Writes bytes into the file at the path, where a file has at most so many.
+/// Writes bytes into the file at the path, by these limits.
 pub fn write(
     memory: &mut Memory,
     nodes: &mut Slab<Node>,
     path: &Path,
     off: u64,
     bytes: &Data,
-    most: usize,
+    limits: Limits,
 ) -> Result<Reply, AllocError>
     requires { IsForest (graph nodes.old) }
-    ensures given { IfOk result (AnswersWithin most (graph nodes.old) (graph nodes.new) (Call.Write path.now off bytes.now)) }
+    ensures given { IfOk result (AnswersWithin limits (graph nodes.old) (graph nodes.new) (Call.Write path.now off bytes.now)) }
     ensures err { OnErr result (graph nodes.new ≡ graph nodes.old) }
-    ensures memory { OnErr result (IsTrue (needs_memory most (tree_of (graph nodes.old)) (Call.Write path.now off bytes.now))) }
+    ensures memory { OnErr result (IsTrue (needs_memory limits (tree_of (graph nodes.old)) (Call.Write path.now off bytes.now))) }
     ensures granted { OnOk result (memory.new ≡ memory.old) }
     ensures refused { OnErr result (memory.new ≢ memory.old) }
 {
     match resolve(nodes, path, path.len()) {
         Err(errno) => Ok(Reply::Failed(errno)),
-        Ok(at) => write_node(memory, &mut nodes[at], off, bytes, most),
+        Ok(at) => write_node(memory, &mut nodes[at], off, bytes, limits),
     }
 }
 
-/// Cuts the file at the path to a size, or adds zeros up to it, where a file has at most so many bytes.
+/// Cuts the file at the path to a size, or adds zeros up to it, by these limits.
 pub fn truncate(
     memory: &mut Memory,
     nodes: &mut Slab<Node>,
     path: &Path,
     size: u64,
-    most: usize,
+    limits: Limits,
 ) -> Result<Reply, AllocError>
     requires { IsForest (graph nodes.old) }
-    ensures given { IfOk result (AnswersWithin most (graph nodes.old) (graph nodes.new) (Call.Truncate path.now size)) }
+    ensures given { IfOk result (AnswersWithin limits (graph nodes.old) (graph nodes.new) (Call.Truncate path.now size)) }
     ensures err { OnErr result (graph nodes.new ≡ graph nodes.old) }
-    ensures memory { OnErr result (IsTrue (needs_memory most (tree_of (graph nodes.old)) (Call.Truncate path.now size))) }
+    ensures memory { OnErr result (IsTrue (needs_memory limits (tree_of (graph nodes.old)) (Call.Truncate path.now size))) }
     ensures granted { OnOk result (memory.new ≡ memory.old) }
     ensures refused { OnErr result (memory.new ≢ memory.old) }
 {
     match resolve(nodes, path, path.len()) {
         Err(errno) => Ok(Reply::Failed(errno)),
-        Ok(at) => truncate_node(memory, &mut nodes[at], size, most),
+        Ok(at) => truncate_node(memory, &mut nodes[at], size, limits),
     }
 }

@@ -106,13 +106,13 @@ impl Spot {
         }
     }
 
-    /// Whether the directory has no place for the name; one that stands there has its own.
-    pub fn is_full(&self) -> bool
-        ensures { result ≡ full_there self.now }
+    /// Whether the directory, which has at most so many entries, has no place for the name; one that stands there has its own.
+    pub fn is_full(&self, most: usize) -> bool
+        ensures { result ≡ full_there most self.now }
     {
         match self {
             Spot::Taken(_, _, _) => false,
-            Spot::Free(_, _, entries) => is_full(*entries),
+            Spot::Free(_, _, entries) => is_full(most, *entries),
         }
     }
 

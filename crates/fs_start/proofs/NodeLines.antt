@@ -10,7 +10,7 @@ use Rattle.std.proofs.Math.Seq.{get_or-append_seam}
 use Rattle.std.specs.Prelude.{take, drop, ◌==◌}
 use Rattle.std.specs.List.{slice_split, onto_first}
 use Rattle.std.specs.Str.{bytes_eq}
-use Rattle.fs_names.specs.Limits.{name_limit, file_limit}
+use Rattle.fs_names.specs.Limits.{name_limit}
 use Rattle.fs_names.specs.declared.limits.Limits.{Limits}
 use Rattle.fs_names.specs.declared.limits.Limits.TheVariants.{V1, V2}
 use Rattle.fs_names.specs.declared.limits.TheConstants.{NODE_LIMIT}
@@ -91,7 +91,7 @@ at_entries m start (Err f) h = tt
 one_node : (limits : Limits) (t : Tree) (n : ℕ) (line : List ℕ) → Given (λ (u : Tree). length u ≡ length t + 1) (in_start n (node_in_line (name_limit limits) line >>= grown limits t))
 one_node limits t n line =
     placed (λ (u : Tree). length u ≡ length t + 1) n _ (any_then (λ (u : Tree). length u ≡ length t + 1) (node_in_line (name_limit limits) line) (grown limits t)
-    (λ e. either_by (λ (u : Tree). length u ≡ length t + 1) (fits_at (file_limit limits) t e.0 e.1 e.2) (Ok (t ++ (e.0, node_of_kind e.1 e.2) ∷ [])) (Err kind.BadStart) (λ h. length-append t ((e.0, node_of_kind e.1 e.2) ∷ [])) (λ h. tt)))
+    (λ e. either_by (λ (u : Tree). length u ≡ length t + 1) (fits_at limits t e.0 e.1 e.2) (Ok (t ++ (e.0, node_of_kind e.1 e.2) ∷ [])) (Err kind.BadStart) (λ h. length-append t ((e.0, node_of_kind e.1 e.2) ∷ [])) (λ h. tt)))
 
 from_most : (limits : Limits) (t : Tree) (n : ℕ) (lines : List (List ℕ)) → Given (Bounds 1 (length t + told lines)) (started_from limits t n lines)
 unfolding started_from

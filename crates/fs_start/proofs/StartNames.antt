@@ -10,7 +10,7 @@ use Rattle.std.specs.Str.{bytes_eq}
 use Rattle.fs_names.specs.Keys.{Key}
 use Rattle.fs_names.specs.Names.{Name, can_name}
 use Rattle.fs_names.specs.Reading.{is_slash}
-use Rattle.fs_names.specs.Limits.{name_limit, file_limit}
+use Rattle.fs_names.specs.Limits.{name_limit}
 use Rattle.fs_names.specs.declared.kind.Kind.{Kind}
 use Rattle.fs_names.specs.declared.limits.Limits.{Limits}
 use Rattle.fs_names.specs.declared.limits.Limits.TheVariants.{V1, V2}
@@ -103,7 +103,7 @@ from_given limits t n (line ∷ more) h =
     (either (ShortRead limits) (bytes_eq line (codes "entries")) _ _ (entries_given limits (record { limits = limits; tree = t }) (entries_from (name_limit limits) (n + 1) more) (refl, h))
     (given_then (NamesTree (IsShort (name_limit limits))) (ShortRead limits) (in_start n (node_in_line (name_limit limits) line >>= grown limits t)) (λ u. started_from limits u (n + 1) more)
     (placed (NamesTree (IsShort (name_limit limits))) n _ (given_then (Keyed (name_limit limits)) (NamesTree (IsShort (name_limit limits))) (node_in_line (name_limit limits) line) (grown limits t) (line_given (name_limit limits) line)
-    (λ e g. either (NamesTree (IsShort (name_limit limits))) (fits_at (file_limit limits) t e.0 e.1 e.2) (Ok (t ++ (e.0, node_of_kind e.1 e.2) ∷ [])) (Err kind.BadStart) (one_more (name_limit limits) t (e.0, node_of_kind e.1 e.2) h g) tt)))
+    (λ e g. either (NamesTree (IsShort (name_limit limits))) (fits_at limits t e.0 e.1 e.2) (Ok (t ++ (e.0, node_of_kind e.1 e.2) ∷ [])) (Err kind.BadStart) (one_more (name_limit limits) t (e.0, node_of_kind e.1 e.2) h g) tt)))
     (λ u g. from_given limits u (n + 1) more g)))
 
 behind_given : (P : Start × List Entry → Type 0) (wanted : List ℕ) (read : ℕ → List (List ℕ) → Read) (n : ℕ) (lines : List (List ℕ)) → ((m : ℕ) (rest : List (List ℕ)) → Given P (read m rest)) → Given P (behind_line wanted read n lines)

@@ -2,7 +2,6 @@
 
 ghost use Rattle.std.specs.Prelude.{◌≡◌, ◌≢◌, ◌⊎◌, ◌+◌, ◌-◌, ◌<◌, ◌≤◌, ◌^◌, ℕ, List, length, get_or, Ok, Err, IfOk, OnOk, OnErr, IfErr, IfSome, IsErrOf};
 ghost use Rattle.std.specs.Io.KnownBytes.{Appends, IsAtEnd};
-ghost use Rattle.fs_names.specs.Limits.{file_limit};
 ghost use Rattle.fs_calls.specs.Starts.{Start};
 ghost use Rattle.fs_seq.specs.Rows.{IsWithinLimits};
 ghost use Rattle.fs_words.specs.Lines.{lines_of};
@@ -66,7 +65,7 @@ fn too_many_nodes(text: &[u8]) -> StartFault
 /// The tree that a text has by these limits.
 fn tree_in(alloc: Global, text: &[u8], limits: Limits) -> Result<SeqTree, StartFault>
     ensures tree { IfOk result (λ start. start_of limits text.now ≡ Ok start) }
-    ensures within { IfOk result (λ start. IsWithinLimits (file_limit start.limits) start.tree) }
+    ensures within { IfOk result (λ start. IsWithinLimits start.limits start.tree) }
     ensures fault { IfErr result (IsNoCore limits text.now) }
 {
     match read_start(alloc, text, limits) {

@@ -1,7 +1,7 @@
 //! The paths of nodes.
 
 use fs_calls::Call;
-use fs_names::{ENTRY_LIMIT, NODE_LIMIT, Name, Path};
+use fs_names::{NODE_LIMIT, Name, Path};
 use fs_nodes::{NodeNo, Store};
 use fs_words::Addition;
 use std::alloc::{AllocError, Global};
@@ -9,7 +9,7 @@ use std::alloc::{AllocError, Global};
 /// The name of the entry by which a directory leads to a node.
 pub(crate) fn name_in(store: &Store, dir: NodeNo, node: NodeNo) -> Option<Name> {
     let mut next = store.next_name(dir, None);
-    for _ in 0..ENTRY_LIMIT {
+    for _ in 0..store.entries(dir) {
         let (name, found) = next?;
         if found == node {
             return Some(name);

@@ -4,7 +4,6 @@ use Rattle.std.specs.List.{list_any}
 use Rattle.std.proofs.lemmas.Bool.{eqb-true, eq-eqb, or_cases, or_left, or_right}
 use Rattle.std.proofs.lemmas.List.Folds.{list_any-append}
 use Rattle.fs_names.specs.Failures.{or_else}
-use Rattle.fs_names.specs.Limits.{file_limit}
 use Rattle.fs_names.proofs.FailureLemmas.{or_else-assoc}
 use Rattle.fs_calls.specs.Starts.{Start}
 use Rattle.fs_calls.specs.Outcomes.{play, after, called, next_start}
@@ -133,7 +132,7 @@ due-first start c es begun h =
     ∙ ap (reply_after start (commits es)) (call_of-kept c es (Commit c) begun)
 
 -- the tree after one more call
-pub play-push : (start : Start) (calls : List Call) (call : Call) → play start (calls ++ call ∷ []) ≡ after (file_limit start.limits) (play start calls) call
+pub play-push : (start : Start) (calls : List Call) (call : Call) → play start (calls ++ call ∷ []) ≡ after start.limits (play start calls) call
 play-push start [] call = refl
 play-push start (first ∷ calls) call = play-push (called start first) calls call
 

@@ -6,8 +6,8 @@ use Rattle.std.specs.FinMap.Entries.{by_order}
 use Rattle.std.specs.declared.cmp.Ordering.TheVariants.{Less, Equal, Greater}
 use Rattle.fs_names.specs.Names.{Name, same_name}
 use Rattle.fs_names.specs.Keys.{Key, key_cmp, after_prefix}
-use Rattle.fs_names.specs.Limits.{file_limit}
 use Rattle.fs_names.specs.Failures.{or_else}
+use Rattle.fs_names.specs.declared.limits.Limits.{Limits}
 use Rattle.fs_calls.specs.Tree.{Tree, Node, Dir, File, look, names_in, only_name, with_name, inserted, removed, renamed, exchanged, with_prefix, moved_key, exchanged_key, from_list}
 use Rattle.fs_calls.specs.Sights.{Shape, tree_shapes, shape_of, names_of, bytes_of, has_any, is_same}
 use Rattle.fs_names.specs.Shapes as shapes
@@ -138,34 +138,34 @@ module _ (P : Name → Type 0) where
   either_kept true t new h g = h
   either_kept false t new h g = g
 
-  change_kept : (most : ℕ) (t : Tree) (call : Call) → NamesTree P t → NamesCall P call → NamesTree P (change most t call)
-  change_kept most t (Mkdir p) h g = inserted_kept t p Dir h g
-  change_kept most t (Mknod p) h g = inserted_kept t p (File []) h g
-  change_kept most t (Unlink p) h g = removed_kept t p h
-  change_kept most t (Rmdir p) h g = removed_kept t p h
-  change_kept most t (Rename p q) h g = either_kept (is_same p q) t (renamed t p q) h (renamed_kept t p q h g.1)
-  change_kept most t (Exchange p q) h g = either_kept (is_same p q) t (exchanged t p q) h (exchanged_kept t p q h g.0 g.1)
-  change_kept most t (Stat p) h g = h
-  change_kept most t (Readdir p) h g = h
-  change_kept most t (Read p off count) h g = h
-  change_kept most t (Write p off bytes) h g =
+  change_kept : (limits : Limits) (t : Tree) (call : Call) → NamesTree P t → NamesCall P call → NamesTree P (change limits t call)
+  change_kept limits t (Mkdir p) h g = inserted_kept t p Dir h g
+  change_kept limits t (Mknod p) h g = inserted_kept t p (File []) h g
+  change_kept limits t (Unlink p) h g = removed_kept t p h
+  change_kept limits t (Rmdir p) h g = removed_kept t p h
+  change_kept limits t (Rename p q) h g = either_kept (is_same p q) t (renamed t p q) h (renamed_kept t p q h g.1)
+  change_kept limits t (Exchange p q) h g = either_kept (is_same p q) t (exchanged t p q) h (exchanged_kept t p q h g.0 g.1)
+  change_kept limits t (Stat p) h g = h
+  change_kept limits t (Readdir p) h g = h
+  change_kept limits t (Read p off count) h g = h
+  change_kept limits t (Write p off bytes) h g =
       elim (has_any bytes) as (λ b. NamesTree P (filled t p (cond {A = Option (List ℕ)} b (Some (written (bytes_of (tree_shapes t p)) off bytes)) None))) [
         | true ↦ inserted_kept t p _ h g
         | false ↦ h
       ]
-  change_kept most t (Truncate p size) h g = inserted_kept t p _ h g
+  change_kept limits t (Truncate p size) h g = inserted_kept t p _ h g
 
   sound_kept : (found : Option Errno) (old new : Tree) → NamesTree P old → NamesTree P new → NamesTree P (if_sound found old new)
   sound_kept None old new h g = g
   sound_kept (Some e) old new h g = h
 
-  after_kept : (most : ℕ) (t : Tree) (call : Call) → NamesTree P t → NamesCall P call → NamesTree P (after most t call)
+  after_kept : (limits : Limits) (t : Tree) (call : Call) → NamesTree P t → NamesCall P call → NamesTree P (after limits t call)
   unfolding after
-  after_kept most t call h g = sound_kept (fault most t call) t (change most t call) h (change_kept most t call h g)
+  after_kept limits t call h g = sound_kept (fault limits t call) t (change limits t call) h (change_kept limits t call h g)
 
   pub play_kept : (start : Start) (calls : List Call) → NamesTree P start.tree → AllByRecursion (NamesCall P) calls → NamesTree P (play start calls)
   play_kept start [] h g = h
-  play_kept start (call ∷ calls) h g = play_kept (called start call) calls (after_kept (file_limit start.limits) start.tree call h g.0) g.1
+  play_kept start (call ∷ calls) h g = play_kept (called start call) calls (after_kept start.limits start.tree call h g.0) g.1
 
   -- ---- replies
 
@@ -189,26 +189,26 @@ module _ (P : Name → Type 0) where
   status_kept (Some (shapes.Dir names)) = tt
   status_kept (Some (shapes.File bytes)) = tt
 
-  success_kept : (most : ℕ) (t : Tree) (call : Call) → NamesTree P t → NamesReply P (success most t call)
-  success_kept most t (Mkdir p) h = tt
-  success_kept most t (Mknod p) h = tt
-  success_kept most t (Unlink p) h = tt
-  success_kept most t (Rmdir p) h = tt
-  success_kept most t (Rename p q) h = tt
-  success_kept most t (Exchange p q) h = tt
-  success_kept most t (Stat p) h = status_kept (tree_shapes t p)
-  success_kept most t (Readdir p) h = shape_kept t p (look t p) h
-  success_kept most t (Read p off count) h = tt
-  success_kept most t (Write p off bytes) h = tt
-  success_kept most t (Truncate p size) h = tt
+  success_kept : (limits : Limits) (t : Tree) (call : Call) → NamesTree P t → NamesReply P (success limits t call)
+  success_kept limits t (Mkdir p) h = tt
+  success_kept limits t (Mknod p) h = tt
+  success_kept limits t (Unlink p) h = tt
+  success_kept limits t (Rmdir p) h = tt
+  success_kept limits t (Rename p q) h = tt
+  success_kept limits t (Exchange p q) h = tt
+  success_kept limits t (Stat p) h = status_kept (tree_shapes t p)
+  success_kept limits t (Readdir p) h = shape_kept t p (look t p) h
+  success_kept limits t (Read p off count) h = tt
+  success_kept limits t (Write p off bytes) h = tt
+  success_kept limits t (Truncate p size) h = tt
 
   replied_kept : (found : Option Errno) (well : Reply) → NamesReply P well → NamesReply P (replied found well)
   replied_kept None well h = h
   replied_kept (Some e) well h = tt
 
-  reply_kept : (most : ℕ) (t : Tree) (call : Call) → NamesTree P t → NamesReply P (reply most t call)
+  reply_kept : (limits : Limits) (t : Tree) (call : Call) → NamesTree P t → NamesReply P (reply limits t call)
   unfolding reply
-  reply_kept most t call h = replied_kept (fault most t call) (success most t call) (success_kept most t call h)
+  reply_kept limits t call h = replied_kept (fault limits t call) (success limits t call) (success_kept limits t call h)
 
   -- ---- timelines
 
@@ -250,7 +250,7 @@ module _ (P : Name → Type 0) where
       go None e = absurd (cc)
       go (Some call) e =
           let same : reply_at (next_start start calls) call ≡ r = cc in
-          subst (NamesReply P) same (reply_kept (file_limit start.limits) (play start calls) call (play_kept start calls tree (commits_kept (before_commit c es) (before_commit c es) (before_kept c es h))))
+          subst (NamesReply P) same (reply_kept start.limits (play start calls) call (play_kept start calls tree (commits_kept (before_commit c es) (before_commit c es) (before_kept c es h))))
 
   pub one_more : (es : List Entry) (e : Entry) → AllByRecursion (NamesBegun P) es → NamesBegun P e → AllByRecursion (NamesBegun P) (es ++ e ∷ [])
   one_more [] e h g = (g, tt)

@@ -1,9 +1,8 @@
 -- What a call holds behind goes before all else, so any other move comes where nothing is behind.
 use Rattle.std.proofs.Common.{◌≡◌, ℕ, Bool, false, Option, Some, None, refl, ap, ◌⊎◌, inl, inr}
 use Rattle.fs_names.specs.Keys.{Key, last_of}
-use Rattle.fs_calls.specs.Forms.{Form}
-use Rattle.fs_calls.specs.declared.target.PairCall.{PairCall}
-use Rattle.fs_calls.specs.declared.target.PairCall.TheVariants as pairs
+use Rattle.fs_calls.specs.Forms.{Form, PairCall}
+use Rattle.fs_calls.specs.Forms as pairs
 use Rattle.fs_graph.specs.Graphs.{Graph}
 use Rattle.fs_machine.specs.Moves.{behind_first, first_of, take_if, parents_move, next_on, step_move, target, target_move}
 use Rattle.fs_machine.specs.declared.moves.Move.{Move}
@@ -34,5 +33,5 @@ pub record AtParents (graph : Graph) (c : PairCall) (p q : Key) (st : Holdings) 
   pub is : parents_move graph c p q st ≡ take_if wanted (graph.child st.dest.node (last_of q)) st.victim (Finishes moves)
 
 pub at_parents : (graph : Graph) (c : PairCall) (p q : Key) (st : Holdings) → AtParents graph c p q st
-at_parents graph pairs.Rename p q st = record { wanted = _; moves = _; is = refl }
+at_parents graph (pairs.Rename most) p q st = record { wanted = _; moves = _; is = refl }
 at_parents graph pairs.Exchange p q st = record { wanted = false; moves = _; is = refl }

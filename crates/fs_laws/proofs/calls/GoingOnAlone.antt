@@ -4,8 +4,7 @@ use Rattle.std.proofs.lemmas.List.{length-append}
 use Rattle.fs_names.specs.Keys.{Key, after_prefix, parent_of}
 use Rattle.fs_names.specs.Names.{Name}
 use Rattle.fs_names.specs.Parts.{common, left, left_by}
-use Rattle.fs_calls.specs.Forms.{Form, AtNode, AtEntry, AtPair, under, by_paths}
-use Rattle.fs_calls.specs.declared.target.PairCall.{PairCall}
+use Rattle.fs_calls.specs.Forms.{Form, AtNode, AtEntry, AtPair, under, by_paths, PairCall}
 use Rattle.fs_calls.specs.declared.errno.Errno.{Errno}
 use Rattle.fs_graph.specs.Graphs.{Graph, numbers, IsGraph}
 use Rattle.fs_machine.specs.Moves.{next, next_by, next_on, target, took, victim_took, stepped, inner, tail_of, left_holdings}
@@ -140,7 +139,7 @@ solo_took graph is k op n st s t = go t
 
     less : (t : AtTarget graph op n st) → moves_left op.remaining (stands t) + 1 ≤ moves_left op.remaining st
     less (Entry e p rem way child off) = victim_less off op.remaining
-    less (Replaced p q rem way there at_left want child off) = victim_less off op.remaining
+    less (Replaced most p q rem way there at_left want child off) = victim_less off op.remaining
     less (Of_head side pair p q x l rem way turn at_left child) =
         let walked : Key = (head_on side st).walked in
         let whole : parent_of (of_side side p q) ≡ walked ++ x ∷ l = (forked_of graph st.node pair p q st op.remaining rem way s.well).path side ∙ ap (λ (y : Key). walked ++ y) at_left in

@@ -4,9 +4,8 @@ use Rattle.fs_names.specs.Keys.{Key, parent_of}
 use Rattle.fs_names.specs.Names.{Name}
 use Rattle.fs_names.specs.Parts.{HasNames, common, left}
 use Rattle.fs_names.specs.Shapes.{Dir}
-use Rattle.fs_calls.specs.Forms.{Form, AtNode, AtEntry, AtPair}
-use Rattle.fs_calls.specs.declared.target.PairCall.{PairCall}
-use Rattle.fs_calls.specs.declared.target.PairCall.TheVariants as pairs
+use Rattle.fs_calls.specs.Forms.{Form, AtNode, AtEntry, AtPair, PairCall}
+use Rattle.fs_calls.specs.Forms as pairs
 use Rattle.fs_calls.specs.declared.reply.Reply.{Reply}
 use Rattle.fs_graph.specs.Graphs.{Graph}
 use Rattle.fs_machine.specs.Moves.{target, took, victim_took, stepped, took_by, inner}
@@ -120,7 +119,7 @@ not_there graph p st x l e t = let z : ◌≡◌ {A = Key} [] (x ∷ l) = sym t.
 pub no_victim : (graph : Graph) (op : Record) (n : ℕ) (st : Holdings) → HeadsInOrder graph op.remaining st → VictimAt graph op.remaining st → Take graph op n st → st.victim ≡ None
 no_victim graph op n st neat vic (Walk x l way b child is) = (plain_of graph op.remaining st x l way neat).2
 no_victim graph op n st neat vic (There (Entry e p rem way child off) b is) = off
-no_victim graph op n st neat vic (There (Replaced p q rem way there at_left want child off) b is) = off
+no_victim graph op n st neat vic (There (Replaced most p q rem way there at_left want child off) b is) = off
 no_victim graph op n st neat vic (There (Of_head side c p q x l rem way turn at_left child) b is) = go st.victim (λ v e. none side at_left v e)
   where
     -- a pair holds a victim only once the destination head has arrived
@@ -189,5 +188,5 @@ took_well graph op n st u on w (There t b is) =
         of_turn graph c p q (stepped Source st x n) op.remaining rem way (record { dest = λ h. absurd (not_there graph p st x l at_left (old.dest h)); victim = λ v i. absurd (not_there graph p st x l at_left (old.victim v i)) })
     neat (Of_head Dest c p q x l rem way turn at_left child) =
         of_turn graph c p q (stepped Dest st x n) op.remaining rem way (record { dest = λ h. there_at graph p st (stepped Dest st x n) refl refl turn; victim = λ v i. there_at graph p st (stepped Dest st x n) refl refl turn })
-    neat (Replaced p q rem way there at_left want child off) =
-        of_turn graph pairs.Rename p q (victim_took st n) op.remaining rem way (record { dest = λ h. there_at graph p st (victim_took st n) refl refl there; victim = λ v i. there_at graph p st (victim_took st n) refl refl there })
+    neat (Replaced most p q rem way there at_left want child off) =
+        of_turn graph (pairs.Rename most) p q (victim_took st n) op.remaining rem way (record { dest = λ h. there_at graph p st (victim_took st n) refl refl there; victim = λ v i. there_at graph p st (victim_took st n) refl refl there })

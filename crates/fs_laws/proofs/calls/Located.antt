@@ -7,10 +7,8 @@ use Rattle.fs_names.specs.Names.{Name}
 use Rattle.fs_names.specs.Parts.{HasNames}
 use Rattle.fs_names.specs.Shapes.{Shape, Dir, File, is_full, names_of}
 use Rattle.fs_laws.specs.Changes.{Rekeying, Stay, MoveTo, Swap, Change, moved_by, changed, resolve_next, resolve, resolve_dir, content_change, edit_change, rename_writes, move_change, swap_change, entry_looked, rename_looked, exchange_looked, looked, if_sound, outcome, after}
-use Rattle.fs_calls.specs.Forms.{Form, AtNode, AtEntry, AtPair, by_text, under, Fits}
-use Rattle.fs_calls.specs.declared.target.PairCall.{PairCall}
-use Rattle.fs_calls.specs.declared.target.PairCall.TheVariants as pairs
-use Rattle.fs_calls.specs.declared.target.EntryCall.{EntryCall}
+use Rattle.fs_calls.specs.Forms.{Form, AtNode, AtEntry, AtPair, by_text, under, Fits, PairCall, EntryCall}
+use Rattle.fs_calls.specs.Forms as pairs
 use Rattle.fs_calls.proofs.RowNames.{if_below}
 use Rattle.fs_laws.specs.Maps.{Map, below, act, act_at, move, moved_to, moved_from, swapped_by, swap, write_all}
 use Rattle.fs_calls.specs.Rows.{as_dir, node_row, Edit, Keep, Add, Remove, entry_row, rename_row, exchange_row}
@@ -69,26 +67,26 @@ in_more c [] e = cc
 in_more c (x ∷ p) e = tt
 
 pub from_more : (c : PairCall) (p q : Key) → by_text (AtPair c p q) ≡ None → HasNames p
-from_more pairs.Rename [] q e = cc
+from_more (pairs.Rename most) [] q e = cc
 from_more pairs.Exchange [] q e = cc
 from_more c (x ∷ p) q e = tt
 
 pub to_more : (c : PairCall) (p q : Key) → by_text (AtPair c p q) ≡ None → HasNames q
-to_more pairs.Rename [] [] e = cc
-to_more pairs.Rename (x ∷ p) [] e = cc
+to_more (pairs.Rename most) [] [] e = cc
+to_more (pairs.Rename most) (x ∷ p) [] e = cc
 to_more pairs.Exchange [] [] e = cc
 to_more pairs.Exchange (x ∷ p) [] e = cc
 to_more c p (y ∷ q) e = tt
 
 -- what the paths of a pair decide, by what follows each of them in the other one
 abbrev pub pair_text : PairCall → Option Key → Option Key → Option Errno
-pair_text pairs.Rename there back = if_below there
+pair_text (pairs.Rename most) there back = if_below there
 pair_text pairs.Exchange there back = first_failure (check (has_more there || has_more back) Einval ∷ [])
 
 pub below_text : (c : PairCall) (p q : Key) → HasNames p → HasNames q → by_text (AtPair c p q) ≡ pair_text c (after_prefix p q) (after_prefix q p)
 below_text c [] q m n = absurd m
 below_text c (x ∷ p) [] m n = absurd n
-below_text pairs.Rename (x ∷ p) (y ∷ q) m n = refl
+below_text (pairs.Rename most) (x ∷ p) (y ∷ q) m n = refl
 below_text pairs.Exchange (x ∷ p) (y ∷ q) m n = refl
 
 -- so the second path does not go on from the first, and of an exchange neither from the other
@@ -96,7 +94,7 @@ pub not_under : (c : PairCall) (p q : Key) → by_text (AtPair c p q) ≡ None �
 not_under c p q e h = go c (sym (below_text c p q (from_more c p q e) (to_more c p q e)) ∙ e)
   where
     go : (c : PairCall) → pair_text c (after_prefix p q) (after_prefix q p) ≡ None → ⊥
-    go pairs.Rename f = let z : ◌≡◌ {A = Option Errno} (Some Einval) None = sym (ap (λ (b : Bool). first_failure (check b Einval ∷ [])) h) ∙ f in cc
+    go (pairs.Rename most) f = let z : ◌≡◌ {A = Option Errno} (Some Einval) None = sym (ap (λ (b : Bool). first_failure (check b Einval ∷ [])) h) ∙ f in cc
     go pairs.Exchange f = let z : ◌≡◌ {A = Option Errno} (Some Einval) None = sym (ap (λ (b : Bool). first_failure (check (b || has_more (after_prefix q p)) Einval ∷ [])) h) ∙ f in cc
 
 pub not_over : (p q : Key) → by_text (AtPair pairs.Exchange p q) ≡ None → has_more (after_prefix q p) ≡ true → ⊥
@@ -175,16 +173,16 @@ swap_under k false p q = refl
 in_under : (tree : Map Shape) (k : Key) (c : EntryCall) (p d : Key) (x : Name) → resolve tree k ≡ None → entry_looked tree c (k ++ p) (k ++ d) x ≡ outcome_under k (entry_looked (below k tree) c p d x)
 in_under tree k c p d x at =
     let r : Option Errno = resolve_dir (below k tree) d in
-    ap (λ (e : Option Errno). ((entry_row c (as_dir e (tree (k ++ d))) (is_full (tree (k ++ d))) (tree (k ++ p))).0, edit_change (k ++ d) (names_of (tree (k ++ d))) x (k ++ p) (entry_row c (as_dir e (tree (k ++ d))) (is_full (tree (k ++ d))) (tree (k ++ p))).1)) (resolve_under tree k d at)
-    ∙ ap (λ (ch : Change). ((entry_row c r (is_full (tree (k ++ d))) (tree (k ++ p))).0, ch)) (edit_under k d (names_of (tree (k ++ d))) x p (entry_row c r (is_full (tree (k ++ d))) (tree (k ++ p))).1)
+    ap (λ (e : Option Errno). ((entry_row c (as_dir e (tree (k ++ d))) (tree (k ++ d)) (tree (k ++ p))).0, edit_change (k ++ d) (names_of (tree (k ++ d))) x (k ++ p) (entry_row c (as_dir e (tree (k ++ d))) (tree (k ++ d)) (tree (k ++ p))).1)) (resolve_under tree k d at)
+    ∙ ap (λ (ch : Change). ((entry_row c r (tree (k ++ d)) (tree (k ++ p))).0, ch)) (edit_under k d (names_of (tree (k ++ d))) x p (entry_row c r (tree (k ++ d)) (tree (k ++ p))).1)
 
-rename_under : (tree : Map Shape) (k p q d : Key) (x : Name) (e : Key) (y : Name) → resolve tree k ≡ None → rename_looked tree (k ++ p) (k ++ q) (k ++ d) x (k ++ e) y ≡ outcome_under k (rename_looked (below k tree) p q d x e y)
-rename_under tree k p q d x e y at =
+rename_under : (tree : Map Shape) (most : ℕ) (k p q d : Key) (x : Name) (e : Key) (y : Name) → resolve tree k ≡ None → rename_looked tree most (k ++ p) (k ++ q) (k ++ d) x (k ++ e) y ≡ outcome_under k (rename_looked (below k tree) most p q d x e y)
+rename_under tree most k p q d x e y at =
     rw (resolve_under tree k d at, resolve_under tree k e at, prefix_both k p q, prefix_both k d e, writes_at k (is_end (after_prefix d e)) d (names_of (tree (k ++ d))) x e (names_of (tree (k ++ e))) y)
     (ap (λ (ch : Change). ((row (is_end (after_prefix d e))).0, ch)) (move_under k (row (is_end (after_prefix d e))).1 (rename_writes (is_end (after_prefix d e)) d (names_of (tree (k ++ d))) x e (names_of (tree (k ++ e))) y) p q))
   where
     row : Bool → Reply × Bool
-    row b = rename_row (resolve_dir (below k tree) d) (resolve_dir (below k tree) e) (tree (k ++ p)) (is_end (after_prefix p q)) (tree (k ++ q)) (b || not (is_full (tree (k ++ e))))
+    row b = rename_row (resolve_dir (below k tree) d) (resolve_dir (below k tree) e) (tree (k ++ p)) (is_end (after_prefix p q)) (tree (k ++ q)) (b || not (is_full most (tree (k ++ e))))
 
 exchange_under : (tree : Map Shape) (k p q d e : Key) → resolve tree k ≡ None → exchange_looked tree (k ++ p) (k ++ q) (k ++ d) (k ++ e) ≡ outcome_under k (exchange_looked (below k tree) p q d e)
 exchange_under tree k p q d e at =
@@ -201,12 +199,12 @@ looked_located tree k (AtNode c p) at fits =
 looked_located tree k (AtEntry c p) at fits =
     let m : HasNames p = in_more c p fits in
     ap₂ (entry_looked tree c (k ++ p)) (dir_under k p m) (last_under k p m) ∙ in_under tree k c p (parent_of p) (last_of p) at
-looked_located tree k (AtPair pairs.Rename p q) at fits =
-    let m : HasNames p = from_more pairs.Rename p q fits in
-    let n : HasNames q = to_more pairs.Rename p q fits in
-    ap₂ (λ (d : Key) (x : Name). rename_looked tree (k ++ p) (k ++ q) d x (parent_of (k ++ q)) (last_of (k ++ q))) (dir_under k p m) (last_under k p m)
-    ∙ ap₂ (rename_looked tree (k ++ p) (k ++ q) (k ++ parent_of p) (last_of p)) (dir_under k q n) (last_under k q n)
-    ∙ rename_under tree k p q (parent_of p) (last_of p) (parent_of q) (last_of q) at
+looked_located tree k (AtPair (pairs.Rename most) p q) at fits =
+    let m : HasNames p = from_more (pairs.Rename most) p q fits in
+    let n : HasNames q = to_more (pairs.Rename most) p q fits in
+    ap₂ (λ (d : Key) (x : Name). rename_looked tree most (k ++ p) (k ++ q) d x (parent_of (k ++ q)) (last_of (k ++ q))) (dir_under k p m) (last_under k p m)
+    ∙ ap₂ (rename_looked tree most (k ++ p) (k ++ q) (k ++ parent_of p) (last_of p)) (dir_under k q n) (last_under k q n)
+    ∙ rename_under tree most k p q (parent_of p) (last_of p) (parent_of q) (last_of q) at
 looked_located tree k (AtPair pairs.Exchange p q) at fits =
     ap₂ (exchange_looked tree (k ++ p) (k ++ q)) (dir_under k p (from_more pairs.Exchange p q fits)) (dir_under k q (to_more pairs.Exchange p q fits))
     ∙ exchange_under tree k p q (parent_of p) (parent_of q) at

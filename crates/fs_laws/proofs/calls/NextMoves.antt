@@ -32,7 +32,7 @@ takes_used s c op n run is m = go (takes_from s.graph op n m).0
     by st (Walk x l way b child is) = graph.to_used st.node n x child
     by st (There (Entry e p rem way child off) b is) = graph.to_used st.node n (last_of p) child
     by st (There (Of_head side c p q x l rem way turn at_left child) b is) = graph.to_used (head_on side st).node n x child
-    by st (There (Replaced p q rem way there at_left want child off) b is) = graph.to_used st.dest.node n (last_of q) child
+    by st (There (Replaced most p q rem way there at_left want child off) b is) = graph.to_used st.dest.node n (last_of q) child
 
     go : TakesFrom s.graph op n → (shape : Shape) × (s.graph.shape n ≡ Some shape)
     go (From_nowhere text off z) = (Dir graph.root.0, sym (ap s.graph.shape z) ∙ graph.root.1)

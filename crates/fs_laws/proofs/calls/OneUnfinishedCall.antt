@@ -3,9 +3,8 @@ use Rattle.std.proofs.Common.{◌≡◌, ℕ, Bool, true, false, not, ◌&&◌, 
 use Rattle.fs_names.specs.Keys.{Key, after_prefix, parent_of, last_of, has_more, is_end}
 use Rattle.fs_names.specs.Names.{Name}
 use Rattle.fs_names.specs.Parts.{HasNames, common, left}
-use Rattle.fs_calls.specs.Forms.{Form, AtPair, Fits, by_paths}
-use Rattle.fs_calls.specs.declared.target.PairCall.{PairCall}
-use Rattle.fs_calls.specs.declared.target.PairCall.TheVariants as pairs
+use Rattle.fs_calls.specs.Forms.{Form, AtPair, Fits, by_paths, PairCall}
+use Rattle.fs_calls.specs.Forms as pairs
 use Rattle.fs_graph.specs.Graphs.{Graph, numbers, IsGraph, entry_shape}
 use Rattle.fs_machine.specs.Moves.{same_kind}
 use Rattle.fs_machine.specs.Records.{Holds, Record, Holdings, Source, Dest, head_on}
@@ -135,16 +134,16 @@ solo_wants graph is_graph k op n st solo t h = go t h
         let a : parent_of p ≡ st.source.walked = arrived_is (parent_of p) st.source.walked (f.path Source) turn.arrived in
         let d : parent_of q ≡ st.source.walked ++ l = f.path Dest ∙ ap (λ (y : Key). st.dest.walked ++ y) at_left ∙ sym (append_assoc st.dest.walked (x ∷ []) l) ∙ ap (λ (y : Key). y ++ l) (sym w) in
         common_some st.source.walked l more (sym (ap₂ common a d) ∙ way)
-    go (There (Replaced p q rem way there at_left want child off) b t_is) (inl i) = not_node st.dest.walked st.dest.node (last_of q) (loc.head Dest) child i
-    go (There (Replaced p q rem way there at_left want child off) b t_is) (inr (inr (inr (inl (_, i))))) = not_itself st.dest.walked st.dest.node (last_of q) (loc.head Dest) child i
-    go (There (Replaced p q rem way there at_left want child off) b t_is) (inr (inr (inl (more, i)))) =
-        let f : Forked graph st.node p q st = forked pairs.Rename p q rem way in
-        let fits : Fits (AtPair pairs.Rename p q) = subst Fits rem solo.fits in
+    go (There (Replaced most p q rem way there at_left want child off) b t_is) (inl i) = not_node st.dest.walked st.dest.node (last_of q) (loc.head Dest) child i
+    go (There (Replaced most p q rem way there at_left want child off) b t_is) (inr (inr (inr (inl (_, i))))) = not_itself st.dest.walked st.dest.node (last_of q) (loc.head Dest) child i
+    go (There (Replaced most p q rem way there at_left want child off) b t_is) (inr (inr (inl (more, i)))) =
+        let f : Forked graph st.node p q st = forked (pairs.Rename most) p q rem way in
+        let fits : Fits (AtPair (pairs.Rename most) p q) = subst Fits rem solo.fits in
         let w : st.source.walked ≡ st.dest.walked ++ last_of q ∷ [] = child_of_dest (last_of q) child i in
         let a : parent_of p ≡ st.source.walked = arrived_is (parent_of p) st.source.walked (f.path Source) there.arrived in
         let d : parent_of q ≡ st.dest.walked = arrived_is (parent_of q) st.dest.walked (f.path Dest) at_left in
-        let q_is : q ≡ st.source.walked = key_is q (to_more pairs.Rename p q fits) ∙ ap (λ (y : Key). y ++ last_of q ∷ []) d ∙ sym w in
-        let p_is : p ≡ q ++ last_of p ∷ [] = key_is p (from_more pairs.Rename p q fits) ∙ ap (λ (y : Key). y ++ last_of p ∷ []) (a ∙ sym q_is) in
+        let q_is : q ≡ st.source.walked = key_is q (to_more (pairs.Rename most) p q fits) ∙ ap (λ (y : Key). y ++ last_of q ∷ []) d ∙ sym w in
+        let p_is : p ≡ q ++ last_of p ∷ [] = key_is p (from_more (pairs.Rename most) p q fits) ∙ ap (λ (y : Key). y ++ last_of p ∷ []) (a ∙ sym q_is) in
         let above : has_more (after_prefix q p) ≡ true = ap has_more (ap (after_prefix q) p_is ∙ prefix_append q (last_of p ∷ [])) in
         let below : has_more (after_prefix q p) ≡ false = not_true (has_more (after_prefix q p)) (all_true (same_kind (entry_shape graph st.source.node (last_of p)) (entry_shape graph st.dest.node (last_of q))) (not (is_end (after_prefix p q))) (not (has_more (after_prefix q p))) want) in
         (let z : true ≡ false = sym above ∙ below in cc)

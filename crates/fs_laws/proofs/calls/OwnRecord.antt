@@ -3,6 +3,7 @@ use Rattle.std.proofs.Common.{◌≡◌, ℕ, [], ◌∷◌, Option, Some, None,
 use Rattle.fs_names.specs.Keys.{Key, parent_of, last_of}
 use Rattle.fs_names.specs.Parts.{common}
 use Rattle.fs_names.specs.Shapes.{Shape, Dir}
+use Rattle.fs_names.specs.declared.limits.Limits.{Limits}
 use Rattle.fs_calls.specs.Forms.{Form, AtNode, AtEntry, AtPair}
 use Rattle.fs_graph.specs.Graphs.{Graph, at, numbers, IsGraph}
 use Rattle.fs_machine.specs.Finishes.{Effect}
@@ -59,10 +60,10 @@ victim_by old new linked st k mine (AtEntry c p) a loc apart w = λ v e. a.child
 victim_by old new linked st k mine (AtPair c p q) a loc apart w = λ v e. (a.child_same mine.dest.node (last_of q) (λ h. apart mine.dest.node (node_held Dest (numbers new) k mine loc) h) ∙ (w v e).0, (w v e).1, (w v e).2)
 
 -- another call
-pub own_other : {most : ℕ} (old new : Graph) (linked : Option ℕ) (st : Holdings) (k : Key) (q : Record) → Altered old new linked st → Own most old q
+pub own_other : {limits : Limits} (old new : Graph) (linked : Option ℕ) (st : Holdings) (k : Key) (q : Record) → Altered old new linked st → Own limits old q
     → ((other : Holdings) → q.holdings ≡ Some other → Located (numbers new) k other × ((n : ℕ) → Holds other n → Holds st n → ⊥))
     → ((n : ℕ) → linked ≡ Some n → HasSpare q n → ⊥)
-    → Own most new q
+    → Own limits new q
 own_other old new linked st k q a o stands apart = record {
   parts = o.parts;
   well = λ other e. well_by old new k other q.remaining (stands other e).0 (o.well other e);
@@ -82,11 +83,11 @@ own_other old new linked st k q a o stands apart = record {
 }
 
 -- the call that finishes, where it stands
-pub own_finished : {most : ℕ} (old : Graph) (made : Effect) (linked : Option ℕ) (st : Holdings) (k : Key) (op : Record) → IsGraph old → Altered old made.graph linked st → Own most old op → op.holdings ≡ Some st → Located (numbers made.graph) k st
+pub own_finished : {limits : Limits} (old : Graph) (made : Effect) (linked : Option ℕ) (st : Holdings) (k : Key) (op : Record) → IsGraph old → Altered old made.graph linked st → Own limits old op → op.holdings ≡ Some st → Located (numbers made.graph) k st
     → ((n : ℕ) → linked ≡ Some n → made.reserved ≡ None)
     → ((n : ℕ) → made.reserved ≡ Some n → op.reserved ≡ Some n)
     → ((n : ℕ) → made.removed ≡ Some n → (st.victim ≡ Some n) × ((l : Key) → numbers made.graph l ≡ Some n → ⊥) × Reached old n)
-    → Own most made.graph (finished_op op made)
+    → Own limits made.graph (finished_op op made)
 own_finished old made linked st k op is a o on loc links reserved removed = record {
   parts = o.parts;
   well = λ other e. (let z : ◌≡◌ {A = Option Holdings} (Some st) (Some other) = sym on ∙ e in let y : st ≡ other = cc in subst (λ (s : Holdings). HeadsSound made.graph s.node op.remaining s) y (well_by old made.graph k st op.remaining loc (o.well st on)));

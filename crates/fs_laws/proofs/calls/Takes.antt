@@ -4,10 +4,8 @@ use Rattle.fs_names.specs.Keys.{Key, after_prefix, parent_of, last_of, has_more,
 use Rattle.fs_names.specs.Names.{Name}
 use Rattle.fs_names.specs.Parts.{common, left, left_by}
 use Rattle.fs_names.specs.Shapes.{Shape, Dir, File}
-use Rattle.fs_calls.specs.Forms.{Form, AtNode, AtEntry, AtPair}
-use Rattle.fs_calls.specs.declared.target.PairCall.{PairCall}
-use Rattle.fs_calls.specs.declared.target.PairCall.TheVariants as pairs
-use Rattle.fs_calls.specs.declared.target.EntryCall.{EntryCall}
+use Rattle.fs_calls.specs.Forms.{Form, AtNode, AtEntry, AtPair, PairCall, EntryCall}
+use Rattle.fs_calls.specs.Forms as pairs
 use Rattle.fs_graph.specs.Graphs.{Graph, entry_shape}
 use Rattle.fs_machine.specs.Moves.{next_on, first_of, step_move, take_if, target, target_move, fork_move, parents_move, dir_then, victim_of, same_kind, rename_at, moved_node, took, victim_took, stepped, step_or, target_took, took_by, inner}
 use Rattle.fs_machine.specs.declared.moves.Move.{Move}
@@ -52,14 +50,14 @@ pub data AtTarget (graph : Graph) (op : Record) (n : ℕ) (st : Holdings) : Type
   Entry : (e : EntryCall) (p : Key) → op.remaining ≡ AtEntry e p → parent_of p ≡ [] → graph.child st.node (last_of p) ≡ Some n → st.victim ≡ None → AtTarget graph op n st
   Of_head : (side : Side) (c : PairCall) (p q : Key) (x : Name) (l : Key) → op.remaining ≡ AtPair c p q → common (parent_of p) (parent_of q) ≡ [] → HasTurn side graph p st
       → left (head_on side st).walked (parent_of (of_side side p q)) ≡ x ∷ l → graph.child (head_on side st).node x ≡ Some n → AtTarget graph op n st
-  Replaced : (p q : Key) → op.remaining ≡ AtPair pairs.Rename p q → common (parent_of p) (parent_of q) ≡ [] → SourceThere graph p st
+  Replaced : (most : ℕ) (p q : Key) → op.remaining ≡ AtPair (pairs.Rename most) p q → common (parent_of p) (parent_of q) ≡ [] → SourceThere graph p st
       → left st.dest.walked (parent_of q) ≡ [] → wants graph p q st ≡ true → graph.child st.dest.node (last_of q) ≡ Some n → st.victim ≡ None → AtTarget graph op n st
 
 -- where the call then stands
 abbrev pub stands : {graph : Graph} {op : Record} {n : ℕ} {st : Holdings} → AtTarget graph op n st → Holdings
 stands {graph} {op} {n} {st} (Entry e p rem way child off) = victim_took st n
 stands {graph} {op} {n} {st} (Of_head side c p q x l rem way turn at_left child) = stepped side st x n
-stands {graph} {op} {n} {st} (Replaced p q rem way there at_left want child off) = victim_took st n
+stands {graph} {op} {n} {st} (Replaced most p q rem way there at_left want child off) = victim_took st n
 
 pub data Take (graph : Graph) (op : Record) (n : ℕ) (st : Holdings) : Type 0 where
   Walk : (x : Name) (l : Key) → target op.remaining ≡ x ∷ l → st.behind ≡ None → graph.child st.node x ≡ Some n → took op n ≡ walked_on op st x n → Take graph op n st
@@ -73,13 +71,13 @@ take_closed (There t b is) = b
 pub same_node : {graph : Graph} {op : Record} {n : ℕ} {st : Holdings} (t : AtTarget graph op n st) → (stands t).node ≡ st.node
 same_node (Entry e p rem way child off) = refl
 same_node (Of_head side c p q x l rem way turn at_left child) = refl
-same_node (Replaced p q rem way there at_left want child off) = refl
+same_node (Replaced most p q rem way there at_left want child off) = refl
 
 -- and adds its node to what is held
 pub grown : {graph : Graph} {op : Record} {n : ℕ} {st : Holdings} (t : AtTarget graph op n st) → st.behind ≡ None → Grown st (stands t) n
 grown {graph} {op} {n} {st} (Entry e p rem way child off) b = grown_victim st n off
 grown {graph} {op} {n} {st} (Of_head side c p q x l rem way turn at_left child) b = grown_head side st x n b
-grown {graph} {op} {n} {st} (Replaced p q rem way there at_left want child off) b = grown_victim st n off
+grown {graph} {op} {n} {st} (Replaced most p q rem way there at_left want child off) b = grown_victim st n off
 
 -- a victim is taken where one is wanted, there, and not held
 victim_taken : (b : Bool) (child held : Option ℕ) (m : Moved) (n : ℕ) → take_if b child held (Finishes m) ≡ Takes n → (b ≡ true) × (child ≡ Some n) × (held ≡ None)
@@ -119,10 +117,10 @@ fork_takes graph op n st c p q on rem way behind m = source (left st.source.walk
         -- only a rename takes there
         at_both : (c : PairCall) → op.remaining ≡ AtPair c p q → parents_move graph c p q st ≡ Takes n → Take graph op n st
         at_both pairs.Exchange rem e = cc
-        at_both pairs.Rename rem e =
+        at_both (pairs.Rename most) rem e =
             let v : (wants graph p q st ≡ true) × (graph.child st.dest.node (last_of q) ≡ Some n) × (st.victim ≡ None) =
-            victim_taken (wants graph p q st) (graph.child st.dest.node (last_of q)) st.victim (moved_node (rename_at graph p q st).1 (graph.child st.source.node (last_of p))) n e in
-            There (Replaced p q rem way t j v.0 v.1 v.2) behind (took_there [] [] t.arrived j)
+            victim_taken (wants graph p q st) (graph.child st.dest.node (last_of q)) st.victim (moved_node (rename_at graph most p q st).1 (graph.child st.source.node (last_of p))) n e in
+            There (Replaced most p q rem way t j v.0 v.1 v.2) behind (took_there [] [] t.arrived j)
 
     source : (l : Key) → left st.source.walked (parent_of p) ≡ l → first_of (step_move graph st.source.node l) rest ≡ Takes n → Take graph op n st
     source (x ∷ l) i e = There (Of_head Source c p q x l rem way tt i (step_takes graph st.source.node x l rest n e)) behind (took_there (x ∷ l) (left st.dest.walked (parent_of q)) i refl)

@@ -3,13 +3,13 @@ use Rattle.std.proofs.Common.{◌≡◌, ℕ, [], ◌∷◌, ◌++◌, Some, Non
 use Rattle.fs_names.specs.Keys.{Key, after_prefix, parent_of, last_of}
 use Rattle.fs_names.specs.Names.{Name}
 use Rattle.fs_names.specs.Parts.{common, left, left_by}
-use Rattle.fs_calls.specs.Forms.{Form, AtPair}
-use Rattle.fs_calls.specs.declared.target.PairCall.{PairCall}
-use Rattle.fs_calls.specs.declared.target.PairCall.TheVariants as pairs
+use Rattle.fs_names.specs.declared.limits.Limits.{Limits}
+use Rattle.fs_calls.specs.Forms.{Form, AtPair, PairCall}
+use Rattle.fs_calls.specs.Forms as pairs
 use Rattle.fs_graph.specs.Graphs.{Graph, at, numbers, set_at}
 use Rattle.fs_machine.specs.Moves.{head_took, took, victim_took, stepped}
 use Rattle.fs_machine.specs.Records.{Holds, Record, Holdings, Side, Source, Dest, of_side, head_on, Head}
-use Rattle.fs_laws.specs.Invariants.{Forked, ForkedAt, HeadsSound, VictimAt, IsSingle, IsUnfinished, Own, Invariant, StepKeeps, most_bytes}
+use Rattle.fs_laws.specs.Invariants.{Forked, ForkedAt, HeadsSound, VictimAt, IsSingle, IsUnfinished, Own, Invariant, StepKeeps, limits_of}
 use Rattle.fs_laws.specs.CallFacts.{IsFree, Keeps, Located}
 use Rattle.fs_machine.specs.States.{State, taking}
 use Rattle.fs_machine.specs.declared.answers.Stepped.TheVariants.{Took}
@@ -22,7 +22,7 @@ use Rattle.fs_laws.proofs.events.RecordChanged.{renewed}
 use Rattle.fs_laws.proofs.events.Take.{TakesFrom, From_nowhere, From_holdings, takes_from, Taker, is_free, take_keeps, take_root, take_walk}
 
 -- the same call at a new stand
-own_holdings : {most : ℕ} (graph : Graph) (op : Record) (new : Holdings) → Own most graph op → IsUnfinished op → HeadsSound graph new.node op.remaining new → VictimAt graph op.remaining new → IsSingle new → Own most graph (record op { holdings = Some new })
+own_holdings : {limits : Limits} (graph : Graph) (op : Record) (new : Holdings) → Own limits graph op → IsUnfinished op → HeadsSound graph new.node op.remaining new → VictimAt graph op.remaining new → IsSingle new → Own limits graph (record op { holdings = Some new })
 own_holdings graph op new o unf well victim single = record {
   parts = o.parts;
   well = λ st e. subst (λ (s : Holdings). HeadsSound graph s.node op.remaining s) (one_holdings refl e) well;
@@ -102,15 +102,15 @@ kept_there graph k op n st loc well victim b (Entry e p rem way child off) = rec
   well = subst (λ (f : Form). HeadsSound graph st.node f (victim_took st n)) (sym rem) tt;
   victim = subst (λ (f : Form). VictimAt graph f (victim_took st n)) (sym rem) (λ v i. child ∙ i);
 }
-kept_there graph k op n st loc well victim b (Replaced p q rem way there at_left want child off) = record {
+kept_there graph k op n st loc well victim b (Replaced most p q rem way there at_left want child off) = record {
   taken = takes_victim (numbers graph) k st (k ++ st.dest.walked) st.dest.node (last_of q) n off (loc.head Dest) (node_held Dest (numbers graph) k st loc) (at_child graph.child 0 st.dest.node (k ++ st.dest.walked) (last_of q) (loc.head Dest) ∙ child);
   located = record { here = loc.here; head = loc.head };
-  well = well_of graph st.node pairs.Rename p q (victim_took st n) op.remaining rem way (record { stands = f.stands; path = f.path });
+  well = well_of graph st.node (pairs.Rename most) p q (victim_took st n) op.remaining rem way (record { stands = f.stands; path = f.path });
   victim = subst (λ (g : Form). VictimAt graph g (victim_took st n)) (sym rem) (λ v i. (child ∙ i, f.path Dest ∙ ap (λ (y : Key). st.dest.walked ++ y) at_left ∙ append-nil st.dest.walked, tt));
 }
   where
     f : Forked graph st.node p q st
-    f = forked_of graph st.node pairs.Rename p q st op.remaining rem way well
+    f = forked_of graph st.node (pairs.Rename most) p q st op.remaining rem way well
 
 -- a take that leaves the position
 take_there : (old : State) (inv : Invariant old) (c : ℕ) (op : Record) (n : ℕ) (st : Holdings) → Taker old inv c op n → op.holdings ≡ Some st → (t : AtTarget old.graph op n st) → st.behind ≡ None → took op n ≡ with_holdings op (stands t) → Invariant (taking old c op n)
@@ -124,7 +124,7 @@ take_there old inv c op n st t on at_target b took_is = subst (λ (v : Record). 
     new : Holdings
     new = stands at_target
 
-    own : Own (most_bytes old) old.graph op
+    own : Own (limits_of old) old.graph op
     own = inv.own c op t.is
 
     keeps : Keeps (numbers old.graph) (inv.key c) op st

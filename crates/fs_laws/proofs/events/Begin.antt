@@ -3,9 +3,7 @@ use Rattle.std.proofs.Common.{◌≡◌, ℕ, ◌<◌, ◌+◌, true, false, Lis
 use Rattle.fs_names.specs.Keys.{Key}
 use Rattle.fs_names.specs.Names.{Name, has_name}
 use Rattle.fs_names.specs.Shapes.{Shape, Dir, File}
-use Rattle.fs_calls.specs.Forms.{form, Form, AtNode, AtEntry, AtPair, new_shape, reserves, under, Fits, reserved_by}
-use Rattle.fs_calls.specs.declared.target.EntryCall.{EntryCall}
-use Rattle.fs_calls.specs.declared.target.EntryCall.TheVariants.{Mkdir, Mknod, Unlink, Rmdir}
+use Rattle.fs_calls.specs.Forms.{form, Form, AtNode, AtEntry, AtPair, new_shape, reserves, under, Fits, reserved_by, EntryCall, Mkdir, Mknod, Unlink, Rmdir}
 use Rattle.fs_laws.specs.Maps.{Map}
 use Rattle.fs_calls.specs.declared.call.Call.{Call}
 use Rattle.fs_calls.specs.declared.reply.Reply.{Reply}
@@ -15,7 +13,7 @@ use Rattle.fs_timeline.specs.declared.entry.Entry.TheVariants.{Begin}
 use Rattle.fs_machine.specs.Records.{Phase, Walking, Placed, Finished, Holds, Record, Holdings}
 use Rattle.fs_laws.specs.JournalViews.{JournalView, start, view_after, noted}
 use Rattle.fs_timeline.specs.Timeline.{begins, commit_count}
-use Rattle.fs_laws.specs.Invariants.{remaining_of, spots, IsPlaced, HasSpare, IsIn, NumberFor, Own, Invariant, BeginKeeps, Tied, Dues, most_bytes}
+use Rattle.fs_laws.specs.Invariants.{remaining_of, spots, IsPlaced, HasSpare, IsIn, NumberFor, Own, Invariant, BeginKeeps, Tied, Dues, limits_of}
 use Rattle.fs_laws.specs.Settled.{settle, settle_replies}
 use Rattle.fs_laws.specs.CallFacts.{CallFacts}
 use Rattle.fs_machine.specs.States.{State, Reserves, began, new_op}
@@ -44,7 +42,7 @@ pub record Given (old : State) (call : Form) (reserved : Option ℕ) (graph : Gr
 unreached_by : (old : State) (inv : Invariant old) (n : ℕ) → old.graph.shape n ≡ None → (key : Key) → numbers old.graph key ≡ Some n → ⊥
 unreached_by old inv n free key e = let u : (s : Shape) × (old.graph.shape n ≡ Some s) = reached_used old.graph inv.is_graph key n e in let z : ◌≡◌ {A = Option Shape} None (Some u.0) = sym free ∙ u.1 in cc
 
-begin_keeps : (old : State) (inv : Invariant old) (seat : ℕ) (call : Call) (c : ℕ) (reserved : Option ℕ) (graph : Graph) → old.on_seat seat ≡ None → c ≡ begins old.timeline + 1 → Given old (form (most_bytes old) call) reserved graph
+begin_keeps : (old : State) (inv : Invariant old) (seat : ℕ) (call : Call) (c : ℕ) (reserved : Option ℕ) (graph : Graph) → old.on_seat seat ≡ None → c ≡ begins old.timeline + 1 → Given old (form (limits_of old) call) reserved graph
     → Invariant (began old seat call c reserved graph)
 begin_keeps old inv seat call c reserved graph free number g = record {
   key = inv.key;
@@ -121,12 +119,12 @@ begin_keeps old inv seat call c reserved graph free number g = record {
             here (Else n j) = absurd (n e)
         calls d q (Old m e) = upd_else c (Some call) (view_after (start old.start) old.timeline).call d m ∙ inv.tied.calls d q e
 
-    new_own : Own (most_bytes old) graph (new_op old.start.limits seat call reserved)
+    new_own : Own (limits_of old) graph (new_op old.start.limits seat call reserved)
     new_own = record {
-      parts = under_nil (form (most_bytes old) call);
+      parts = under_nil (form (limits_of old) call);
       well = λ st e. cc;
       spare = λ m e. ((g.new m e).1, λ key i. unreached_by old inv m (g.new m e).0 key (sym (ap (λ (t : Map ℕ). t key) (numbers_by old.graph graph g.children)) ∙ i));
-      number = λ u f. g.number (by_text_any (most_bytes old) call ∙ f);
+      number = λ u f. g.number (by_text_any (limits_of old) call ∙ f);
       placed = λ i e. cc;
       gone = λ m e. cc;
       intact = λ u. refl;
@@ -140,8 +138,8 @@ begin_keeps old inv seat call c reserved graph free number g = record {
     spare_used d m q e (inl i) = ((inv.own d q e).spare m i).0
     spare_used d m q e (inr i) = ((inv.own d q e).gone m i).2
 
-    own : (d : ℕ) (q : Record) → Either old.ops c (new_op old.start.limits seat call reserved) d q → Own (most_bytes old) graph q
-    own d q (Changed e f) = subst (Own (most_bytes old) graph) f new_own
+    own : (d : ℕ) (q : Record) → Either old.ops c (new_op old.start.limits seat call reserved) d q → Own (limits_of old) graph q
+    own d q (Changed e f) = subst (Own (limits_of old) graph) f new_own
     own d q (Old m e) = own_children old.graph graph g.children q (λ k h. (let u : (s : Shape) × (old.graph.shape k ≡ Some s) = spare_used d k q e h in g.shapes k u.0 u.1)) (inv.own d q e)
 
     held : (d : ℕ) (q : Record) (st : Holdings) (n : ℕ) → Either old.ops c (new_op old.start.limits seat call reserved) d q → q.holdings ≡ Some st → Holds st n → old.holder n ≡ Some d
@@ -194,12 +192,12 @@ begin_keeps old inv seat call c reserved graph free number g = record {
 
 -- a directory that is made has no names
 bare_new : (e : EntryCall) (s : Shape) → new_shape e ≡ Some s → (names : List Name) (x : Name) → s ≡ Dir names → has_name x names ≡ true → ⊥
-bare_new Mkdir s i names x f h = let z : ◌≡◌ {A = Option Shape} (Some (Dir [])) (Some (Dir names)) = i ∙ ap (λ (t : Shape). Some t) f in none names x (let y : [] ≡ names = cc in y) h
+bare_new (Mkdir most) s i names x f h = let z : ◌≡◌ {A = Option Shape} (Some (Dir [])) (Some (Dir names)) = i ∙ ap (λ (t : Shape). Some t) f in none names x (let y : [] ≡ names = cc in y) h
   where
     none : (names : List Name) (x : Name) → [] ≡ names → has_name x names ≡ true → ⊥
     none [] x e h = cc
     none (y ∷ ys) x e h = cc
-bare_new Mknod s i names x f h = let z : ◌≡◌ {A = Option Shape} (Some (File [])) (Some (Dir names)) = i ∙ ap (λ (t : Shape). Some t) f in cc
+bare_new (Mknod most) s i names x f h = let z : ◌≡◌ {A = Option Shape} (Some (File [])) (Some (Dir names)) = i ∙ ap (λ (t : Shape). Some t) f in cc
 bare_new Unlink s i names x f h = cc
 bare_new Rmdir s i names x f h = cc
 
@@ -235,18 +233,18 @@ keeps_begun c old new seat call inv (free, number, r) = go (reserved_by call) re
       spelled = refl;
       shapes = λ m s e. refl;
       new = λ m e. cc;
-      number = number_none old.graph (form (most_bytes old) call) (reserves_any (most_bytes old) call ∙ i);
+      number = number_none old.graph (form (limits_of old) call) (reserves_any (limits_of old) call ∙ i);
     }))
     go (Some s) i (n, below, unused, same) =
         let loose : (key : Key) → numbers old.graph key ≡ Some n → ⊥ = unreached_by old inv n unused in
         let here : (reserved_in n s old.graph).shape n ≡ Some s = there n s (place n (Some s) old.graph.shape n) in
         subst Invariant (sym same) (begin_keeps old inv seat call c (Some n) (reserved_in n s old.graph) free number (record {
           children = refl;
-          is_graph = graph_reserved old.graph inv.is_graph n s unused (bare_of (form (most_bytes old) call) s (reserves_any (most_bytes old) call ∙ i));
+          is_graph = graph_reserved old.graph inv.is_graph n s unused (bare_of (form (limits_of old) call) s (reserves_any (limits_of old) call ∙ i));
           spelled = shapes_reserved old.graph inv.is_graph n s unused;
           shapes = λ m t e. upd_else n (Some s) old.graph.shape m (λ j. (let z : ◌≡◌ {A = Option Shape} None (Some t) = sym unused ∙ ap old.graph.shape (sym j) ∙ e in cc));
           new = λ m e. new_number n m s unused here e;
-          number = number_given (reserved_in n s old.graph) (form (most_bytes old) call) s n (reserves_any (most_bytes old) call ∙ i) here loose;
+          number = number_given (reserved_in n s old.graph) (form (limits_of old) call) s n (reserves_any (limits_of old) call ∙ i) here loose;
         }))
       where
         there : (n : ℕ) (s : Shape) → Place (Option Shape) n (Some s) old.graph.shape n → (reserved_in n s old.graph).shape n ≡ Some s

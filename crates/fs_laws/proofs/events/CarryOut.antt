@@ -2,6 +2,7 @@
 use Rattle.std.proofs.Common.{◌≡◌, ℕ, ◌<◌, List, [], ◌∷◌, ◌++◌, Option, Some, None, refl, sym, ap, ap₂, ◌∙◌, arith, subst, ◌⊎◌, inl, inr}
 use Rattle.fs_names.specs.Keys.{Key, after_prefix}
 use Rattle.fs_names.specs.Shapes.{Shape}
+use Rattle.fs_names.specs.declared.limits.Limits.{Limits}
 use Rattle.fs_laws.specs.Changes.{Rekeying, Stay, MoveTo, Swap, Change, reply}
 use Rattle.fs_calls.specs.Forms.{Form, under, Fits, by_text, by_paths}
 use Rattle.fs_laws.specs.Maps.{Map, swapped_by}
@@ -15,7 +16,7 @@ use Rattle.fs_machine.specs.declared.moves.Move.TheVariants.{Finish as Finishes}
 use Rattle.fs_machine.specs.declared.moves.Moved.{Moved}
 use Rattle.fs_machine.specs.Records.{Phase, Walking, Placed, Finished, Record, Records, Holdings}
 use Rattle.fs_laws.specs.JournalViews.{start, view_after}
-use Rattle.fs_laws.specs.Invariants.{remaining_of, spots, IsPlaced, AllLater, InOrder, HasSpare, IsIn, Own, Invariant, StepKeeps, Tied, most_bytes}
+use Rattle.fs_laws.specs.Invariants.{remaining_of, spots, IsPlaced, AllLater, InOrder, HasSpare, IsIn, Own, Invariant, StepKeeps, Tied, limits_of}
 use Rattle.fs_laws.specs.Placed.{InPlace, rekey, rekey_by, rekey_move, rekey_all}
 use Rattle.fs_laws.specs.Settled.{settle, settle_replies}
 use Rattle.fs_laws.specs.CallFacts.{IsAfter, CallFacts}
@@ -141,15 +142,15 @@ spots_off ops key ch [] h = refl
 spots_off ops key ch (d ∷ cs) h = ap₂ (λ (k : Key) (ps : List (Key × Form)). (k, remaining_of (ops d)) ∷ ps) (h d (inl refl)) (spots_off ops key ch cs (λ e i. h e (inr i)))
 
 -- a call that stands is not decided by its paths
-pub text_nowhere : (most : ℕ) (graph : Graph) (op : Record) (e : Errno) → Own most graph op → Fits op.remaining → by_paths op.call ≡ Some e → ⊥
-text_nowhere most graph op e own fits text = let z : ◌≡◌ {A = Option Errno} (Some e) None = sym text ∙ sym (by_text_any most op.call) ∙ ap by_text (sym own.parts) ∙ fits_under op.walked op.remaining fits in cc
+pub text_nowhere : (limits : Limits) (graph : Graph) (op : Record) (e : Errno) → Own limits graph op → Fits op.remaining → by_paths op.call ≡ Some e → ⊥
+text_nowhere limits graph op e own fits text = let z : ◌≡◌ {A = Option Errno} (Some e) None = sym text ∙ sym (by_text_any limits op.call) ∙ ap by_text (sym own.parts) ∙ fits_under op.walked op.remaining fits in cc
 
 carry_in_place : (old : State) (inv : Invariant old) (c : ℕ) (op : Record) (i : ℕ) (st : Holdings) (o : Moved) (front back : List ℕ) → inv.order ≡ front ++ c ∷ back → old.ops c ≡ Some op → op.phase ≡ Placed i → by_paths op.call ≡ None → op.holdings ≡ Some st → next_on old.graph op.remaining st ≡ Finishes o
     → Invariant (carrying old c op)
 carry_in_place old inv c op i st o front back order_is is pl text on n =
     subst (λ (m : Effect). Invariant (ended old c op m old.timeline)) (sym made_is) (ends_keep old inv c op (effect_at old.graph op.remaining st op.reserved) old.timeline made_ends)
   where
-    own : Own (most_bytes old) old.graph op
+    own : Own (limits_of old) old.graph op
     own = inv.own c op is
 
     unfinished : (r : Reply) → op.phase ≡ Finished r → ⊥
@@ -294,5 +295,5 @@ keeps_carried old new seat inv (c, op, s, i, moves, pl, same) = subst Invariant 
     parts = split_at c inv.order (inv.all_placed c op i moves.1 pl).1
 
     go : Ready old.graph op s → Invariant (carrying old c op)
-    go (By_text e text) = let p : (st : Holdings) × (op.holdings ≡ Some st) = (inv.own c op moves.1).placed i pl in absurd (text_nowhere (most_bytes old) old.graph op e (inv.own c op moves.1) (inv.kept.each c op p.0 moves.1 p.1).fits text)
+    go (By_text e text) = let p : (st : Holdings) × (op.holdings ≡ Some st) = (inv.own c op moves.1).placed i pl in absurd (text_nowhere (limits_of old) old.graph op e (inv.own c op moves.1) (inv.kept.each c op p.0 moves.1 p.1).fits text)
     go (By_holdings st text on n) = carry_in_place old inv c op i st s parts.front parts.back parts.is moves.1 pl text on n

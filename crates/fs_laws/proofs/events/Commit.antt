@@ -10,7 +10,6 @@ use Rattle.fs_calls.specs.declared.errno.Errno.{Errno}
 use Rattle.fs_calls.specs.declared.reply.Reply.{Reply}
 use Rattle.fs_calls.specs.declared.reply.Reply.TheVariants.{Failed}
 use Rattle.fs_calls.proofs.FormLemmas.{by_text_any}
-use Rattle.fs_names.specs.Limits.{file_limit}
 use Rattle.fs_calls.specs.Starts.{Start}
 use Rattle.fs_graph.specs.Graphs.{Graph, numbers, graph_shapes, set_at}
 use Rattle.fs_timeline.specs.declared.entry.Entry.{Entry}
@@ -22,7 +21,7 @@ use Rattle.fs_machine.specs.declared.moves.Moved.{Moved}
 use Rattle.fs_machine.specs.Records.{Phase, Walking, Placed, Finished, Record, Records, Holdings}
 use Rattle.fs_laws.specs.JournalViews.{JournalView, start, view_after, IsNext}
 use Rattle.fs_timeline.specs.Timeline.{commit_count}
-use Rattle.fs_laws.specs.Invariants.{remaining_of, spots, IsPlaced, AllLater, InOrder, HasSpare, IsIn, Own, Invariant, StepKeeps, Tied, most_bytes}
+use Rattle.fs_laws.specs.Invariants.{remaining_of, spots, IsPlaced, AllLater, InOrder, HasSpare, IsIn, Own, Invariant, StepKeeps, Tied, limits_of}
 use Rattle.fs_laws.specs.Placed.{ReadsNothingBelow, ChangesNothingBelow, Passes, PastAll, InPlace, rekey, rekey_all}
 use Rattle.fs_laws.specs.Settled.{settle, settle_replies}
 use Rattle.fs_laws.specs.CallFacts.{IsAfter, Keeps, CallFacts, Pair}
@@ -146,7 +145,7 @@ same_committed first es c call e = record {
   busy = λ seat. ap (λ (b : JournalView). b.busy seat) is;
 }
   where
-    is : view_after (start first) (es ++ Commit c ∷ []) ≡ committed (view_after (start first) es) c (form (file_limit first.limits) call)
+    is : view_after (start first) (es ++ Commit c ∷ []) ≡ committed (view_after (start first) es) c (form first.limits call)
     is = view_push (start first) es (Commit c) ∙ noted_played first es c call e
 
 -- a walking call that stands finishes
@@ -155,7 +154,7 @@ commit_in_place : (old : State) (inv : Invariant old) (c : ℕ) (op : Record) (s
 commit_in_place old inv c op st o is w below text on n =
     subst (λ (m : Effect). Invariant (ended old c op m (old.timeline ++ Commit c ∷ []))) (sym made_is) (ends_keep old inv c op (effect_at old.graph op.remaining st op.reserved) (old.timeline ++ Commit c ∷ []) made_ends)
   where
-    own : Own (most_bytes old) old.graph op
+    own : Own (limits_of old) old.graph op
     own = inv.own c op is
 
     unfinished : (r : Reply) → op.phase ≡ Finished r → ⊥
@@ -183,7 +182,7 @@ commit_in_place old inv c op st o is w below text on n =
     made_is : finish old.graph op ≡ effect_at old.graph op.remaining st op.reserved
     made_is = ap₂ (effect_of old.graph op) text on
 
-    call_is : under (inv.key c) op.remaining ≡ form (most_bytes old) op.call
+    call_is : under (inv.key c) op.remaining ≡ form (limits_of old) op.call
     call_is = ap (λ (k : Key). under k op.remaining) ((inv.kept.each c op st is on).walking w) ∙ own.parts
 
     call_known : (view_after (start old.start) old.timeline).call c ≡ Some op.call
@@ -207,22 +206,22 @@ commit_in_place old inv c op st o is w below text on n =
     after_is : after (graph_shapes old.graph) (under (inv.key c) op.remaining) ≡ graph_shapes (effect_at old.graph op.remaining st op.reserved).graph
     after_is = ap (λ (x : Change). changed x (graph_shapes old.graph)) facts_of.out ∙ sym facts_of.tree_is
 
-    tree_is : settle (graph_shapes (effect_at old.graph op.remaining st op.reserved).graph) (spots old.ops (λ d. rekey facts_of.ch (inv.key d)) inv.order) ≡ after (settle (graph_shapes old.graph) (spots old.ops inv.key inv.order)) (form (most_bytes old) op.call)
+    tree_is : settle (graph_shapes (effect_at old.graph op.remaining st op.reserved).graph) (spots old.ops (λ d. rekey facts_of.ch (inv.key d)) inv.order) ≡ after (settle (graph_shapes old.graph) (spots old.ops inv.key inv.order)) (form (limits_of old) op.call)
     tree_is = ap₂ settle (sym after_is) (spots_rekey old.ops inv.key facts_of.ch inv.order) ∙ all.tree_is ∙ ap (after (settle (graph_shapes old.graph) (spots old.ops inv.key inv.order))) call_is
 
-    same_outcome : outcome (settle (graph_shapes old.graph) (spots old.ops inv.key inv.order)) (form (most_bytes old) op.call) ≡ outcome (graph_shapes old.graph) (form (most_bytes old) op.call)
+    same_outcome : outcome (settle (graph_shapes old.graph) (spots old.ops inv.key inv.order)) (form (limits_of old) op.call) ≡ outcome (graph_shapes old.graph) (form (limits_of old) op.call)
     same_outcome = subst (λ (x : Form). outcome (settle (graph_shapes old.graph) (spots old.ops inv.key inv.order)) x ≡ outcome (graph_shapes old.graph) x) call_is all.same_outcome
 
     same_replies : settle_replies (graph_shapes (effect_at old.graph op.remaining st op.reserved).graph) (spots old.ops (λ d. rekey facts_of.ch (inv.key d)) inv.order) ≡ settle_replies (graph_shapes old.graph) (spots old.ops inv.key inv.order)
     same_replies = ap₂ settle_replies (sym after_is) (spots_rekey old.ops inv.key facts_of.ch inv.order) ∙ all.same_replies
 
-    both : IsNext (view_after (start old.start) old.timeline) (Commit c) × Tied (graph_shapes (effect_at old.graph op.remaining st op.reserved).graph) (set_at c (Some (phased op (Finished (reply (graph_shapes old.graph) (form (most_bytes old) op.call)), (effect_at old.graph op.remaining st op.reserved).reserved, (effect_at old.graph op.remaining st op.reserved).removed))) old.ops) (λ d. rekey facts_of.ch (inv.key d)) inv.order (committed (view_after (start old.start) old.timeline) c (form (most_bytes old) op.call))
-    both = tied_commit (most_bytes old) (effect_at old.graph op.remaining st op.reserved).reserved (effect_at old.graph op.remaining st op.reserved).removed (graph_shapes old.graph) (graph_shapes (effect_at old.graph op.remaining st op.reserved).graph) old.ops inv.key (λ d. rekey facts_of.ch (inv.key d)) inv.order (view_after (start old.start) old.timeline) c op inv.tied is w inv.in_order tree_is same_outcome same_replies
+    both : IsNext (view_after (start old.start) old.timeline) (Commit c) × Tied (graph_shapes (effect_at old.graph op.remaining st op.reserved).graph) (set_at c (Some (phased op (Finished (reply (graph_shapes old.graph) (form (limits_of old) op.call)), (effect_at old.graph op.remaining st op.reserved).reserved, (effect_at old.graph op.remaining st op.reserved).removed))) old.ops) (λ d. rekey facts_of.ch (inv.key d)) inv.order (committed (view_after (start old.start) old.timeline) c (form (limits_of old) op.call))
+    both = tied_commit (limits_of old) (effect_at old.graph op.remaining st op.reserved).reserved (effect_at old.graph op.remaining st op.reserved).removed (graph_shapes old.graph) (graph_shapes (effect_at old.graph op.remaining st op.reserved).graph) old.ops inv.key (λ d. rekey facts_of.ch (inv.key d)) inv.order (view_after (start old.start) old.timeline) c op inv.tied is w inv.in_order tree_is same_outcome same_replies
 
-    reply_is : reply (graph_shapes old.graph) (form (most_bytes old) op.call) ≡ (effect_at old.graph op.remaining st op.reserved).reply
+    reply_is : reply (graph_shapes old.graph) (form (limits_of old) op.call) ≡ (effect_at old.graph op.remaining st op.reserved).reply
     reply_is = ap (reply (graph_shapes old.graph)) (sym call_is) ∙ sym facts_of.reply_is
 
-    view_is : view_after (start old.start) (old.timeline ++ Commit c ∷ []) ≡ committed (view_after (start old.start) old.timeline) c (form (most_bytes old) op.call)
+    view_is : view_after (start old.start) (old.timeline ++ Commit c ∷ []) ≡ committed (view_after (start old.start) old.timeline) c (form (limits_of old) op.call)
     view_is = view_push (start old.start) old.timeline (Commit c) ∙ noted_played old.start old.timeline c op.call call_known
 
     new_kept : CallFacts (numbers (effect_at old.graph op.remaining st op.reserved).graph) old.ops (λ d. rekey facts_of.ch (inv.key d))
@@ -240,7 +239,7 @@ commit_in_place old inv c op st o is w below text on n =
       lawful = lawful_push (start old.start) old.timeline (Commit c) inv.lawful both.0;
       tied =
           subst (λ (b : JournalView). Tied (graph_shapes (effect_at old.graph op.remaining st op.reserved).graph) (set_at c (Some (finished_op op (effect_at old.graph op.remaining st op.reserved))) old.ops) (λ d. rekey facts_of.ch (inv.key d)) inv.order b) (sym view_is)
-          (subst (λ (r : Reply). Tied (graph_shapes (effect_at old.graph op.remaining st op.reserved).graph) (set_at c (Some (phased op (Finished r, (effect_at old.graph op.remaining st op.reserved).reserved, (effect_at old.graph op.remaining st op.reserved).removed))) old.ops) (λ d. rekey facts_of.ch (inv.key d)) inv.order (committed (view_after (start old.start) old.timeline) c (form (most_bytes old) op.call))) reply_is both.1);
+          (subst (λ (r : Reply). Tied (graph_shapes (effect_at old.graph op.remaining st op.reserved).graph) (set_at c (Some (phased op (Finished r, (effect_at old.graph op.remaining st op.reserved).reserved, (effect_at old.graph op.remaining st op.reserved).removed))) old.ops) (λ d. rekey facts_of.ch (inv.key d)) inv.order (committed (view_after (start old.start) old.timeline) c (form (limits_of old) op.call))) reply_is both.1);
       own = own_finished old.graph (effect_at old.graph op.remaining st op.reserved) facts_of.does.linked st (rekey facts_of.ch (inv.key c)) op inv.is_graph new_is own on (new_kept.each c op st is on).located (λ m i. (facts_of.does.links m i).1) facts_of.does.reserved facts_of.does.removed;
       own_other = λ d q m e.
           own_other old.graph (effect_at old.graph op.remaining st op.reserved).graph facts_of.does.linked st (rekey facts_of.ch (inv.key d)) q new_is (inv.own d q e)
@@ -267,7 +266,7 @@ commit_in_place old inv c op st o is w below text on n =
 commit_text : (old : State) (inv : Invariant old) (c : ℕ) (op : Record) (e : Errno) → old.ops c ≡ Some op → op.phase ≡ Walking → by_paths op.call ≡ Some e → Invariant (committing old c op)
 commit_text old inv c op e is w text = subst (λ (m : Effect). Invariant (ended old c op m (old.timeline ++ Commit c ∷ []))) (sym made_is) (ends_keep old inv c op (no_effect (Failed e) old.graph op.reserved) (old.timeline ++ Commit c ∷ []) made_ends)
   where
-    own : Own (most_bytes old) old.graph op
+    own : Own (limits_of old) old.graph op
     own = inv.own c op is
 
     made_is : finish old.graph op ≡ no_effect (Failed e) old.graph op.reserved
@@ -279,26 +278,26 @@ commit_text old inv c op e is w text = subst (λ (m : Effect). Invariant (ended 
     others : (d : ℕ) (p : IsPlaced old.ops d) → d ≡ c → ⊥
     others d p = not_placed old.ops c d op is w p
 
-    out : (t : Map Shape) → outcome t (form (most_bytes old) op.call) ≡ (Failed e, no_change)
-    out t = ap (λ (x : Option Errno). if_sound x (looked t (form (most_bytes old) op.call))) (by_text_any (most_bytes old) op.call ∙ text)
+    out : (t : Map Shape) → outcome t (form (limits_of old) op.call) ≡ (Failed e, no_change)
+    out t = ap (λ (x : Option Errno). if_sound x (looked t (form (limits_of old) op.call))) (by_text_any (limits_of old) op.call ∙ text)
 
-    reply_is : reply (graph_shapes old.graph) (form (most_bytes old) op.call) ≡ Failed e
+    reply_is : reply (graph_shapes old.graph) (form (limits_of old) op.call) ≡ Failed e
     reply_is = ap (λ (o : Reply × Change). o.0) (out (graph_shapes old.graph))
 
-    tree_is : settle (graph_shapes old.graph) (spots old.ops inv.key inv.order) ≡ after (settle (graph_shapes old.graph) (spots old.ops inv.key inv.order)) (form (most_bytes old) op.call)
+    tree_is : settle (graph_shapes old.graph) (spots old.ops inv.key inv.order) ≡ after (settle (graph_shapes old.graph) (spots old.ops inv.key inv.order)) (form (limits_of old) op.call)
     tree_is = sym (ap (λ (o : Reply × Change). changed o.1 (settle (graph_shapes old.graph) (spots old.ops inv.key inv.order))) (out (settle (graph_shapes old.graph) (spots old.ops inv.key inv.order))))
 
-    both : IsNext (view_after (start old.start) old.timeline) (Commit c) × Tied (graph_shapes old.graph) (set_at c (Some (phased op (Finished (reply (graph_shapes old.graph) (form (most_bytes old) op.call)), op.reserved, None))) old.ops) inv.key inv.order (committed (view_after (start old.start) old.timeline) c (form (most_bytes old) op.call))
-    both = tied_commit (most_bytes old) op.reserved None (graph_shapes old.graph) (graph_shapes old.graph) old.ops inv.key inv.key inv.order (view_after (start old.start) old.timeline) c op inv.tied is w inv.in_order tree_is (out (settle (graph_shapes old.graph) (spots old.ops inv.key inv.order)) ∙ sym (out (graph_shapes old.graph))) refl
+    both : IsNext (view_after (start old.start) old.timeline) (Commit c) × Tied (graph_shapes old.graph) (set_at c (Some (phased op (Finished (reply (graph_shapes old.graph) (form (limits_of old) op.call)), op.reserved, None))) old.ops) inv.key inv.order (committed (view_after (start old.start) old.timeline) c (form (limits_of old) op.call))
+    both = tied_commit (limits_of old) op.reserved None (graph_shapes old.graph) (graph_shapes old.graph) old.ops inv.key inv.key inv.order (view_after (start old.start) old.timeline) c op inv.tied is w inv.in_order tree_is (out (settle (graph_shapes old.graph) (spots old.ops inv.key inv.order)) ∙ sym (out (graph_shapes old.graph))) refl
 
-    view_is : view_after (start old.start) (old.timeline ++ Commit c ∷ []) ≡ committed (view_after (start old.start) old.timeline) c (form (most_bytes old) op.call)
+    view_is : view_after (start old.start) (old.timeline ++ Commit c ∷ []) ≡ committed (view_after (start old.start) old.timeline) c (form (limits_of old) op.call)
     view_is = view_push (start old.start) old.timeline (Commit c) ∙ noted_played old.start old.timeline c op.call call_known
 
     -- a call that stands somewhere is not decided by its paths
     nowhere : (st : Holdings) → op.holdings ≡ Some st → ⊥
     nowhere st on =
         let f : Fits (under op.walked op.remaining) = fits_under op.walked op.remaining (inv.kept.each c op st is on).fits in
-        let z : ◌≡◌ {A = Option Errno} (Some e) None = sym text ∙ sym (by_text_any (most_bytes old) op.call) ∙ ap by_text (sym own.parts) ∙ f in cc
+        let z : ◌≡◌ {A = Option Errno} (Some e) None = sym text ∙ sym (by_text_any (limits_of old) op.call) ∙ ap by_text (sym own.parts) ∙ f in cc
 
     made_ends : Closing old inv c op (no_effect (Failed e) old.graph op.reserved) (old.timeline ++ Commit c ∷ [])
     made_ends = record {
@@ -312,7 +311,7 @@ commit_text old inv c op e is w text = subst (λ (m : Effect). Invariant (ended 
       lawful = lawful_push (start old.start) old.timeline (Commit c) inv.lawful both.0;
       tied =
           subst (λ (b : JournalView). Tied (graph_shapes old.graph) (set_at c (Some (finished_op op (no_effect (Failed e) old.graph op.reserved))) old.ops) inv.key inv.order b) (sym view_is)
-          (subst (λ (r : Reply). Tied (graph_shapes old.graph) (set_at c (Some (phased op (Finished r, op.reserved, None))) old.ops) inv.key inv.order (committed (view_after (start old.start) old.timeline) c (form (most_bytes old) op.call))) reply_is both.1);
+          (subst (λ (r : Reply). Tied (graph_shapes old.graph) (set_at c (Some (phased op (Finished r, op.reserved, None))) old.ops) inv.key inv.order (committed (view_after (start old.start) old.timeline) c (form (limits_of old) op.call))) reply_is both.1);
       own = record {
         parts = own.parts;
         well = own.well;

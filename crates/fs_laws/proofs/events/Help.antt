@@ -2,6 +2,7 @@
 use Rattle.std.proofs.Common.{◌≡◌, ℕ, ◌<◌, ◌+◌, false, List, [], ◌∷◌, ◌++◌, Option, Some, None, refl, sym, ap, ◌∙◌, arith, subst, inl, inr}
 use mathlib.Core.Path.{fun_ext}
 use Rattle.fs_names.specs.Keys.{Key, after_prefix}
+use Rattle.fs_names.specs.declared.limits.Limits.{Limits}
 use Rattle.fs_calls.specs.Forms.{form, under}
 use Rattle.fs_graph.specs.Graphs.{Graph, at, numbers, graph_shapes, set_at}
 use Rattle.fs_timeline.specs.declared.entry.Entry.{Entry}
@@ -9,7 +10,7 @@ use Rattle.fs_timeline.specs.declared.entry.Entry.TheVariants.{Begin, Commit, Re
 use Rattle.fs_machine.specs.Records.{Holdings, Phase, Walking, Placed, Finished, Record, Records, Holds}
 use Rattle.fs_laws.specs.JournalViews.{JournalView, start, view_after, IsNext}
 use Rattle.fs_timeline.specs.Timeline.{begins, commit_count}
-use Rattle.fs_laws.specs.Invariants.{HasSpare, IsIn, Own, Invariant, StepKeeps, IsPlaced, AllLater, InOrder, Tied, most_bytes}
+use Rattle.fs_laws.specs.Invariants.{HasSpare, IsIn, Own, Invariant, StepKeeps, IsPlaced, AllLater, InOrder, Tied, limits_of}
 use Rattle.fs_laws.specs.CallFacts.{Keeps, CallFacts}
 use Rattle.fs_machine.specs.States.{State, IsWalkingBelow, helping}
 use Rattle.fs_machine.specs.declared.answers.Stepped.TheVariants.{Helped}
@@ -122,7 +123,7 @@ old_of : (old : State) (d : ℕ) (q : Record) (c : ℕ) (op : Record) → old.op
 old_of old d q c op is (Mine e f) = record { op = q; is = ap old.ops e ∙ is; reserved = ap (λ (o : Record). o.reserved) f; removed = ap (λ (o : Record). o.removed) f }
 old_of old d q c op is (Other n e) = record { op = op; is = e; reserved = refl; removed = refl }
 
-own_placed : {most : ℕ} (graph : Graph) (q : Record) (st : Holdings) (n : ℕ) → q.phase ≡ Walking → q.holdings ≡ Some st → Own most graph q → Own most graph (record q { phase = Placed n })
+own_placed : {limits : Limits} (graph : Graph) (q : Record) (st : Holdings) (n : ℕ) → q.phase ≡ Walking → q.holdings ≡ Some st → Own limits graph q → Own limits graph (record q { phase = Placed n })
 own_placed graph q st n w on o = record {
   parts = o.parts;
   well = o.well;
@@ -162,13 +163,13 @@ helped_inv old d q st inv h = record {
     mine : Keeps (numbers old.graph) (inv.key d) q st
     mine = inv.kept.each d q st h.is h.on
 
-    stands : under (inv.key d) q.remaining ≡ form (most_bytes old) q.call
+    stands : under (inv.key d) q.remaining ≡ form (limits_of old) q.call
     stands = ap (λ (k : Key). under k q.remaining) (mine.walking h.walks) ∙ (inv.own d q h.is).parts
 
-    both : IsNext (view_after (start old.start) old.timeline) (Commit d) × Tied (graph_shapes old.graph) (set_at d (Some (phased q (Placed (commit_count old.timeline), q.reserved, q.removed))) old.ops) inv.key (inv.order ++ d ∷ []) (committed (view_after (start old.start) old.timeline) d (form (most_bytes old) q.call))
-    both = tied_help (most_bytes old) (graph_shapes old.graph) old.ops inv.key inv.order (view_after (start old.start) old.timeline) d q (commit_count old.timeline) inv.tied h.is h.walks inv.in_order stands
+    both : IsNext (view_after (start old.start) old.timeline) (Commit d) × Tied (graph_shapes old.graph) (set_at d (Some (phased q (Placed (commit_count old.timeline), q.reserved, q.removed))) old.ops) inv.key (inv.order ++ d ∷ []) (committed (view_after (start old.start) old.timeline) d (form (limits_of old) q.call))
+    both = tied_help (limits_of old) (graph_shapes old.graph) old.ops inv.key inv.order (view_after (start old.start) old.timeline) d q (commit_count old.timeline) inv.tied h.is h.walks inv.in_order stands
 
-    view_is : view_after (start old.start) (old.timeline ++ Commit d ∷ []) ≡ committed (view_after (start old.start) old.timeline) d (form (most_bytes old) q.call)
+    view_is : view_after (start old.start) (old.timeline ++ Commit d ∷ []) ≡ committed (view_after (start old.start) old.timeline) d (form (limits_of old) q.call)
     view_is = view_push (start old.start) old.timeline (Commit d) ∙ noted_played old.start old.timeline d q.call (inv.tied.calls d q h.is)
 
     none_below : (e : ℕ) (p : Record) (other : Holdings) → (d ≡ e → ⊥) → old.ops e ≡ Some p → p.holdings ≡ Some other → p.phase ≡ Walking → after_prefix (inv.key d) (inv.key e) ≡ None
@@ -193,8 +194,8 @@ helped_inv old d q st inv h = record {
         let c : commit_count (old.timeline ++ Commit d ∷ []) ≡ commit_count old.timeline + 1 = commits_push old.timeline d in
         ((omega arith), in_push x d inv.order a.1)
 
-    own : (x : ℕ) (p : Record) → Which old d q x p → Own (most_bytes old) old.graph p
-    own x p (Mine e f) = subst (Own (most_bytes old) old.graph) f (own_placed old.graph q st (commit_count old.timeline) h.walks h.on (inv.own d q h.is))
+    own : (x : ℕ) (p : Record) → Which old d q x p → Own (limits_of old) old.graph p
+    own x p (Mine e f) = subst (Own (limits_of old) old.graph) f (own_placed old.graph q st (commit_count old.timeline) h.walks h.on (inv.own d q h.is))
     own x p (Other n e) = inv.own x p e
 
     held : (x : ℕ) (p : Record) (z : Holdings) (n : ℕ) → Which old d q x p → p.holdings ≡ Some z → Holds z n → old.holder n ≡ Some x

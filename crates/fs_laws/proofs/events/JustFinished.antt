@@ -7,7 +7,7 @@ use Rattle.fs_machine.specs.Finishes.{Effect}
 use Rattle.fs_machine.specs.Records.{Phase, Placed, Finished, Holds, Record, Records, Holdings}
 use Rattle.fs_laws.specs.JournalViews.{JournalView, start, view_after, IsLawful}
 use Rattle.fs_timeline.specs.Timeline.{begins, commit_count}
-use Rattle.fs_laws.specs.Invariants.{HasSpare, IsIn, Own, Invariant, InOrder, Tied, most_bytes}
+use Rattle.fs_laws.specs.Invariants.{HasSpare, IsIn, Own, Invariant, InOrder, Tied, limits_of}
 use Rattle.fs_laws.specs.CallFacts.{CallFacts}
 use Rattle.fs_machine.specs.Leaving.{finished_op}
 use Rattle.fs_machine.specs.States.{State}
@@ -44,8 +44,8 @@ pub record Closing (old : State) (inv : Invariant old) (c : ℕ) (op : Record) (
   pub all_placed : (d : ℕ) (q : Record) (i : ℕ) → (d ≡ c → ⊥) → old.ops d ≡ Some q → q.phase ≡ Placed i → (i < commit_count timeline) × IsIn d order
   pub lawful : IsLawful (start old.start) timeline
   pub tied : Tied (graph_shapes made.graph) (set_at c (Some (finished_op op made)) old.ops) key order (view_after (start old.start) timeline)
-  pub own : Own (most_bytes old) made.graph (finished_op op made)
-  pub own_other : (d : ℕ) (q : Record) → (d ≡ c → ⊥) → old.ops d ≡ Some q → Own (most_bytes old) made.graph q
+  pub own : Own (limits_of old) made.graph (finished_op op made)
+  pub own_other : (d : ℕ) (q : Record) → (d ≡ c → ⊥) → old.ops d ≡ Some q → Own (limits_of old) made.graph q
   pub spares : (n : ℕ) → HasSpare (finished_op op made) n → HasSpare op n ⊎ Reached old.graph n
   pub shapes : Shapes old.graph.shape made.graph.shape (Reached old.graph)
   pub calls : SameCalls (view_after (start old.start) old.timeline) (view_after (start old.start) timeline)
@@ -81,8 +81,8 @@ ends_keep old inv c op made timeline f = record {
     all_placed d q i (Changed e g) h = let z : ◌≡◌ {A = Phase} (Finished made.reply) (Placed i) = ap (λ (o : Record). o.phase) g ∙ h in cc
     all_placed d q i (Old n e) h = f.all_placed d q i n e h
 
-    own : (d : ℕ) (q : Record) → Either old.ops c (finished_op op made) d q → Own (most_bytes old) made.graph q
-    own d q (Changed e g) = subst (Own (most_bytes old) made.graph) g f.own
+    own : (d : ℕ) (q : Record) → Either old.ops c (finished_op op made) d q → Own (limits_of old) made.graph q
+    own d q (Changed e g) = subst (Own (limits_of old) made.graph) g f.own
     own d q (Old n e) = f.own_other d q n e
 
     held : (d : ℕ) (q : Record) (st : Holdings) (n : ℕ) → Either old.ops c (finished_op op made) d q → q.holdings ≡ Some st → Holds st n → old.holder n ≡ Some d

@@ -5,6 +5,7 @@ use Rattle.fs_names.specs.Keys.{Key, parent_of, last_of}
 use Rattle.fs_names.specs.Parts.{common, left}
 use Rattle.fs_names.specs.Names.{Name}
 use Rattle.fs_names.specs.Shapes.{Shape, Dir, File}
+use Rattle.fs_names.specs.declared.limits.Limits.{Limits}
 use Rattle.fs_calls.specs.Forms.{Form, AtNode, AtEntry, AtPair, by_paths}
 use Rattle.fs_laws.specs.Maps.{Map}
 use Rattle.fs_calls.specs.declared.errno.Errno.{Errno}
@@ -17,7 +18,7 @@ use Rattle.fs_machine.specs.declared.moves.Move.TheVariants.{LetGo as Leaves, Fi
 use Rattle.fs_machine.specs.declared.moves.Moved.{Moved}
 use Rattle.fs_machine.specs.declared.moves.Moved.TheVariants.{Nothing}
 use Rattle.fs_machine.specs.Records.{Head, Phase, Walking, Placed, Finished, Holds, Record, Holdings, Side, Source, Dest, of_side, head_on, with_head, head_at}
-use Rattle.fs_laws.specs.Invariants.{ForkedAt, HeadsSound, VictimAt, HasSpare, IsSingle, IsUnfinished, Own, Invariant, StepKeeps, Slot, At_node, At_behind, At_head, At_victim, if_walked, in_slot, most_bytes}
+use Rattle.fs_laws.specs.Invariants.{ForkedAt, HeadsSound, VictimAt, HasSpare, IsSingle, IsUnfinished, Own, Invariant, StepKeeps, Slot, At_node, At_behind, At_head, At_victim, if_walked, in_slot, limits_of}
 use Rattle.fs_laws.specs.CallFacts.{CallFacts, Shrinks}
 use Rattle.fs_machine.specs.States.{State, letting_go}
 use Rattle.fs_machine.specs.declared.answers.Stepped.TheVariants.{LetGo}
@@ -233,13 +234,13 @@ let_as old c op n s m = record old {
   ops = set_at c (Some (record op { holdings = s; removed = cleared (is_removed m n) m })) old.ops;
 }
 
-own_left : {most : ℕ} (graph : Graph) (op : Record) (s : Option Holdings) → Own most graph op
+own_left : {limits : Limits} (graph : Graph) (op : Record) (s : Option Holdings) → Own limits graph op
     → ((st : Holdings) → s ≡ Some st → HeadsSound graph st.node op.remaining st)
     → ((i : ℕ) → op.phase ≡ Placed i → (st : Holdings) × (s ≡ Some st))
     → (IsUnfinished op → (st : Holdings) → s ≡ Some st → VictimAt graph op.remaining st)
     → (IsUnfinished op → s ≡ None → op.walked ≡ [])
     → ((st : Holdings) → s ≡ Some st → IsSingle st)
-    → Own most graph (after_left op s)
+    → Own limits graph (after_left op s)
 own_left graph op s o well placed victim starts single = record {
   parts = o.parts;
   well = well;
@@ -260,7 +261,7 @@ let_keeps : (old : State) (inv : Invariant old) (c : ℕ) (op : Record) (n : ℕ
     → ((d m : ℕ) (q : Record) → (d ≡ c → ⊥) → old.ops d ≡ Some q → HasSpare q m → graph.shape m ≡ old.graph.shape m)
     → ((m : ℕ) → op.reserved ≡ Some m → graph.shape m ≡ old.graph.shape m)
     → CallFacts (numbers old.graph) (set_at c (Some (after_left op s)) old.ops) (set_at c (inv.key c) inv.key)
-    → Own (most_bytes old) old.graph (after_left op s)
+    → Own (limits_of old) old.graph (after_left op s)
     → old.holder n ≡ Some c
     → ((st : Holdings) (q : ℕ) → s ≡ Some st → Holds st q → (old.holder q ≡ Some c) × (q ≡ n → ⊥))
     → Invariant (renewed old c (after_left op s) graph (set_at n None old.holder))
@@ -299,7 +300,7 @@ let_keeps old inv c op n s graph is children is_graph spelled others mine kept o
 let_either : (old : State) (inv : Invariant old) (c : ℕ) (op : Record) (n : ℕ) (s : Option Holdings) → old.ops c ≡ Some op → left_holdings op.phase op.holdings ≡ s
     → ((m : ℕ) → op.removed ≡ Some m → m ≡ n)
     → CallFacts (numbers old.graph) (set_at c (Some (after_left op s)) old.ops) (set_at c (inv.key c) inv.key)
-    → Own (most_bytes old) old.graph (after_left op s)
+    → Own (limits_of old) old.graph (after_left op s)
     → old.holder n ≡ Some c
     → ((st : Holdings) (q : ℕ) → s ≡ Some st → Holds st q → (old.holder q ≡ Some c) × (q ≡ n → ⊥))
     → Invariant (letting_go old c op n)
@@ -351,7 +352,7 @@ keeps_let_go n old new seat inv (c, op, moves, same) = subst Invariant (sym same
     is : old.ops c ≡ Some op
     is = moves.1
 
-    own : Own (most_bytes old) old.graph op
+    own : Own (limits_of old) old.graph op
     own = inv.own c op moves.1
 
     -- where the call still stands somewhere
@@ -361,7 +362,7 @@ keeps_let_go n old new seat inv (c, op, moves, same) = subst Invariant (sym same
         let held_n : old.holder n ≡ Some c = inv.held c op st n moves.1 on (slot_holds st l.gone n l.was) in
         let kept : CallFacts (numbers old.graph) (set_at c (Some (after_left op (Some left))) old.ops) (set_at c (inv.key c) inv.key) =
         kept_shrink (numbers old.graph) old.ops inv.key c op (after_left op (Some left)) st left inv.kept moves.1 on refl refl refl refl (shrinks_of st left n l) in
-        let own_new : Own (most_bytes old) old.graph (after_left op (Some left)) = own_left old.graph op (Some left) own
+        let own_new : Own (limits_of old) old.graph (after_left op (Some left)) = own_left old.graph op (Some left) own
         (λ s e. subst (λ (x : Holdings). HeadsSound old.graph x.node op.remaining x) (one_holdings refl e) (well_left old.graph st left n op.remaining l (own.well st on)))
         placed
         (λ u s e. subst (VictimAt old.graph op.remaining) (one_holdings refl e) (victim u))

@@ -11,7 +11,7 @@ use Rattle.fs_graph.specs.Graphs.{Graph, numbers, graph_shapes, set_at, IsGraph}
 use Rattle.fs_machine.specs.Records.{Phase, Placed, Holds, Record, Records, Holdings}
 use Rattle.fs_laws.specs.JournalViews.{start, view_after}
 use Rattle.fs_timeline.specs.Timeline.{commit_count}
-use Rattle.fs_laws.specs.Invariants.{remaining_of, spots, IsPlaced, AllLater, InOrder, HasSpare, IsIn, Own, Invariant, Tied, Dues, most_bytes}
+use Rattle.fs_laws.specs.Invariants.{remaining_of, spots, IsPlaced, AllLater, InOrder, HasSpare, IsIn, Own, Invariant, Tied, Dues, limits_of}
 use Rattle.fs_laws.specs.Settled.{settle, settle_replies}
 use Rattle.fs_laws.specs.CallFacts.{CallFacts}
 use Rattle.fs_machine.specs.States.{State}
@@ -49,8 +49,8 @@ pub record Renews (old : State) (inv : Invariant old) (c : ℕ) (op v : Record) 
   pub kept : CallFacts (numbers graph) (set_at c (Some v) old.ops) (set_at c k inv.key)
   pub spelled : graph_shapes graph ≡ graph_shapes old.graph
   pub under_same : (i : ℕ) → op.phase ≡ Placed i → under k v.remaining ≡ under (inv.key c) op.remaining
-  pub own : Own (most_bytes old) graph v
-  pub own_other : (d : ℕ) (q : Record) → (d ≡ c → ⊥) → old.ops d ≡ Some q → Own (most_bytes old) graph q
+  pub own : Own (limits_of old) graph v
+  pub own_other : (d : ℕ) (q : Record) → (d ≡ c → ⊥) → old.ops d ≡ Some q → Own (limits_of old) graph q
   pub held : (d : ℕ) (q : Record) (st : Holdings) (n : ℕ) → Either old.ops c v d q → q.holdings ≡ Some st → Holds st n → holder n ≡ Some d
   pub spares : (n : ℕ) → HasSpare v n → HasSpare op n
 
@@ -135,8 +135,8 @@ renews_keep old inv c op v graph holder k f = record {
       calls = λ d q e. (let p : (p : Record) × (old.ops d ≡ Some p) × (q.phase ≡ p.phase) × (q.call ≡ p.call) × (q.seat ≡ p.seat) = was d q (either old.ops c v d q e) in inv.tied.calls d p.0 p.1 ∙ ap (λ (x : Call). Some x) (sym p.3));
     }
 
-    own : (d : ℕ) (q : Record) → Either old.ops c v d q → Own (most_bytes old) graph q
-    own d q (Changed e g) = subst (Own (most_bytes old) graph) g f.own
+    own : (d : ℕ) (q : Record) → Either old.ops c v d q → Own (limits_of old) graph q
+    own d q (Changed e g) = subst (Own (limits_of old) graph) g f.own
     own d q (Old n e) = f.own_other d q n e
 
     mine : (x n : ℕ) (p : Record) → Either old.ops c v x p → HasSpare p n → (o : Record) × (old.ops x ≡ Some o) × HasSpare o n

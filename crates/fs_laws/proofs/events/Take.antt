@@ -4,9 +4,8 @@ use Rattle.fs_names.specs.Keys.{Key, after_prefix, parent_of}
 use Rattle.fs_names.specs.Names.{Name, same_name}
 use Rattle.fs_names.specs.Parts.{common, left}
 use Rattle.fs_names.specs.Shapes.{Shape, Dir, File}
-use Rattle.fs_calls.specs.Forms.{form, NodeCall, Form, AtNode, AtEntry, AtPair, by_text, under, Fits, by_paths}
-use Rattle.fs_calls.specs.declared.target.PairCall.{PairCall}
-use Rattle.fs_calls.specs.declared.target.EntryCall.{EntryCall}
+use Rattle.fs_names.specs.declared.limits.Limits.{Limits}
+use Rattle.fs_calls.specs.Forms.{form, NodeCall, Form, AtNode, AtEntry, AtPair, by_text, under, Fits, by_paths, PairCall, EntryCall}
 use Rattle.fs_calls.specs.declared.errno.Errno.{Errno}
 use Rattle.fs_calls.specs.declared.reply.Reply.{Reply}
 use Rattle.fs_calls.proofs.FormLemmas.{by_text_any}
@@ -15,7 +14,7 @@ use Rattle.fs_machine.specs.Moves.{next, next_by, next_on, first_of, step_move, 
 use Rattle.fs_machine.specs.declared.moves.Move.{Move}
 use Rattle.fs_machine.specs.declared.moves.Move.TheVariants.{Take as Takes}
 use Rattle.fs_machine.specs.Records.{Phase, Walking, Placed, Finished, Holds, Record, Holdings, holdings_at, Head, Side, of_side}
-use Rattle.fs_laws.specs.Invariants.{ForkedAt, HeadsSound, NumberFor, VictimAt, HasSpare, IsSingle, IsUnfinished, Own, Invariant, most_bytes}
+use Rattle.fs_laws.specs.Invariants.{ForkedAt, HeadsSound, NumberFor, VictimAt, HasSpare, IsSingle, IsUnfinished, Own, Invariant, limits_of}
 use Rattle.fs_laws.specs.CallFacts.{IsFree, Keeps, CallFacts}
 use Rattle.fs_machine.specs.States.{State, taking}
 use Rattle.fs_laws.proofs.trees.Prefixes.{same_true, same_refl}
@@ -80,7 +79,7 @@ pub take_keeps : (old : State) (inv : Invariant old) (c : ℕ) (op v : Record) (
     → v.seat ≡ op.seat → v.call ≡ op.call → v.phase ≡ op.phase → v.reserved ≡ op.reserved → v.removed ≡ op.removed
     → CallFacts (numbers old.graph) (set_at c (Some v) old.ops) (set_at c k inv.key)
     → ((i : ℕ) → op.phase ≡ Placed i → under k v.remaining ≡ under (inv.key c) op.remaining)
-    → Own (most_bytes old) old.graph v
+    → Own (limits_of old) old.graph v
     → ((st : Holdings) (q : ℕ) → v.holdings ≡ Some st → Holds st q → (q ≡ n) ⊎ (old.holder q ≡ Some c))
     → Invariant (renewed old c v old.graph (set_at n (Some c) old.holder))
 take_keeps old inv c op v n k t seat call phase reserved removed kept same own holds = renews_keep old inv c op v old.graph (set_at n (Some c) old.holder) k (record {
@@ -125,10 +124,10 @@ take_keeps old inv c op v n k t seat call phase reserved removed kept same own h
     held d q st m (Old k e) f h = new_holder d m (inv.held d q st m e f h)
 
 -- what a record keeps that now stands at one node
-own_fresh : (most : ℕ) (graph : Graph) (op v : Record) (n : ℕ) (behind : Option ℕ) → Own most graph op → IsUnfinished op → v.phase ≡ op.phase → v.reserved ≡ op.reserved → v.removed ≡ op.removed → v.call ≡ op.call → v.holdings ≡ Some (holdings_at n behind)
-    → under v.walked v.remaining ≡ form most op.call → (NumberFor graph op.remaining op.reserved → NumberFor graph v.remaining op.reserved) → (behind ≡ Some n → ⊥) → Own most graph v
-own_fresh most graph op v n behind o unf phase reserved removed call on parts number differs = record {
-  parts = parts ∙ ap (form most) (sym call);
+own_fresh : (limits : Limits) (graph : Graph) (op v : Record) (n : ℕ) (behind : Option ℕ) → Own limits graph op → IsUnfinished op → v.phase ≡ op.phase → v.reserved ≡ op.reserved → v.removed ≡ op.removed → v.call ≡ op.call → v.holdings ≡ Some (holdings_at n behind)
+    → under v.walked v.remaining ≡ form limits op.call → (NumberFor graph op.remaining op.reserved → NumberFor graph v.remaining op.reserved) → (behind ≡ Some n → ⊥) → Own limits graph v
+own_fresh limits graph op v n behind o unf phase reserved removed call on parts number differs = record {
+  parts = parts ∙ ap (form limits) (sym call);
   well = λ st e. subst (λ (s : Holdings). HeadsSound graph s.node v.remaining s) (one_holdings on e) (fresh_well graph n behind v.remaining);
   spare = λ m e. o.spare m (sym reserved ∙ e);
   number = λ u f. subst (NumberFor graph v.remaining) (sym reserved) (number (o.number unf (ap by_paths (sym call) ∙ f)));
@@ -151,7 +150,7 @@ pub take_root : (old : State) (inv : Invariant old) (c : ℕ) (op : Record) (n :
 take_root old inv c op n t text off at_root = subst (λ (v : Record). Invariant (renewed old c v old.graph (set_at n (Some c) old.holder))) (sym took_is)
     (take_keeps old inv c op (record op { holdings = Some (holdings_at n None) }) n [] t refl refl refl refl refl kept (λ i e. absurd (not_placed i e)) own holds)
   where
-    o : Own (most_bytes old) old.graph op
+    o : Own (limits_of old) old.graph op
     o = inv.own c op t.is
 
     took_is : took op n ≡ record op { holdings = Some (holdings_at n None) }
@@ -172,13 +171,13 @@ take_root old inv c op n t text off at_root = subst (λ (v : Record). Invariant 
     walked = o.starts t.unfinished off
 
     fits : Fits op.remaining
-    fits = ap by_text (sym (under_nil op.remaining) ∙ ap (λ (k : Key). under k op.remaining) (sym walked) ∙ o.parts) ∙ by_text_any (most_bytes old) op.call ∙ text
+    fits = ap by_text (sym (under_nil op.remaining) ∙ ap (λ (k : Key). under k op.remaining) (sym walked) ∙ o.parts) ∙ by_text_any (limits_of old) op.call ∙ text
 
     kept : CallFacts (numbers old.graph) (set_at c (Some (record op { holdings = Some (holdings_at n None) })) old.ops) (set_at c [] inv.key)
     kept = kept_root (numbers old.graph) old.ops inv.key c op (record op { holdings = Some (holdings_at n None) }) n inv.kept t.is walks walks walked fits refl (ap (λ (m : ℕ). Some m) at_root) (is_free old inv n t.free)
 
-    own : Own (most_bytes old) old.graph (record op { holdings = Some (holdings_at n None) })
-    own = own_fresh (most_bytes old) old.graph op (record op { holdings = Some (holdings_at n None) }) n None o t.unfinished refl refl refl refl refl o.parts (λ x. x) (λ e. cc)
+    own : Own (limits_of old) old.graph (record op { holdings = Some (holdings_at n None) })
+    own = own_fresh (limits_of old) old.graph op (record op { holdings = Some (holdings_at n None) }) n None o t.unfinished refl refl refl refl refl o.parts (λ x. x) (λ e. cc)
 
     holds : (st : Holdings) (q : ℕ) → ◌≡◌ {A = Option Holdings} (Some (holdings_at n None)) (Some st) → Holds st q → (q ≡ n) ⊎ (old.holder q ≡ Some c)
     holds st q e h = let z : holdings_at n None ≡ st = cc in inl (only_at n q (subst (λ (s : Holdings). Holds s q) (sym z) h))
@@ -251,7 +250,7 @@ take_walk old inv c op n st x l t on way child = subst (λ (v : Record). Invaria
     v : Record
     v = record op { walked = op.walked ++ x ∷ []; remaining = inner op.remaining; holdings = Some (holdings_at n (Some st.node)) }
 
-    o : Own (most_bytes old) old.graph op
+    o : Own (limits_of old) old.graph op
     o = inv.own c op t.is
 
     took_is : took op n ≡ record op { walked = op.walked ++ x ∷ []; remaining = inner op.remaining; holdings = Some (holdings_at n (Some st.node)) }
@@ -275,8 +274,8 @@ take_walk old inv c op n st x l t on way child = subst (λ (v : Record). Invaria
           fits = step.fits k.fits;
         })
 
-    own : Own (most_bytes old) old.graph (record op { walked = op.walked ++ x ∷ []; remaining = inner op.remaining; holdings = Some (holdings_at n (Some st.node)) })
-    own = own_fresh (most_bytes old) old.graph op (record op { walked = op.walked ++ x ∷ []; remaining = inner op.remaining; holdings = Some (holdings_at n (Some st.node)) }) n (Some st.node) o t.unfinished refl refl refl refl refl ((inner_on op.walked x l op.remaining way).same ∙ o.parts) (number_inner old.graph op.remaining op.reserved)
+    own : Own (limits_of old) old.graph (record op { walked = op.walked ++ x ∷ []; remaining = inner op.remaining; holdings = Some (holdings_at n (Some st.node)) })
+    own = own_fresh (limits_of old) old.graph op (record op { walked = op.walked ++ x ∷ []; remaining = inner op.remaining; holdings = Some (holdings_at n (Some st.node)) }) n (Some st.node) o t.unfinished refl refl refl refl refl ((inner_on op.walked x l op.remaining way).same ∙ o.parts) (number_inner old.graph op.remaining op.reserved)
         (λ e. (let z : st.node ≡ n = cc in let y : ◌≡◌ {A = Option ℕ} None (Some c) = sym t.free ∙ ap old.holder (sym z) ∙ inv.held c op st st.node t.is on (inl refl) in cc))
 
     holds : (s : Holdings) (q : ℕ) → ◌≡◌ {A = Option Holdings} (Some (holdings_at n (Some st.node))) (Some s) → Holds s q → (q ≡ n) ⊎ (old.holder q ≡ Some c)

@@ -2,11 +2,9 @@
 use Rattle.std.proofs.Common.{◌≡◌, ℕ, Bool, true, false, List, [], ◌∷◌, ◌++◌, Option, Some, None, refl, sym, ap, ◌∙◌, append-nil, subst, ◌⊎◌}
 use Rattle.fs_names.specs.Keys.{Key, after_prefix, last_of}
 use Rattle.fs_names.specs.Names.{Name}
-use Rattle.fs_names.specs.Shapes.{Shape, Dir, File}
+use Rattle.fs_names.specs.Shapes.{Shape, Dir, File, is_full}
 use Rattle.fs_laws.specs.Changes.{Rekeying, Stay, Change, content_change, edit_change}
-use Rattle.fs_calls.specs.Forms.{NodeCall, Form, AtEntry, new_shape}
-use Rattle.fs_calls.specs.declared.target.EntryCall.{EntryCall}
-use Rattle.fs_calls.specs.declared.target.EntryCall.TheVariants.{Mkdir, Mknod, Unlink, Rmdir}
+use Rattle.fs_calls.specs.Forms.{NodeCall, Form, AtEntry, new_shape, EntryCall, Mkdir, Mknod, Unlink, Rmdir}
 use Rattle.fs_laws.specs.Maps.{Map, put}
 use Rattle.fs_calls.specs.Rows.{node_row, Edit, Keep, Add, Remove, entry_row}
 use Rattle.fs_calls.proofs.RowNames.{on_dir}
@@ -26,6 +24,7 @@ use Rattle.fs_laws.specs.CallFacts.{Located, CallFacts}
 use Rattle.fs_laws.proofs.calls.Located.{change_under}
 use Rattle.fs_laws.proofs.graphs.Walks.{at_before, at_child, at_from}
 use Rattle.fs_laws.proofs.graphs.TreesOfChanges.{CanLink, CanUnlink, numbers_linked, numbers_unlinked, put_one}
+use Rattle.fs_laws.proofs.finish.RowParts.{made}
 use Rattle.fs_laws.proofs.finish.Replies.{Leaf, leaf_children, add_of, remove_of, no_entry}
 use Rattle.fs_laws.proofs.events.OtherChanges.{OffPlaces, kept_put, kept_cut, victim_off}
 use Rattle.fs_laws.proofs.graphs.Alterations.{Altered, Reached, altered_same, altered_content, altered_linked, altered_unlinked, unlinked_gone}
@@ -130,22 +129,24 @@ does_on graph ops key st reserved k p b (r, Some bytes) is kept at_k file = reco
     none None = refl
     none (Some bytes) = refl
 
+-- a call that makes a node removes none
+never_removed : (new : Shape) (full : Bool) (there : Option Shape) → (made new full there).1 ≡ Remove → ⊥
+never_removed new true None i = cc
+never_removed new false None i = cc
+never_removed new full (Some s) i = cc
+
 -- an entry is removed where its victim is a right one
-pub remove_victim : (c : EntryCall) (e : Option Errno) (full : Bool) (there : Option Shape) → (entry_row c e full there).1 ≡ Remove → (e ≡ None) × (victim_of c there ≡ true)
-remove_victim c (Some e) full there i = cc
-remove_victim Mkdir None true None i = cc
-remove_victim Mkdir None false None i = cc
-remove_victim Mkdir None full (Some s) i = cc
-remove_victim Mknod None true None i = cc
-remove_victim Mknod None false None i = cc
-remove_victim Mknod None full (Some s) i = cc
-remove_victim Unlink None full None i = cc
-remove_victim Unlink None full (Some (Dir names)) i = cc
-remove_victim Unlink None full (Some (File bytes)) i = (refl, refl)
-remove_victim Rmdir None full None i = cc
-remove_victim Rmdir None full (Some (File bytes)) i = cc
-remove_victim Rmdir None full (Some (Dir [])) i = (refl, refl)
-remove_victim Rmdir None full (Some (Dir (x ∷ names))) i = cc
+pub remove_victim : (c : EntryCall) (e : Option Errno) (parent there : Option Shape) → (entry_row c e parent there).1 ≡ Remove → (e ≡ None) × (victim_of c there ≡ true)
+remove_victim c (Some e) parent there i = cc
+remove_victim (Mkdir most) None parent there i = absurd (never_removed (Dir []) (is_full most parent) there i)
+remove_victim (Mknod most) None parent there i = absurd (never_removed (File []) (is_full most parent) there i)
+remove_victim Unlink None parent None i = cc
+remove_victim Unlink None parent (Some (Dir names)) i = cc
+remove_victim Unlink None parent (Some (File bytes)) i = (refl, refl)
+remove_victim Rmdir None parent None i = cc
+remove_victim Rmdir None parent (Some (File bytes)) i = cc
+remove_victim Rmdir None parent (Some (Dir [])) i = (refl, refl)
+remove_victim Rmdir None parent (Some (Dir (x ∷ names))) i = cc
 
 -- a victim that the call holds is none of its own places
 pub own_off : (tree : Map ℕ) (k : Key) (st : Holdings) (t : Key) (v : ℕ) → Located tree k st → IsSingle st → st.victim ≡ Some v → tree t ≡ Some v
@@ -171,21 +172,21 @@ closed_of : (graph : Graph) (a b : Key) (m : ℕ) → numbers graph (a ++ b) ≡
 closed_of graph a b m e = let g : (q : ℕ) × (numbers graph a ≡ Some q) × (at graph.child q b ≡ Some m) = at_before graph.child 0 m a b e in (g.0, g.1)
 
 -- the leaf that a removal takes out is the victim that the call holds
-pub removed_leaf : (graph : Graph) (st : Holdings) (o : Moved) (e : EntryCall) (p : Key) (ed : Option Errno) (full : Bool)
+pub removed_leaf : (graph : Graph) (st : Holdings) (o : Moved) (e : EntryCall) (p : Key) (ed : Option Errno) (parent : Option Shape)
     → VictimAt graph (AtEntry e p) st → (done : ed ≡ None → entry_move graph e (last_of p) st ≡ Finishes o)
-    → (r : Reply) → entry_row e ed full (entry_shape graph st.node (last_of p)) ≡ (r, Remove)
+    → (r : Reply) → entry_row e ed parent (entry_shape graph st.node (last_of p)) ≡ (r, Remove)
     → (v : ℕ) × (graph.child st.node (last_of p) ≡ Some v) × Leaf (graph.shape v) × (st.victim ≡ Some v)
-removed_leaf graph st o e p ed full vic done r i = (v.0, v.1, v.2, held)
+removed_leaf graph st o e p ed parent vic done r i = (v.0, v.1, v.2, held)
   where
     want : (ed ≡ None) × (victim_of e (entry_shape graph st.node (last_of p)) ≡ true)
-    want = remove_victim e ed full (entry_shape graph st.node (last_of p)) (ap (λ (x : Reply × Edit). x.1) i)
+    want = remove_victim e ed parent (entry_shape graph st.node (last_of p)) (ap (λ (x : Reply × Edit). x.1) i)
 
     leaf_of : (v : Option ℕ) → Leaf (then_at v graph.shape) → (m : ℕ) × (v ≡ Some m) × Leaf (graph.shape m)
     leaf_of None l = absurd l
     leaf_of (Some m) l = (m, refl, l)
 
     v : (m : ℕ) × (graph.child st.node (last_of p) ≡ Some m) × Leaf (graph.shape m)
-    v = leaf_of (graph.child st.node (last_of p)) (remove_of e ed full (entry_shape graph st.node (last_of p)) r i)
+    v = leaf_of (graph.child st.node (last_of p)) (remove_of e ed parent (entry_shape graph st.node (last_of p)) r i)
 
     held : st.victim ≡ Some v.0
     held =
@@ -193,17 +194,17 @@ removed_leaf graph st o e p ed full vic done r i = (v.0, v.1, v.2, held)
         let w : (w : ℕ) × (st.victim ≡ Some w) = take_done (victim_of e (entry_shape graph st.node (last_of p))) v.0 st.victim o Nothing want.1 t in
         w.1 ∙ sym (vic w.0 w.1) ∙ v.1
 
-pub does_in : (graph : Graph) (ops : Records) (key : ℕ → Key) (c : ℕ) (op : Record) (st : Holdings) (o : Moved) (e : EntryCall) (p d : Key) (names : List Name) (z : Name) (pp : Key) (change : Edit) (ed : Option Errno) (full : Bool)
+pub does_in : (graph : Graph) (ops : Records) (key : ℕ → Key) (c : ℕ) (op : Record) (st : Holdings) (o : Moved) (e : EntryCall) (p d : Key) (names : List Name) (z : Name) (pp : Key) (change : Edit) (ed : Option Errno) (parent : Option Shape)
     → Finisher graph ops key c op st o → op.remaining ≡ AtEntry e p
     → (dir : ed ≡ None → (ns : List Name) × (graph.shape st.node ≡ Some (Dir ns)))
     → (done : ed ≡ None → entry_move graph e (last_of p) st ≡ Finishes o)
-    → (row : Reply × Edit) → entry_row e ed full (entry_shape graph st.node (last_of p)) ≡ row
+    → (row : Reply × Edit) → entry_row e ed parent (entry_shape graph st.node (last_of p)) ≡ row
     → Does graph ops key st op.reserved (change_under (key c) (edit_change d names z pp change)) (entry_effect graph st.node (last_of p) op.reserved row)
-does_in graph ops key c op st o e p d names z pp change ed full f rem dir done (r, Keep) i = does_nothing graph ops key st op.reserved (change_under (key c) (edit_change d names z pp change)) r f.is_graph f.kept (none_moves (key c) d names z pp change)
-does_in graph ops key c op st o e p d names z pp change ed full f rem dir done (r, Add shape) i = subst (λ (n : Option ℕ). Does graph ops key st n (change_under (key c) (edit_change d names z pp change)) (entry_effect graph st.node (last_of p) n (r, Add shape))) (sym has.1) made
+does_in graph ops key c op st o e p d names z pp change ed parent f rem dir done (r, Keep) i = does_nothing graph ops key st op.reserved (change_under (key c) (edit_change d names z pp change)) r f.is_graph f.kept (none_moves (key c) d names z pp change)
+does_in graph ops key c op st o e p d names z pp change ed parent f rem dir done (r, Add shape) i = subst (λ (n : Option ℕ). Does graph ops key st n (change_under (key c) (edit_change d names z pp change)) (entry_effect graph st.node (last_of p) n (r, Add shape))) (sym has.1) made
   where
     add : (ed ≡ None) × (new_shape e ≡ Some shape) × (entry_shape graph st.node (last_of p) ≡ None)
-    add = add_of e ed full (entry_shape graph st.node (last_of p)) r shape i
+    add = add_of e ed parent (entry_shape graph st.node (last_of p)) r shape i
 
     number : HasNumber graph e op.reserved
     number = subst (λ (x : Form). NumberFor graph x op.reserved) rem f.number
@@ -236,13 +237,13 @@ does_in graph ops key c op st o e p d names z pp change ed full f rem dir done (
       reserved = λ n j. cc;
       removed = λ n j. cc;
     }
-does_in graph ops key c op st o e p d names z pp change ed full f rem dir done (r, Remove) i = reserved_either op.reserved refl
+does_in graph ops key c op st o e p d names z pp change ed parent f rem dir done (r, Remove) i = reserved_either op.reserved refl
   where
     want : (ed ≡ None) × (victim_of e (entry_shape graph st.node (last_of p)) ≡ true)
-    want = remove_victim e ed full (entry_shape graph st.node (last_of p)) (ap (λ (x : Reply × Edit). x.1) i)
+    want = remove_victim e ed parent (entry_shape graph st.node (last_of p)) (ap (λ (x : Reply × Edit). x.1) i)
 
     v : (v : ℕ) × (graph.child st.node (last_of p) ≡ Some v) × Leaf (graph.shape v) × (st.victim ≡ Some v)
-    v = removed_leaf graph st o e p ed full (subst (λ (x : Form). VictimAt graph x st) rem f.victim) done r i
+    v = removed_leaf graph st o e p ed parent (subst (λ (x : Form). VictimAt graph x st) rem f.victim) done r i
 
     held : st.victim ≡ Some v.0
     held = v.3

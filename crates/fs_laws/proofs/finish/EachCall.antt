@@ -2,11 +2,10 @@
 use Rattle.std.proofs.Common.{◌≡◌, ℕ, Bool, true, false, [], ◌++◌, Some, refl, sym, ap, ◌∙◌, subst}
 use Rattle.fs_names.specs.Keys.{Key, parent_of, last_of}
 use Rattle.fs_names.specs.Parts.{common}
-use Rattle.fs_names.specs.Shapes.{Shape, is_full, names_of}
+use Rattle.fs_names.specs.Shapes.{Shape, names_of}
 use Rattle.fs_laws.specs.Changes.{Change, resolve, resolve_dir, looked}
-use Rattle.fs_calls.specs.Forms.{Form, AtNode, AtEntry, AtPair, Fits, by_text}
-use Rattle.fs_calls.specs.declared.target.PairCall.{PairCall}
-use Rattle.fs_calls.specs.declared.target.PairCall.TheVariants as pairs
+use Rattle.fs_calls.specs.Forms.{Form, AtNode, AtEntry, AtPair, Fits, by_text, PairCall}
+use Rattle.fs_calls.specs.Forms as pairs
 use Rattle.fs_laws.specs.Maps.{Map, below}
 use Rattle.fs_calls.specs.Rows.{node_row, entry_row}
 use Rattle.fs_calls.specs.declared.reply.Reply.{Reply}
@@ -47,7 +46,7 @@ does_pair graph ops key c op st o pair p q s f rem fits u =
 
     real : (pair : PairCall) → op.remaining ≡ AtPair pair p q → Fits (AtPair pair p q) → Forked graph st.node p q st → fork_move graph pair p q st ≡ Finishes o → (pair_at graph pair p q st).1 ≡ true
         → Does graph ops key st op.reserved (change_under (key c) (pair_change (below (key c) (graph_shapes graph)) pair p q true)) (pair_effect graph pair p q st op.reserved [])
-    real pairs.Rename rem fits w fork j = does_rename graph ops key c op st o p q (pair_writes (below (key c) (graph_shapes graph)) p q) f rem fits w fork j
+    real (pairs.Rename most) rem fits w fork j = does_rename graph ops key c op st o most p q (pair_writes (below (key c) (graph_shapes graph)) p q) f rem fits w fork j
     real pairs.Exchange rem fits w fork j = does_exchange graph ops key c op st o p q f fits w fork j
 
     at_parents : ForkAt graph st.node p q st → fork_move graph pair p q st ≡ Finishes o → (b : Bool) → (pair_at graph pair p q st).1 ≡ b → Does graph ops key st op.reserved (change_under (key c) (pair_change (below (key c) (graph_shapes graph)) pair p q (pair_at graph pair p q st).1)) (pair_effect graph pair p q st op.reserved [])
@@ -78,11 +77,11 @@ does graph ops key c op st o s f fits u = go op.remaining refl
     by : (rem : Form) → op.remaining ≡ rem → Fits rem → next_on graph rem st ≡ Finishes o → Does graph ops key st op.reserved (change_under (key c) (looked (below (key c) (graph_shapes graph)) rem).1) (effect_at graph rem st op.reserved)
     by (AtNode e p) i fit n = does_on graph ops key st op.reserved (key c) p (node_row e (resolve (below (key c) (graph_shapes graph)) p) (graph_shapes graph (key c ++ p))).1 (node_row e (path_error p (graph.shape st.node)) (graph.shape st.node)) f.is_graph f.kept loc.here (λ bytes h. content_of e (path_error p (graph.shape st.node)) (graph.shape st.node) bytes h)
     by (AtEntry e p) i fit n =
-        does_in graph ops key c op st o e p (parent_of p) (names_of (graph_shapes graph (key c ++ parent_of p))) (last_of p) p (entry_row e (resolve_dir (below (key c) (graph_shapes graph)) (parent_of p)) (is_full (graph_shapes graph (key c ++ parent_of p))) (graph_shapes graph (key c ++ p))).1
-        (dir_error (parent_of p) (graph.shape st.node)) (is_full (graph.shape st.node)) f i
+        does_in graph ops key c op st o e p (parent_of p) (names_of (graph_shapes graph (key c ++ parent_of p))) (last_of p) p (entry_row e (resolve_dir (below (key c) (graph_shapes graph)) (parent_of p)) (graph_shapes graph (key c ++ parent_of p)) (graph_shapes graph (key c ++ p))).1
+        (dir_error (parent_of p) (graph.shape st.node)) (graph.shape st.node) f i
         (λ h. dir_of_none (parent_of p) (graph.shape st.node) h)
         (λ h. (step_stops graph st.node (parent_of p) (entry_move graph e (last_of p) st) o (finish_on graph (AtEntry e p) st o n)).1 (arrived (parent_of p) (graph.shape st.node) h))
-        (entry_row e (dir_error (parent_of p) (graph.shape st.node)) (is_full (graph.shape st.node)) (entry_shape graph st.node (last_of p))) refl
+        (entry_row e (dir_error (parent_of p) (graph.shape st.node)) (graph.shape st.node) (entry_shape graph st.node (last_of p))) refl
     by (AtPair pair p q) i fit n = does_pair graph ops key c op st o pair p q s f i fit u
 
     go : (rem : Form) → op.remaining ≡ rem → Does graph ops key st op.reserved (change_under (key c) (looked (below (key c) (graph_shapes graph)) op.remaining).1) (effect_at graph op.remaining st op.reserved)

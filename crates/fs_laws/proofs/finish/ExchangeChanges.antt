@@ -3,7 +3,7 @@ use Rattle.std.proofs.Common.{◌≡◌, ℕ, Bool, true, [], ◌∷◌, ◌++�
 use Rattle.fs_names.specs.Keys.{Key, last_of}
 use Rattle.fs_laws.specs.Changes.{swap_change}
 use Rattle.fs_calls.specs.Forms.{AtPair, Fits}
-use Rattle.fs_calls.specs.declared.target.PairCall.TheVariants as pairs
+use Rattle.fs_calls.specs.Forms as pairs
 use Rattle.fs_laws.specs.Maps.{Map, swap, swapped}
 use Rattle.fs_graph.specs.Graphs.{Graph, numbers, swapped_in}
 use Rattle.fs_machine.specs.Finishes.{swap_effect, exchange_effect}

@@ -6,10 +6,8 @@ use Rattle.fs_names.specs.Names.{Name, has_name}
 use Rattle.fs_names.specs.Parts.{left, HasNames}
 use Rattle.fs_names.specs.Shapes.{Shape, Dir, File, is_full}
 use Rattle.fs_laws.specs.Changes.{resolve_next, resolve, resolve_dir}
-use Rattle.fs_calls.specs.Forms.{NodeCall, AtPair, Fits}
-use Rattle.fs_calls.specs.declared.target.PairCall.{PairCall}
-use Rattle.fs_calls.specs.declared.target.PairCall.TheVariants as pairs
-use Rattle.fs_calls.specs.declared.target.EntryCall.{EntryCall}
+use Rattle.fs_calls.specs.Forms.{NodeCall, AtPair, Fits, PairCall, EntryCall}
+use Rattle.fs_calls.specs.Forms as pairs
 use Rattle.fs_laws.specs.Maps.{Map, below}
 use Rattle.fs_calls.specs.Rows.{as_dir, node_row, entry_row, rename_row, exchange_row}
 use Rattle.fs_laws.proofs.finish.RowParts.{to_row, moves_row, rename_row_in_dirs}
@@ -80,20 +78,20 @@ on_finish graph is n s c p u f = on_same c (path_error p (graph.shape n)) (graph
     at_end (x ∷ l) e = cc
 
 -- mkdir, mknod, unlink, rmdir
-in_same : (c : EntryCall) (e : Option Errno) (f g : Bool) (s t : Option Shape) → (e ≡ None → (f ≡ g) × (s ≡ t)) → entry_row c e f s ≡ entry_row c e g t
+in_same : (c : EntryCall) (e : Option Errno) (f g s t : Option Shape) → (e ≡ None → (f ≡ g) × (s ≡ t)) → entry_row c e f s ≡ entry_row c e g t
 in_same c (Some e) f g s t h = refl
 in_same c None f g s t h = let i : (f ≡ g) × (s ≡ t) = h refl in ap₂ (entry_row c None) i.0 i.1
 
 pub in_finish : (graph : Graph) → IsGraph graph → (n : ℕ) (s : Shape) (c : EntryCall) (p : Key) → HasNames p → graph.shape n ≡ Some s → Stops graph n (parent_of p)
-    → entry_row c (dir_error (parent_of p) (graph.shape n)) (is_full (graph.shape n)) (entry_shape graph n (last_of p))
-    ≡ entry_row c (resolve_dir (shapes_from graph n) (parent_of p)) (is_full (shapes_from graph n (parent_of p))) (shapes_from graph n p)
+    → entry_row c (dir_error (parent_of p) (graph.shape n)) (graph.shape n) (entry_shape graph n (last_of p))
+    ≡ entry_row c (resolve_dir (shapes_from graph n) (parent_of p)) (shapes_from graph n (parent_of p)) (shapes_from graph n p)
 in_finish graph is n s c p m u f =
-    in_same c (dir_error (parent_of p) (graph.shape n)) (is_full (graph.shape n)) (is_full (shapes_from graph n (parent_of p))) (entry_shape graph n (last_of p)) (shapes_from graph n p) (at_end (parent_of p) refl)
-    ∙ ap (λ (e : Option Errno). entry_row c e (is_full (shapes_from graph n (parent_of p))) (shapes_from graph n p)) (dir_read graph is n n s [] (parent_of p) u refl f)
+    in_same c (dir_error (parent_of p) (graph.shape n)) (graph.shape n) (shapes_from graph n (parent_of p)) (entry_shape graph n (last_of p)) (shapes_from graph n p) (at_end (parent_of p) refl)
+    ∙ ap (λ (e : Option Errno). entry_row c e (shapes_from graph n (parent_of p)) (shapes_from graph n p)) (dir_read graph is n n s [] (parent_of p) u refl f)
   where
-    at_end : (d : Key) → parent_of p ≡ d → dir_error d (graph.shape n) ≡ None → (is_full (graph.shape n) ≡ is_full (shapes_from graph n (parent_of p))) × (entry_shape graph n (last_of p) ≡ shapes_from graph n p)
+    at_end : (d : Key) → parent_of p ≡ d → dir_error d (graph.shape n) ≡ None → (graph.shape n ≡ shapes_from graph n (parent_of p)) × (entry_shape graph n (last_of p) ≡ shapes_from graph n p)
     at_end [] i e = (
-      ap (λ (l : Key). is_full (shapes_from graph n l)) (sym i),
+      ap (λ (l : Key). shapes_from graph n l) (sym i),
       entry_read graph n n [] (last_of p) refl ∙ ap (shapes_from graph n) (ap (λ (l : Key). l ++ last_of p ∷ []) (sym i) ∙ sym (key_is p m)),
     )
     at_end (x ∷ l) i e = cc
@@ -207,21 +205,21 @@ pair_finish graph is n s c p q st mp mq u at_c = go c
     reads : Reads graph n p q st
     reads = reads_of graph is n s p q st mp mq u at_c
 
-    rest : dir_error (left st.source.walked (parent_of p)) (graph.shape st.source.node) ≡ None → dir_error (left st.dest.walked (parent_of q)) (graph.shape st.dest.node) ≡ None
-        → rename_row_in_dirs (entry_shape graph st.source.node (last_of p)) (is_end (after_prefix p q)) (there_by (has_more (after_prefix q p)) (entry_shape graph st.dest.node (last_of q))) (is_end (after_prefix (parent_of p) (parent_of q)) || not (is_full (graph.shape st.dest.node)))
-        ≡ rename_row_in_dirs (shapes_from graph n p) (is_end (after_prefix p q)) (shapes_from graph n q) (is_end (after_prefix (parent_of p) (parent_of q)) || not (is_full (shapes_from graph n (parent_of q))))
-    rest i j =
-        ap₂ (λ (m t : Option Shape). rename_row_in_dirs m (is_end (after_prefix p q)) (there_by (has_more (after_prefix q p)) t) (is_end (after_prefix (parent_of p) (parent_of q)) || not (is_full (graph.shape st.dest.node)))) (reads.one i) (reads.other j)
-        ∙ ap (λ (t : Option Shape). rename_row_in_dirs (shapes_from graph n p) (is_end (after_prefix p q)) (there_by (has_more (after_prefix q p)) (shapes_from graph n q)) (is_end (after_prefix (parent_of p) (parent_of q)) || not (is_full t))) (reads.parent j)
-        ∙ prefix_read graph is n p q (after_prefix q p) (is_end (after_prefix p q)) (is_end (after_prefix (parent_of p) (parent_of q)) || not (is_full (shapes_from graph n (parent_of q)))) refl
+    rest : (most : ℕ) → dir_error (left st.source.walked (parent_of p)) (graph.shape st.source.node) ≡ None → dir_error (left st.dest.walked (parent_of q)) (graph.shape st.dest.node) ≡ None
+        → rename_row_in_dirs (entry_shape graph st.source.node (last_of p)) (is_end (after_prefix p q)) (there_by (has_more (after_prefix q p)) (entry_shape graph st.dest.node (last_of q))) (is_end (after_prefix (parent_of p) (parent_of q)) || not (is_full most (graph.shape st.dest.node)))
+        ≡ rename_row_in_dirs (shapes_from graph n p) (is_end (after_prefix p q)) (shapes_from graph n q) (is_end (after_prefix (parent_of p) (parent_of q)) || not (is_full most (shapes_from graph n (parent_of q))))
+    rest most i j =
+        ap₂ (λ (m t : Option Shape). rename_row_in_dirs m (is_end (after_prefix p q)) (there_by (has_more (after_prefix q p)) t) (is_end (after_prefix (parent_of p) (parent_of q)) || not (is_full most (graph.shape st.dest.node)))) (reads.one i) (reads.other j)
+        ∙ ap (λ (t : Option Shape). rename_row_in_dirs (shapes_from graph n p) (is_end (after_prefix p q)) (there_by (has_more (after_prefix q p)) (shapes_from graph n q)) (is_end (after_prefix (parent_of p) (parent_of q)) || not (is_full most t))) (reads.parent j)
+        ∙ prefix_read graph is n p q (after_prefix q p) (is_end (after_prefix p q)) (is_end (after_prefix (parent_of p) (parent_of q)) || not (is_full most (shapes_from graph n (parent_of q)))) refl
 
     go : (c : PairCall) → pair_at graph c p q st ≡ pair_row (shapes_from graph n) c p q
-    go pairs.Rename =
+    go (pairs.Rename most) =
         rename_same (dir_error (left st.source.walked (parent_of p)) (graph.shape st.source.node)) (dir_error (left st.dest.walked (parent_of q)) (graph.shape st.dest.node)) (resolve_dir (shapes_from graph n) (parent_of q)) (entry_shape graph st.source.node (last_of p)) (shapes_from graph n p) (is_end (after_prefix p q))
         (there_by (has_more (after_prefix q p)) (entry_shape graph st.dest.node (last_of q))) (shapes_from graph n q)
-        (is_end (after_prefix (parent_of p) (parent_of q)) || not (is_full (graph.shape st.dest.node))) (is_end (after_prefix (parent_of p) (parent_of q)) || not (is_full (shapes_from graph n (parent_of q))))
-        (λ i. (reads.dest i, λ j. rest i j))
-        ∙ ap (λ (e : Option Errno). rename_row e (resolve_dir (shapes_from graph n) (parent_of q)) (shapes_from graph n p) (is_end (after_prefix p q)) (shapes_from graph n q) (is_end (after_prefix (parent_of p) (parent_of q)) || not (is_full (shapes_from graph n (parent_of q))))) reads.source
+        (is_end (after_prefix (parent_of p) (parent_of q)) || not (is_full most (graph.shape st.dest.node))) (is_end (after_prefix (parent_of p) (parent_of q)) || not (is_full most (shapes_from graph n (parent_of q))))
+        (λ i. (reads.dest i, λ j. rest most i j))
+        ∙ ap (λ (e : Option Errno). rename_row e (resolve_dir (shapes_from graph n) (parent_of q)) (shapes_from graph n p) (is_end (after_prefix p q)) (shapes_from graph n q) (is_end (after_prefix (parent_of p) (parent_of q)) || not (is_full most (shapes_from graph n (parent_of q))))) reads.source
     go pairs.Exchange =
         exchange_same (dir_error (left st.source.walked (parent_of p)) (graph.shape st.source.node)) (dir_error (left st.dest.walked (parent_of q)) (graph.shape st.dest.node)) (resolve_dir (shapes_from graph n) (parent_of q))
         (entry_shape graph st.source.node (last_of p)) (shapes_from graph n p) (is_end (after_prefix p q)) (entry_shape graph st.dest.node (last_of q)) (shapes_from graph n q)

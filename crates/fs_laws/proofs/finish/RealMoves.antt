@@ -4,9 +4,8 @@ use Rattle.fs_names.specs.Keys.{Key, after_prefix, parent_of, last_of, has_more,
 use Rattle.fs_names.specs.Names.{Name, has_name}
 use Rattle.fs_names.specs.Parts.{left}
 use Rattle.fs_names.specs.Shapes.{Shape, Dir, File, is_full}
-use Rattle.fs_calls.specs.Forms.{AtPair, Fits}
-use Rattle.fs_calls.specs.declared.target.PairCall.{PairCall}
-use Rattle.fs_calls.specs.declared.target.PairCall.TheVariants as pairs
+use Rattle.fs_calls.specs.Forms.{AtPair, Fits, PairCall}
+use Rattle.fs_calls.specs.Forms as pairs
 use Rattle.fs_laws.proofs.finish.RowParts.{to_row}
 use Rattle.fs_graph.specs.Graphs.{Graph, at, numbers, then_at, entry_shape, IsGraph}
 use Rattle.fs_machine.specs.Moves.{first_of, step_move, take_if, same_kind, fork_move, rename_move, dir_then, dir_error, rename_at, there_by, moved_node, parents_move, exchange_at, exchange_move, moved_nodes}
@@ -82,35 +81,35 @@ at_entries graph is pair p q st o f es ed e =
     dir_then_is (graph.shape st.dest.node) dd.0 (parents_move graph pair p q st) o dd.1 d
 
 -- a victim that the kinds ask for is held
-pub victim_held : (graph : Graph) (p q : Key) (st : Holdings) (o : Moved) (v : ℕ) → VictimAt graph (AtPair pairs.Rename p q) st → rename_move graph p q st ≡ Finishes o → graph.child st.dest.node (last_of q) ≡ Some v
+pub victim_held : (graph : Graph) (most : ℕ) (p q : Key) (st : Holdings) (o : Moved) (v : ℕ) → VictimAt graph (AtPair (pairs.Rename most) p q) st → rename_move graph most p q st ≡ Finishes o → graph.child st.dest.node (last_of q) ≡ Some v
     → (same_kind (entry_shape graph st.source.node (last_of p)) (entry_shape graph st.dest.node (last_of q)) && not (is_end (after_prefix p q)) && not (has_more (after_prefix q p))) ≡ true → st.victim ≡ Some v
-victim_held graph p q st o v victim e child want =
+victim_held graph most p q st o v victim e child want =
     let b : Bool = same_kind (entry_shape graph st.source.node (last_of p)) (entry_shape graph st.dest.node (last_of q)) && not (is_end (after_prefix p q)) && not (has_more (after_prefix q p)) in
-    let m : Moved = moved_node (rename_at graph p q st).1 (graph.child st.source.node (last_of p)) in
+    let m : Moved = moved_node (rename_at graph most p q st).1 (graph.child st.source.node (last_of p)) in
     let t : take_if b (Some v) st.victim (Finishes m) ≡ Finishes o = ap (λ (n : Option ℕ). take_if b n st.victim (Finishes m)) (sym child) ∙ e in
     let w : (w : ℕ) × (st.victim ≡ Some w) = take_done b v st.victim o m want t in
     let z : ◌≡◌ {A = Option ℕ} (Some w.0) (Some v) = sym (victim w.0 w.1).0 ∙ child in
     w.1 ∙ z
 
-pub real_of : (graph : Graph) → IsGraph graph → (p q : Key) (st : Holdings) (o : Moved) → Fits (AtPair pairs.Rename p q) → Forked graph st.node p q st → VictimAt graph (AtPair pairs.Rename p q) st → fork_move graph pairs.Rename p q st ≡ Finishes o → (rename_at graph p q st).1 ≡ true
+pub real_of : (graph : Graph) → IsGraph graph → (most : ℕ) (p q : Key) (st : Holdings) (o : Moved) → Fits (AtPair (pairs.Rename most) p q) → Forked graph st.node p q st → VictimAt graph (AtPair (pairs.Rename most) p q) st → fork_move graph (pairs.Rename most) p q st ≡ Finishes o → (rename_at graph most p q st).1 ≡ true
     → Real graph p q st
-real_of graph is p q st o fits f victim e moves = record {
+real_of graph is most p q st o fits f victim e moves = record {
   path = path;
   source_dir = dir_of_none (left st.source.walked (parent_of p)) (graph.shape st.source.node) w.source;
   dest_dir = dir_of_none (left st.dest.walked (parent_of q)) (graph.shape st.dest.node) w.dest;
   moved = let g : (m : ℕ) × (graph.child st.source.node (last_of p) ≡ Some m) × (graph.shape m ≡ Some w.moved) = some_entry graph st.source.node (last_of p) w.moved w.is in (g.0, g.1);
-  aside = paths_aside pairs.Rename p q fits w.other above;
+  aside = paths_aside (pairs.Rename most) p q fits w.other above;
   replaces = replaces (graph.child st.dest.node (last_of q)) refl;
 }
   where
     room : Bool
-    room = is_end (after_prefix (parent_of p) (parent_of q)) || not (is_full (graph.shape st.dest.node))
+    room = is_end (after_prefix (parent_of p) (parent_of q)) || not (is_full most (graph.shape st.dest.node))
 
-    w : Really (dir_error (left st.source.walked (parent_of p)) (graph.shape st.source.node)) (dir_error (left st.dest.walked (parent_of q)) (graph.shape st.dest.node)) (entry_shape graph st.source.node (last_of p)) (is_end (after_prefix p q)) (there_by (has_more (after_prefix q p)) (entry_shape graph st.dest.node (last_of q))) (is_end (after_prefix (parent_of p) (parent_of q)) || not (is_full (graph.shape st.dest.node)))
-    w = really (dir_error (left st.source.walked (parent_of p)) (graph.shape st.source.node)) (dir_error (left st.dest.walked (parent_of q)) (graph.shape st.dest.node)) (entry_shape graph st.source.node (last_of p)) (is_end (after_prefix p q)) (there_by (has_more (after_prefix q p)) (entry_shape graph st.dest.node (last_of q))) (is_end (after_prefix (parent_of p) (parent_of q)) || not (is_full (graph.shape st.dest.node))) moves
+    w : Really (dir_error (left st.source.walked (parent_of p)) (graph.shape st.source.node)) (dir_error (left st.dest.walked (parent_of q)) (graph.shape st.dest.node)) (entry_shape graph st.source.node (last_of p)) (is_end (after_prefix p q)) (there_by (has_more (after_prefix q p)) (entry_shape graph st.dest.node (last_of q))) (is_end (after_prefix (parent_of p) (parent_of q)) || not (is_full most (graph.shape st.dest.node)))
+    w = really (dir_error (left st.source.walked (parent_of p)) (graph.shape st.source.node)) (dir_error (left st.dest.walked (parent_of q)) (graph.shape st.dest.node)) (entry_shape graph st.source.node (last_of p)) (is_end (after_prefix p q)) (there_by (has_more (after_prefix q p)) (entry_shape graph st.dest.node (last_of q))) (is_end (after_prefix (parent_of p) (parent_of q)) || not (is_full most (graph.shape st.dest.node))) moves
 
     above : has_more (after_prefix q p) ≡ true → ⊥
-    above b = full_row w.moved (entry_shape graph st.dest.node (last_of q)) (is_end (after_prefix (parent_of p) (parent_of q)) || not (is_full (graph.shape st.dest.node))) (has_more (after_prefix q p)) b w.to
+    above b = full_row w.moved (entry_shape graph st.dest.node (last_of q)) (is_end (after_prefix (parent_of p) (parent_of q)) || not (is_full most (graph.shape st.dest.node))) (has_more (after_prefix q p)) b w.to
 
     path : (side : Side) → parent_of (of_side side p q) ≡ (head_on side st).walked
     path Source = path_walked Source graph st.node p q st f w.source
@@ -128,22 +127,22 @@ real_of graph is p q st o fits f victim e moves = record {
     replaces (Some v) i =
         let u : (s : Shape) × (graph.shape v ≡ Some s) = is.to_used st.dest.node v (last_of q) i in
         let entry : entry_shape graph st.dest.node (last_of q) ≡ Some u.0 = ap (λ (n : Option ℕ). then_at n graph.shape) i ∙ u.1 in
-        let row : to_row w.moved (Some u.0) (is_end (after_prefix (parent_of p) (parent_of q)) || not (is_full (graph.shape st.dest.node))) ≡ None =
-        ap (λ (t : Option Shape). to_row w.moved t (is_end (after_prefix (parent_of p) (parent_of q)) || not (is_full (graph.shape st.dest.node)))) (sym (ap₂ there_by no_prefix entry)) ∙ w.to in
-        let l : (same_kind (Some w.moved) (Some u.0) ≡ true) × Leaf (Some u.0) = to_leaf w.moved u.0 (is_end (after_prefix (parent_of p) (parent_of q)) || not (is_full (graph.shape st.dest.node))) row in
+        let row : to_row w.moved (Some u.0) (is_end (after_prefix (parent_of p) (parent_of q)) || not (is_full most (graph.shape st.dest.node))) ≡ None =
+        ap (λ (t : Option Shape). to_row w.moved t (is_end (after_prefix (parent_of p) (parent_of q)) || not (is_full most (graph.shape st.dest.node)))) (sym (ap₂ there_by no_prefix entry)) ∙ w.to in
+        let l : (same_kind (Some w.moved) (Some u.0) ≡ true) × Leaf (Some u.0) = to_leaf w.moved u.0 (is_end (after_prefix (parent_of p) (parent_of q)) || not (is_full most (graph.shape st.dest.node))) row in
         let want : (same_kind (entry_shape graph st.source.node (last_of p)) (entry_shape graph st.dest.node (last_of q)) && not (is_end (after_prefix p q)) && not (has_more (after_prefix q p))) ≡ true =
         all_true (same_kind (entry_shape graph st.source.node (last_of p)) (entry_shape graph st.dest.node (last_of q))) (is_end (after_prefix p q)) (has_more (after_prefix q p)) (ap₂ same_kind w.is entry ∙ l.0) w.other no_prefix in
-        inr (v, i, victim_held graph p q st o v victim (at_entries graph is pairs.Rename p q st o f w.source w.dest e) i want, subst Leaf (sym u.1) l.1)
+        inr (v, i, victim_held graph most p q st o v victim (at_entries graph is (pairs.Rename most) p q st o f w.source w.dest e) i want, subst Leaf (sym u.1) l.1)
 
 -- from where a call stands, by the keys of both entries
-pub can_move : (graph : Graph) (k p q : Key) (st : Holdings) → Located (numbers graph) k st → Fits (AtPair pairs.Rename p q) → (real : Real graph p q st) → CanMove graph (k ++ st.source.walked) st.source.node (last_of p) (k ++ st.dest.walked) st.dest.node (last_of q) real.moved.0
-can_move graph k p q st loc fits real = record { from_at = loc.head Source; to_at = loc.head Dest; there = real.moved.1; aside = (ap₂ after_prefix s_is t_is ∙ prefix_both k p q ∙ real.aside.0, ap₂ after_prefix t_is s_is ∙ prefix_both k q p ∙ real.aside.1) }
+pub can_move : (graph : Graph) (most : ℕ) (k p q : Key) (st : Holdings) → Located (numbers graph) k st → Fits (AtPair (pairs.Rename most) p q) → (real : Real graph p q st) → CanMove graph (k ++ st.source.walked) st.source.node (last_of p) (k ++ st.dest.walked) st.dest.node (last_of q) real.moved.0
+can_move graph most k p q st loc fits real = record { from_at = loc.head Source; to_at = loc.head Dest; there = real.moved.1; aside = (ap₂ after_prefix s_is t_is ∙ prefix_both k p q ∙ real.aside.0, ap₂ after_prefix t_is s_is ∙ prefix_both k q p ∙ real.aside.1) }
   where
     s_is : (k ++ st.source.walked) ++ last_of p ∷ [] ≡ k ++ p
-    s_is = entry_key Source k pairs.Rename p q st fits (real.path Source)
+    s_is = entry_key Source k (pairs.Rename most) p q st fits (real.path Source)
 
     t_is : (k ++ st.dest.walked) ++ last_of q ∷ [] ≡ k ++ q
-    t_is = entry_key Dest k pairs.Rename p q st fits (real.path Dest)
+    t_is = entry_key Dest k (pairs.Rename most) p q st fits (real.path Dest)
 
 -- an exchange that really moves, moves both nodes
 pub moves_two : (graph : Graph) → IsGraph graph → (p q : Key) (st : Holdings) (o : Moved) → Forked graph st.node p q st → (real : RealSwap graph p q st) → (exchange_at graph p q st).1 ≡ true → fork_move graph pairs.Exchange p q st ≡ Finishes o → Two real.one.0 real.other.0 ≡ o

@@ -7,7 +7,7 @@ use Rattle.fs_names.specs.Parts.{left, left_by}
 use Rattle.fs_names.specs.Shapes.{Shape, Dir}
 use Rattle.fs_laws.specs.Changes.{move_change}
 use Rattle.fs_calls.specs.Forms.{Form, AtPair, Fits}
-use Rattle.fs_calls.specs.declared.target.PairCall.TheVariants as pairs
+use Rattle.fs_calls.specs.Forms as pairs
 use Rattle.fs_laws.specs.Maps.{Map, put, put_at, move, moved_to, moved_from}
 use Rattle.fs_calls.specs.declared.reply.Reply.{Reply}
 use Rattle.fs_graph.specs.Graphs.{Graph, at, numbers, entry_shape, moved_in}
@@ -61,10 +61,10 @@ take_same true (Some n) (Some v) m o e = cc
 take_same false n held m o e = cc
 
 -- a rename that really moves
-does_move : (graph : Graph) (ops : Records) (key : ℕ → Key) (c : ℕ) (op : Record) (st : Holdings) (o : Moved) (p q : Key) (ws : List (Key × Option Shape)) (r : Reply) → Finisher graph ops key c op st o → op.remaining ≡ AtPair pairs.Rename p q → Fits (AtPair pairs.Rename p q)
+does_move : (graph : Graph) (ops : Records) (key : ℕ → Key) (c : ℕ) (op : Record) (st : Holdings) (o : Moved) (most : ℕ) (p q : Key) (ws : List (Key × Option Shape)) (r : Reply) → Finisher graph ops key c op st o → op.remaining ≡ AtPair (pairs.Rename most) p q → Fits (AtPair (pairs.Rename most) p q)
     → Real graph p q st → ((m : ℕ) → graph.child st.source.node (last_of p) ≡ Some m → IsMoved o m)
     → Does graph ops key st op.reserved (change_under (key c) (move_change true ws p q)) (move_effect graph st (last_of p) (last_of q) op.reserved r true (graph.child st.source.node (last_of p)))
-does_move graph ops key c op st o p q ws r f rem fits real moved_is = subst (λ (n : Option ℕ). Does graph ops key st op.reserved (change_under (key c) (move_change true ws p q)) (move_effect graph st (last_of p) (last_of q) op.reserved r true n)) (sym real.moved.1) made
+does_move graph ops key c op st o most p q ws r f rem fits real moved_is = subst (λ (n : Option ℕ). Does graph ops key st op.reserved (change_under (key c) (move_change true ws p q)) (move_effect graph st (last_of p) (last_of q) op.reserved r true n)) (sym real.moved.1) made
   where
     loc : Located (numbers graph) (key c) st
     loc = (f.kept.each c op st f.is f.on).located
@@ -79,13 +79,13 @@ does_move graph ops key c op st o p q ws r f rem fits real moved_is = subst (λ 
     kt = key c ++ st.dest.walked
 
     s_is : (key c ++ st.source.walked) ++ last_of p ∷ [] ≡ key c ++ p
-    s_is = entry_key Source (key c) pairs.Rename p q st fits (real.path Source)
+    s_is = entry_key Source (key c) (pairs.Rename most) p q st fits (real.path Source)
 
     t_is : (key c ++ st.dest.walked) ++ last_of q ∷ [] ≡ key c ++ q
-    t_is = entry_key Dest (key c) pairs.Rename p q st fits (real.path Dest)
+    t_is = entry_key Dest (key c) (pairs.Rename most) p q st fits (real.path Dest)
 
     can : CanMove graph (key c ++ st.source.walked) st.source.node (last_of p) (key c ++ st.dest.walked) st.dest.node (last_of q) real.moved.0
-    can = can_move graph (key c) p q st loc fits real
+    can = can_move graph most (key c) p q st loc fits real
 
     entry : numbers graph ((key c ++ st.dest.walked) ++ last_of q ∷ []) ≡ graph.child st.dest.node (last_of q)
     entry = at_child graph.child 0 st.dest.node (key c ++ st.dest.walked) (last_of q) (loc.head Dest)
@@ -142,7 +142,7 @@ does_move graph ops key c op st o p q ws r f rem fits real moved_is = subst (λ 
         (subst (λ (t : Key). CallFacts (move ((key c ++ st.source.walked) ++ last_of p ∷ []) ((key c ++ st.dest.walked) ++ last_of q ∷ []) (numbers graph)) ops (λ d. rekey_by t (key d) (after_prefix (key c ++ p) (key d)))) t_is
         (subst (λ (s : Key). CallFacts (move ((key c ++ st.source.walked) ++ last_of p ∷ []) ((key c ++ st.dest.walked) ++ last_of q ∷ []) (numbers graph)) ops (λ d. rekey_by ((key c ++ st.dest.walked) ++ last_of q ∷ []) (key d) (after_prefix s (key d)))) s_is moved))
 
-    vic : VictimAt graph (AtPair pairs.Rename p q) st
+    vic : VictimAt graph (AtPair (pairs.Rename most) p q) st
     vic = subst (λ (x : Form). VictimAt graph x st) rem f.victim
 
     made : Does graph ops key st op.reserved (change_under (key c) (move_change true ws p q)) (record { reply = r; graph = moved_in st.source.node (last_of p) st.dest.node (last_of q) real.moved.0 graph; reserved = op.reserved; removed = st.victim })
@@ -156,19 +156,19 @@ does_move graph ops key c op st o p q ws r f rem fits real moved_is = subst (λ 
     }
 
 -- where it stands at both parents
-pub does_rename : (graph : Graph) (ops : Records) (key : ℕ → Key) (c : ℕ) (op : Record) (st : Holdings) (o : Moved) (p q : Key) (ws : List (Key × Option Shape)) → Finisher graph ops key c op st o → op.remaining ≡ AtPair pairs.Rename p q → Fits (AtPair pairs.Rename p q)
-    → Forked graph st.node p q st → fork_move graph pairs.Rename p q st ≡ Finishes o → (rename_at graph p q st).1 ≡ true
-    → Does graph ops key st op.reserved (change_under (key c) (move_change true ws p q)) (rename_effect graph p q st op.reserved [])
-does_rename graph ops key c op st o p q ws f rem fits w fork j =
-    subst (λ (b : Bool). Does graph ops key st op.reserved (change_under (key c) (move_change true ws p q)) (move_effect graph st (last_of p) (last_of q) op.reserved (rename_at graph p q st).0 b (graph.child st.source.node (last_of p)))) (sym j)
-    (does_move graph ops key c op st o p q ws (rename_at graph p q st).0 f rem fits real (λ m h. subst (λ (t : Moved). IsMoved t m) (sym (ap₂ moved_node j h) ∙ same) refl))
+pub does_rename : (graph : Graph) (ops : Records) (key : ℕ → Key) (c : ℕ) (op : Record) (st : Holdings) (o : Moved) (most : ℕ) (p q : Key) (ws : List (Key × Option Shape)) → Finisher graph ops key c op st o → op.remaining ≡ AtPair (pairs.Rename most) p q → Fits (AtPair (pairs.Rename most) p q)
+    → Forked graph st.node p q st → fork_move graph (pairs.Rename most) p q st ≡ Finishes o → (rename_at graph most p q st).1 ≡ true
+    → Does graph ops key st op.reserved (change_under (key c) (move_change true ws p q)) (rename_effect graph most p q st op.reserved [])
+does_rename graph ops key c op st o most p q ws f rem fits w fork j =
+    subst (λ (b : Bool). Does graph ops key st op.reserved (change_under (key c) (move_change true ws p q)) (move_effect graph st (last_of p) (last_of q) op.reserved (rename_at graph most p q st).0 b (graph.child st.source.node (last_of p)))) (sym j)
+    (does_move graph ops key c op st o most p q ws (rename_at graph most p q st).0 f rem fits real (λ m h. subst (λ (t : Moved). IsMoved t m) (sym (ap₂ moved_node j h) ∙ same) refl))
   where
     real : Real graph p q st
-    real = real_of graph f.is_graph p q st o fits w (subst (λ (x : Form). VictimAt graph x st) rem f.victim) fork j
+    real = real_of graph f.is_graph most p q st o fits w (subst (λ (x : Form). VictimAt graph x st) rem f.victim) fork j
 
     error_none : (a b : Key) (t : Option Shape) → b ≡ a → (names : List Name) × (t ≡ Some (Dir names)) → dir_error (left a b) t ≡ None
     error_none a b t z n = ap₂ dir_error (ap (left a) (z ∙ sym (append-nil a)) ∙ ap left_by (prefix_append a [])) n.1
 
-    same : moved_node (rename_at graph p q st).1 (graph.child st.source.node (last_of p)) ≡ o
-    same = take_same (same_kind (entry_shape graph st.source.node (last_of p)) (entry_shape graph st.dest.node (last_of q)) && not (is_end (after_prefix p q)) && not (has_more (after_prefix q p))) (graph.child st.dest.node (last_of q)) st.victim (moved_node (rename_at graph p q st).1 (graph.child st.source.node (last_of p))) o
-        (at_entries graph f.is_graph pairs.Rename p q st o w (error_none st.source.walked (parent_of p) (graph.shape st.source.node) (real.path Source) real.source_dir) (error_none st.dest.walked (parent_of q) (graph.shape st.dest.node) (real.path Dest) real.dest_dir) fork)
+    same : moved_node (rename_at graph most p q st).1 (graph.child st.source.node (last_of p)) ≡ o
+    same = take_same (same_kind (entry_shape graph st.source.node (last_of p)) (entry_shape graph st.dest.node (last_of q)) && not (is_end (after_prefix p q)) && not (has_more (after_prefix q p))) (graph.child st.dest.node (last_of q)) st.victim (moved_node (rename_at graph most p q st).1 (graph.child st.source.node (last_of p))) o
+        (at_entries graph f.is_graph (pairs.Rename most) p q st o w (error_none st.source.walked (parent_of p) (graph.shape st.source.node) (real.path Source) real.source_dir) (error_none st.dest.walked (parent_of q) (graph.shape st.dest.node) (real.path Dest) real.dest_dir) fork)

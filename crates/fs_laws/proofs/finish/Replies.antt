@@ -5,9 +5,7 @@ use Rattle.fs_names.specs.Names.{Name, has_name, inserted_name, removed_name}
 use Rattle.fs_names.specs.Parts.{common}
 use Rattle.fs_names.specs.Shapes.{Shape, Dir, File, is_full, names_of}
 use Rattle.fs_laws.specs.Changes.{Change, changed, looked, edit_change, reply, if_sound}
-use Rattle.fs_calls.specs.Forms.{Form, AtNode, AtEntry, AtPair, under, new_shape, Fits}
-use Rattle.fs_calls.specs.declared.target.EntryCall.{EntryCall}
-use Rattle.fs_calls.specs.declared.target.EntryCall.TheVariants.{Mkdir, Mknod, Unlink, Rmdir}
+use Rattle.fs_calls.specs.Forms.{Form, AtNode, AtEntry, AtPair, under, new_shape, Fits, EntryCall, Mkdir, Mknod, Unlink, Rmdir}
 use Rattle.fs_laws.specs.Maps.{Map, put}
 use Rattle.fs_calls.specs.Rows.{as_dir, node_row, Edit, Keep, Add, Remove, entry_row}
 use Rattle.fs_calls.specs.declared.errno.Errno.{Errno}
@@ -29,6 +27,7 @@ use Rattle.fs_laws.proofs.graphs.TreesOfChanges.{resolve_at, shapes_linked, shap
 use Rattle.fs_laws.proofs.finish.Readings.{shapes_from, below_is, on_finish, in_finish, pair_finish}
 use Rattle.fs_laws.proofs.finish.PairRows.{pair_row, pair_effect, looked_pair, effect_pair, row_stuck, effect_stuck, effect_reply}
 use Rattle.fs_laws.proofs.finish.Pairs.{step_stops, Standing, Stuck, At_fork, standing, stuck_read}
+use Rattle.fs_laws.proofs.finish.RowParts.{made}
 
 on_reply : (graph : Graph) (n : ℕ) (reserved : Option ℕ) (r : Reply × Option (List ℕ)) → (node_effect graph n reserved r).reply ≡ r.0
 on_reply graph n reserved (r, None) = refl
@@ -47,7 +46,7 @@ looked_reply graph is s (AtNode c p) st reserved o u fits well e =
     on_reply graph st.node reserved (node_row c (path_error p (graph.shape st.node)) (graph.shape st.node))
     ∙ ap (λ (r : Reply × Option (List ℕ)). r.0) (on_finish graph is st.node s c p u (step_stops graph st.node p (Finishes Nothing) o (finish_on graph (AtNode c p) st o e)).0)
 looked_reply graph is s (AtEntry c p) st reserved o u fits well e =
-    in_reply graph st.node (last_of p) reserved (entry_row c (dir_error (parent_of p) (graph.shape st.node)) (is_full (graph.shape st.node)) (entry_shape graph st.node (last_of p)))
+    in_reply graph st.node (last_of p) reserved (entry_row c (dir_error (parent_of p) (graph.shape st.node)) (graph.shape st.node) (entry_shape graph st.node (last_of p)))
     ∙ ap (λ (r : Reply × Edit). r.0) (in_finish graph is st.node s c p (in_more c p fits) u (step_stops graph st.node (parent_of p) (target_move graph (AtEntry c p) st) o (finish_on graph (AtEntry c p) st o e)).0)
 looked_reply graph is s (AtPair c p q) st reserved o u fits well e =
     ap (λ (made : Effect). made.reply) (effect_pair graph c p q st reserved)
@@ -86,21 +85,22 @@ remove_add s r e = let z : Remove ≡ Add s = ap (λ (o : Reply × Edit). o.1) e
 keep_remove : (a r : Reply) → ◌≡◌ {A = Reply × Edit} (a, Keep) (r, Remove) → ⊥
 keep_remove a r e = let z : Keep ≡ Remove = ap (λ (o : Reply × Edit). o.1) e in cc
 
-pub add_of : (c : EntryCall) (e : Option Errno) (full : Bool) (there : Option Shape) (r : Reply) (shape : Shape) → entry_row c e full there ≡ (r, Add shape) → (e ≡ None) × (new_shape c ≡ Some shape) × (there ≡ None)
-add_of c (Some f) full there r shape e = absurd (keep_add (Failed f) shape r e)
-add_of Mkdir None true None r shape e = absurd (keep_add (Failed Enospc) shape r e)
-add_of Mkdir None false None r shape e = (refl, same_add (Dir []) shape r e, refl)
-add_of Mkdir None full (Some s) r shape e = absurd (keep_add (Failed Eexist) shape r e)
-add_of Mknod None true None r shape e = absurd (keep_add (Failed Enospc) shape r e)
-add_of Mknod None false None r shape e = (refl, same_add (File []) shape r e, refl)
-add_of Mknod None full (Some s) r shape e = absurd (keep_add (Failed Eexist) shape r e)
-add_of Unlink None full None r shape e = absurd (keep_add (Failed Enoent) shape r e)
-add_of Unlink None full (Some (Dir names)) r shape e = absurd (keep_add (Failed Eperm) shape r e)
-add_of Unlink None full (Some (File bytes)) r shape e = absurd (remove_add shape r e)
-add_of Rmdir None full None r shape e = absurd (keep_add (Failed Enoent) shape r e)
-add_of Rmdir None full (Some (File bytes)) r shape e = absurd (keep_add (Failed Enotdir) shape r e)
-add_of Rmdir None full (Some (Dir [])) r shape e = absurd (remove_add shape r e)
-add_of Rmdir None full (Some (Dir (x ∷ names))) r shape e = absurd (keep_add (Failed Enotempty) shape r e)
+made_add : (new : Shape) (full : Bool) (there : Option Shape) (r : Reply) (shape : Shape) → made new full there ≡ (r, Add shape) → (Some new ≡ Some shape) × (there ≡ None)
+made_add new true None r shape e = absurd (keep_add (Failed Enospc) shape r e)
+made_add new false None r shape e = (same_add new shape r e, refl)
+made_add new full (Some s) r shape e = absurd (keep_add (Failed Eexist) shape r e)
+
+pub add_of : (c : EntryCall) (e : Option Errno) (parent there : Option Shape) (r : Reply) (shape : Shape) → entry_row c e parent there ≡ (r, Add shape) → (e ≡ None) × (new_shape c ≡ Some shape) × (there ≡ None)
+add_of c (Some f) parent there r shape e = absurd (keep_add (Failed f) shape r e)
+add_of (Mkdir most) None parent there r shape e = let new = made_add (Dir []) (is_full most parent) there r shape e in (refl, new.0, new.1)
+add_of (Mknod most) None parent there r shape e = let new = made_add (File []) (is_full most parent) there r shape e in (refl, new.0, new.1)
+add_of Unlink None parent None r shape e = absurd (keep_add (Failed Enoent) shape r e)
+add_of Unlink None parent (Some (Dir names)) r shape e = absurd (keep_add (Failed Eperm) shape r e)
+add_of Unlink None parent (Some (File bytes)) r shape e = absurd (remove_add shape r e)
+add_of Rmdir None parent None r shape e = absurd (keep_add (Failed Enoent) shape r e)
+add_of Rmdir None parent (Some (File bytes)) r shape e = absurd (keep_add (Failed Enotdir) shape r e)
+add_of Rmdir None parent (Some (Dir [])) r shape e = absurd (remove_add shape r e)
+add_of Rmdir None parent (Some (Dir (x ∷ names))) r shape e = absurd (keep_add (Failed Enotempty) shape r e)
 
 -- the victim has no entries
 abbrev pub Leaf : Option Shape → Type 0
@@ -112,21 +112,22 @@ Leaf (Some (Dir (x ∷ names))) = ⊥
 not_add : (s : Shape) (r : Reply) → ◌≡◌ {A = Reply × Edit} (Done, Add s) (r, Remove) → ⊥
 not_add s r e = let z : Add s ≡ Remove = ap (λ (o : Reply × Edit). o.1) e in cc
 
-pub remove_of : (c : EntryCall) (e : Option Errno) (full : Bool) (there : Option Shape) (r : Reply) → entry_row c e full there ≡ (r, Remove) → Leaf there
-remove_of c (Some f) full there r e = absurd (keep_remove (Failed f) r e)
-remove_of Mkdir None true None r e = absurd (keep_remove (Failed Enospc) r e)
-remove_of Mkdir None false None r e = absurd (not_add (Dir []) r e)
-remove_of Mkdir None full (Some s) r e = absurd (keep_remove (Failed Eexist) r e)
-remove_of Mknod None true None r e = absurd (keep_remove (Failed Enospc) r e)
-remove_of Mknod None false None r e = absurd (not_add (File []) r e)
-remove_of Mknod None full (Some s) r e = absurd (keep_remove (Failed Eexist) r e)
-remove_of Unlink None full None r e = absurd (keep_remove (Failed Enoent) r e)
-remove_of Unlink None full (Some (Dir names)) r e = absurd (keep_remove (Failed Eperm) r e)
-remove_of Unlink None full (Some (File bytes)) r e = tt
-remove_of Rmdir None full None r e = absurd (keep_remove (Failed Enoent) r e)
-remove_of Rmdir None full (Some (File bytes)) r e = absurd (keep_remove (Failed Enotdir) r e)
-remove_of Rmdir None full (Some (Dir [])) r e = tt
-remove_of Rmdir None full (Some (Dir (x ∷ names))) r e = absurd (keep_remove (Failed Enotempty) r e)
+made_remove : (new : Shape) (full : Bool) (there : Option Shape) (r : Reply) → made new full there ≡ (r, Remove) → ⊥
+made_remove new true None r e = keep_remove (Failed Enospc) r e
+made_remove new false None r e = not_add new r e
+made_remove new full (Some s) r e = keep_remove (Failed Eexist) r e
+
+pub remove_of : (c : EntryCall) (e : Option Errno) (parent there : Option Shape) (r : Reply) → entry_row c e parent there ≡ (r, Remove) → Leaf there
+remove_of c (Some f) parent there r e = absurd (keep_remove (Failed f) r e)
+remove_of (Mkdir most) None parent there r e = absurd (made_remove (Dir []) (is_full most parent) there r e)
+remove_of (Mknod most) None parent there r e = absurd (made_remove (File []) (is_full most parent) there r e)
+remove_of Unlink None parent None r e = absurd (keep_remove (Failed Enoent) r e)
+remove_of Unlink None parent (Some (Dir names)) r e = absurd (keep_remove (Failed Eperm) r e)
+remove_of Unlink None parent (Some (File bytes)) r e = tt
+remove_of Rmdir None parent None r e = absurd (keep_remove (Failed Enoent) r e)
+remove_of Rmdir None parent (Some (File bytes)) r e = absurd (keep_remove (Failed Enotdir) r e)
+remove_of Rmdir None parent (Some (Dir [])) r e = tt
+remove_of Rmdir None parent (Some (Dir (x ∷ names))) r e = absurd (keep_remove (Failed Enotempty) r e)
 
 pub leaf_children : (graph : Graph) → IsGraph graph → (n : ℕ) (s : Option Shape) → graph.shape n ≡ s → Leaf s → (y : Name) → graph.child n y ≡ None
 leaf_children graph is n s e leaf y = go (graph.child n y) refl
@@ -153,17 +154,17 @@ some_entry graph n x s e = then_some (graph.child n x) graph.shape s e
 
 -- an edit of the entry x of the node at k
 pub edit_tree : (graph : Graph) → IsGraph graph → (k : Key) (n : ℕ) (names : List Name) (c : EntryCall) (x : Name) (reserved : Option ℕ) (r : Reply) (d : Edit) → numbers graph k ≡ Some n → HasNumber graph c reserved
-    → entry_row c (as_dir None (graph.shape n)) (is_full (graph.shape n)) (entry_shape graph n x) ≡ (r, d)
+    → entry_row c (as_dir None (graph.shape n)) (graph.shape n) (entry_shape graph n x) ≡ (r, d)
     → graph_shapes (entry_effect graph n x reserved (r, d)).graph ≡ changed (change_under k (edit_change [] (names_of (graph.shape n)) x (x ∷ []) d)) (graph_shapes graph)
 edit_tree graph is k n names c x reserved r Keep at_k has e = refl
 edit_tree graph is k n names c x reserved r (Add shape) at_k has e =
-    let a : (as_dir None (graph.shape n) ≡ None) × (new_shape c ≡ Some shape) × (entry_shape graph n x ≡ None) = add_of c (as_dir None (graph.shape n)) (is_full (graph.shape n)) (entry_shape graph n x) r shape e in
+    let a : (as_dir None (graph.shape n) ≡ None) × (new_shape c ≡ Some shape) × (entry_shape graph n x ≡ None) = add_of c (as_dir None (graph.shape n)) (graph.shape n) (entry_shape graph n x) r shape e in
     let h : (m : ℕ) × (reserved ≡ Some m) × (graph.shape m ≡ Some shape) × ((key : Key) → numbers graph key ≡ Some m → ⊥) = has shape a.1 in
     ap (λ (o : Option ℕ). graph_shapes (entry_effect graph n x o (r, Add shape)).graph) h.1
     ∙ shapes_linked graph is k n x h.0 (record { dir_at = at_k; free = no_entry graph is n x a.2; used = (shape, h.2); unlinked = h.3 })
     ∙ ap₂ (λ (s : Option Shape) (l : Key). put (k ++ x ∷ []) s (put l (Some (Dir (inserted_name x (names_of (graph.shape n))))) (graph_shapes graph))) h.2 (sym (append-nil k))
 edit_tree graph is k n names c x reserved r Remove at_k has e =
-    let leaf : Leaf (entry_shape graph n x) = remove_of c (as_dir None (graph.shape n)) (is_full (graph.shape n)) (entry_shape graph n x) r e in
+    let leaf : Leaf (entry_shape graph n x) = remove_of c (as_dir None (graph.shape n)) (graph.shape n) (entry_shape graph n x) r e in
     let m : (m : ℕ) × (graph.child n x ≡ Some m) × Leaf (graph.shape m) = leaf_of (graph.child n x) leaf in
     made_graph reserved
     ∙ shapes_unlinked graph is k n x m.0 (record { dir_at = at_k; there = m.1; leaf = leaf_children graph is m.0 (graph.shape m.0) refl m.2 })

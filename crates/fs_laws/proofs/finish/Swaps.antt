@@ -7,7 +7,7 @@ use Rattle.fs_names.specs.Shapes.{Shape}
 use Rattle.fs_laws.specs.Changes.{changed, swap_change}
 use Rattle.fs_calls.specs.Forms.{AtPair, Fits}
 use Rattle.fs_calls.specs.Rows.{exchange_row}
-use Rattle.fs_calls.specs.declared.target.PairCall.TheVariants as pairs
+use Rattle.fs_calls.specs.Forms as pairs
 use Rattle.fs_calls.specs.declared.errno.Errno.{Errno}
 use Rattle.fs_laws.specs.Maps.{swap}
 use Rattle.fs_graph.specs.Graphs.{Graph, numbers, graph_shapes, entry_shape, IsGraph}

@@ -5,9 +5,8 @@ use Rattle.fs_names.specs.Names.{Name}
 use Rattle.fs_names.specs.Parts.{common, left}
 use Rattle.fs_names.specs.Shapes.{Shape, Dir, File, is_full, names_of}
 use Rattle.fs_laws.specs.Changes.{Change, changed, resolve, looked, content_change, edit_change, move_change, rename_writes, outcome, after, if_sound}
-use Rattle.fs_calls.specs.Forms.{NodeCall, Form, AtNode, AtEntry, AtPair, under, Fits}
-use Rattle.fs_calls.specs.declared.target.PairCall.{PairCall}
-use Rattle.fs_calls.specs.declared.target.PairCall.TheVariants as pairs
+use Rattle.fs_calls.specs.Forms.{NodeCall, Form, AtNode, AtEntry, AtPair, under, Fits, PairCall}
+use Rattle.fs_calls.specs.Forms as pairs
 use Rattle.fs_laws.specs.Maps.{Map, put, move, write_all}
 use Rattle.fs_calls.specs.Rows.{as_dir, node_row, Edit, entry_row, rename_row}
 use Rattle.fs_laws.proofs.finish.RowParts.{to_row, moves_row}
@@ -84,11 +83,11 @@ on_none : (graph : Graph) (k : Key) (c : NodeCall) (p : Key) (e : Option Errno) 
 on_none graph k c p e f s i = ap (λ (o : Option Errno). changed (change_under k (content_change p (node_row c o s).1)) (graph_shapes graph)) i
 
 -- a rename that really moves
-move_tree : (graph : Graph) → IsGraph graph → (k : Key) (n : ℕ) (p q : Key) (st : Holdings) (reserved : Option ℕ) (r : Reply) → numbers graph k ≡ Some n → Fits (AtPair pairs.Rename p q) → ForkAt graph n p q st
-    → Really (dir_error (left st.source.walked (parent_of p)) (graph.shape st.source.node)) (dir_error (left st.dest.walked (parent_of q)) (graph.shape st.dest.node)) (entry_shape graph st.source.node (last_of p)) (is_end (after_prefix p q)) (there_by (has_more (after_prefix q p)) (entry_shape graph st.dest.node (last_of q))) (is_end (after_prefix (parent_of p) (parent_of q)) || not (is_full (graph.shape st.dest.node)))
+move_tree : (graph : Graph) → IsGraph graph → (k : Key) (n : ℕ) (most : ℕ) (p q : Key) (st : Holdings) (reserved : Option ℕ) (r : Reply) → numbers graph k ≡ Some n → Fits (AtPair (pairs.Rename most) p q) → ForkAt graph n p q st
+    → Really (dir_error (left st.source.walked (parent_of p)) (graph.shape st.source.node)) (dir_error (left st.dest.walked (parent_of q)) (graph.shape st.dest.node)) (entry_shape graph st.source.node (last_of p)) (is_end (after_prefix p q)) (there_by (has_more (after_prefix q p)) (entry_shape graph st.dest.node (last_of q))) (is_end (after_prefix (parent_of p) (parent_of q)) || not (is_full most (graph.shape st.dest.node)))
     → graph_shapes (move_effect graph st (last_of p) (last_of q) reserved r true (graph.child st.source.node (last_of p))).graph
     ≡ changed (change_under k (move_change true (rename_writes (is_end (after_prefix (parent_of p) (parent_of q))) (parent_of p) (names_of (shapes_from graph n (parent_of p))) (last_of p) (parent_of q) (names_of (shapes_from graph n (parent_of q))) (last_of q)) p q)) (graph_shapes graph)
-move_tree graph is k n p q st reserved r at_k fits f w =
+move_tree graph is k n most p q st reserved r at_k fits f w =
     ap (λ (o : Option ℕ). graph_shapes (move_effect graph st (last_of p) (last_of q) reserved r true o).graph) m.1
     ∙ shapes_moved graph is (k ++ st.source.walked) st.source.node (last_of p) (k ++ st.dest.walked) st.dest.node (last_of q) m.0 (record { from_at = from_at; to_at = to_at; there = m.1; aside = aside })
     ∙ ap₂ (λ (s t : Key). move s t (write_all (rename_writes (eqb st.dest.node st.source.node) (k ++ st.source.walked) (names_of (graph.shape st.source.node)) (last_of p) (k ++ st.dest.walked) (names_of (graph.shape st.dest.node)) (last_of q)) (graph_shapes graph))) p_key q_key
@@ -110,13 +109,13 @@ move_tree graph is k n p q st reserved r at_k fits f w =
     e_is = path_walked Dest graph n p q st f.fork w.dest
 
     p_key : (k ++ st.source.walked) ++ last_of p ∷ [] ≡ k ++ p
-    p_key = entry_key Source k pairs.Rename p q st fits d_is
+    p_key = entry_key Source k (pairs.Rename most) p q st fits d_is
 
     q_key : (k ++ st.dest.walked) ++ last_of q ∷ [] ≡ k ++ q
-    q_key = entry_key Dest k pairs.Rename p q st fits e_is
+    q_key = entry_key Dest k (pairs.Rename most) p q st fits e_is
 
     apart : Aside p q
-    apart = paths_aside pairs.Rename p q fits w.other (λ b. full_row w.moved (entry_shape graph st.dest.node (last_of q)) (is_end (after_prefix (parent_of p) (parent_of q)) || not (is_full (graph.shape st.dest.node))) (has_more (after_prefix q p)) b w.to)
+    apart = paths_aside (pairs.Rename most) p q fits w.other (λ b. full_row w.moved (entry_shape graph st.dest.node (last_of q)) (is_end (after_prefix (parent_of p) (parent_of q)) || not (is_full most (graph.shape st.dest.node))) (has_more (after_prefix q p)) b w.to)
 
     aside : Aside ((k ++ st.source.walked) ++ last_of p ∷ []) ((k ++ st.dest.walked) ++ last_of q ∷ [])
     aside = rw (p_key, q_key) (prefix_both k p q ∙ apart.0, prefix_both k q p ∙ apart.1)
@@ -138,9 +137,9 @@ move_tree graph is k n p q st reserved r at_k fits f w =
 -- a pair that really moves
 pair_tree : (graph : Graph) → IsGraph graph → (k : Key) (n : ℕ) (c : PairCall) (p q : Key) (st : Holdings) (reserved : Option ℕ) → numbers graph k ≡ Some n → Fits (AtPair c p q) → ForkAt graph n p q st → (pair_at graph c p q st).1 ≡ true
     → graph_shapes (pair_effect graph c p q st reserved []).graph ≡ changed (change_under k (pair_change (shapes_from graph n) c p q true)) (graph_shapes graph)
-pair_tree graph is k n pairs.Rename p q st reserved at_k fits f i =
-    ap (λ (b : Bool). graph_shapes (move_effect graph st (last_of p) (last_of q) reserved (rename_at graph p q st).0 b (graph.child st.source.node (last_of p))).graph) i
-    ∙ move_tree graph is k n p q st reserved (rename_at graph p q st).0 at_k fits f (really (dir_error (left st.source.walked (parent_of p)) (graph.shape st.source.node)) (dir_error (left st.dest.walked (parent_of q)) (graph.shape st.dest.node)) (entry_shape graph st.source.node (last_of p)) (is_end (after_prefix p q)) (there_by (has_more (after_prefix q p)) (entry_shape graph st.dest.node (last_of q))) (is_end (after_prefix (parent_of p) (parent_of q)) || not (is_full (graph.shape st.dest.node))) i)
+pair_tree graph is k n (pairs.Rename most) p q st reserved at_k fits f i =
+    ap (λ (b : Bool). graph_shapes (move_effect graph st (last_of p) (last_of q) reserved (rename_at graph most p q st).0 b (graph.child st.source.node (last_of p))).graph) i
+    ∙ move_tree graph is k n most p q st reserved (rename_at graph most p q st).0 at_k fits f (really (dir_error (left st.source.walked (parent_of p)) (graph.shape st.source.node)) (dir_error (left st.dest.walked (parent_of q)) (graph.shape st.dest.node)) (entry_shape graph st.source.node (last_of p)) (is_end (after_prefix p q)) (there_by (has_more (after_prefix q p)) (entry_shape graph st.dest.node (last_of q))) (is_end (after_prefix (parent_of p) (parent_of q)) || not (is_full most (graph.shape st.dest.node))) i)
 pair_tree graph is k n pairs.Exchange p q st reserved at_k fits f i = swap_tree graph is k n p q st reserved at_k fits f.fork i
 
 looked_tree : (graph : Graph) → IsGraph graph → (k : Key) (s : Shape) (remaining : Form) (st : Holdings) (reserved : Option ℕ) (o : Moved) → numbers graph k ≡ Some st.node → graph.shape st.node ≡ Some s → Fits remaining → HeadsSound graph st.node remaining st → NumberFor graph remaining reserved → next_on graph remaining st ≡ Finishes o
@@ -155,7 +154,7 @@ looked_tree graph is k s (AtEntry c (x ∷ [])) st reserved o at_k u fits well h
     ∙ ap (λ (r : Reply × Edit). changed (change_under k (edit_change [] (names_of (graph.shape st.node)) x (x ∷ []) r.1)) (graph_shapes graph)) (in_finish graph is st.node s c (x ∷ []) tt u tt)
   where
     row : Reply × Edit
-    row = entry_row c (as_dir None (graph.shape st.node)) (is_full (graph.shape st.node)) (entry_shape graph st.node x)
+    row = entry_row c (as_dir None (graph.shape st.node)) (graph.shape st.node) (entry_shape graph st.node x)
 looked_tree graph is k s (AtEntry c (x ∷ y ∷ p)) st reserved o at_k u fits well has e =
     ap (λ (r : Reply × Edit). changed (change_under k (edit_change (x ∷ parent_of (y ∷ p)) (names_of (shapes_from graph st.node (x ∷ parent_of (y ∷ p)))) (last_of (y ∷ p)) (x ∷ y ∷ p) r.1)) (graph_shapes graph))
     (in_finish graph is st.node s c (x ∷ y ∷ p) tt u (step_stops graph st.node (x ∷ parent_of (y ∷ p)) (target_move graph (AtEntry c (x ∷ y ∷ p)) st) o (finish_on graph (AtEntry c (x ∷ y ∷ p)) st o e)).0)

@@ -5,6 +5,7 @@ use Rattle.fs_names.specs.Keys.{Key, parent_of, last_of}
 use Rattle.fs_names.specs.Names.{Name, has_name}
 use Rattle.fs_names.specs.Parts.{common}
 use Rattle.fs_names.specs.Shapes.{Shape, Dir}
+use Rattle.fs_names.specs.declared.limits.Limits.{Limits}
 use Rattle.fs_calls.specs.Forms.{Form, AtNode, AtEntry, AtPair}
 use Rattle.fs_graph.specs.Graphs.{Graph, at, then_at, numbers, graph_shapes, IsGraph, released_in, reserved_in}
 use Rattle.fs_machine.specs.Records.{Record, Holdings, head_on}
@@ -40,7 +41,7 @@ number_children old new same (AtEntry c p) reserved h w = λ shape e.
     (g.0, g.1, h g.0 g.1 ∙ g.2, λ key i. g.3 key (sym (numbers_children old new same key) ∙ i)))
 
 -- what a call keeps where only other numbers change
-pub own_children : {most : ℕ} (old new : Graph) → new.child ≡ old.child → (q : Record) → ((m : ℕ) → HasSpare q m → new.shape m ≡ old.shape m) → Own most old q → Own most new q
+pub own_children : {limits : Limits} (old new : Graph) → new.child ≡ old.child → (q : Record) → ((m : ℕ) → HasSpare q m → new.shape m ≡ old.shape m) → Own limits old q → Own limits new q
 own_children old new same q h o = record {
   parts = o.parts;
   well = λ st e. well_children old new same st.node q.remaining st (o.well st e);

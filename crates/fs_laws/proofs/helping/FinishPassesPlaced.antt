@@ -6,10 +6,8 @@ use Rattle.fs_names.specs.Names.{Name, same_name, inserted_name, removed_name}
 use Rattle.fs_names.specs.Parts.{HasNames}
 use Rattle.fs_names.specs.Shapes.{Shape, Dir, File, is_full, names_of, is_missing}
 use Rattle.fs_laws.specs.Changes.{Rekeying, Stay, MoveTo, Swap, Change, moved_by, changed, resolve, resolve_dir, content_change, edit_change, rename_writes, move_change, entry_looked, rename_looked, looked, if_sound, outcome, reply, after, exchange_looked, swap_change}
-use Rattle.fs_calls.specs.Forms.{Form, AtNode, AtEntry, AtPair, by_text, under, Fits}
-use Rattle.fs_calls.specs.declared.target.PairCall.TheVariants as pairs
-use Rattle.fs_calls.specs.declared.target.EntryCall.{EntryCall}
-use Rattle.fs_calls.specs.declared.target.EntryCall.TheVariants.{Mkdir, Mknod, Unlink, Rmdir}
+use Rattle.fs_calls.specs.Forms.{Form, AtNode, AtEntry, AtPair, by_text, under, Fits, EntryCall, Mkdir, Mknod, Unlink, Rmdir}
+use Rattle.fs_calls.specs.Forms as pairs
 use Rattle.fs_laws.specs.Maps.{Map, below, act, put, move, swapped, swap, write_all}
 use Rattle.fs_calls.specs.Rows.{as_dir, node_row, Edit, Keep, Add, Remove, entry_row, rename_row, exchange_row, answered}
 use Rattle.fs_laws.proofs.finish.RowParts.{made, entry_row_in_dir, to_row, moves_row, rename_row_in_dirs}
@@ -88,27 +86,27 @@ made_kind new full None (Some (File n)) h = cc
 made_kind new full (Some (Dir n)) None h = cc
 made_kind new full (Some (File n)) None h = cc
 
-in_kind : (c : EntryCall) (full : Bool) (s t : Option Shape) → victim_of c s ≡ false → kind s ≡ kind t → entry_row_in_dir c full s ≡ entry_row_in_dir c full t
-in_kind Mkdir full s t v h = made_kind (Dir []) full s t h
-in_kind Mknod full s t v h = made_kind (File []) full s t h
-in_kind Unlink full None None v h = refl
-in_kind Unlink full None (Some (Dir n)) v h = cc
-in_kind Unlink full None (Some (File n)) v h = cc
-in_kind Unlink full (Some (Dir n)) None v h = cc
-in_kind Unlink full (Some (Dir n)) (Some (Dir m)) v h = refl
-in_kind Unlink full (Some (Dir n)) (Some (File m)) v h = cc
-in_kind Unlink full (Some (File n)) t v h = cc
-in_kind Rmdir full None None v h = refl
-in_kind Rmdir full None (Some (Dir n)) v h = cc
-in_kind Rmdir full None (Some (File n)) v h = cc
-in_kind Rmdir full (Some (File n)) None v h = cc
-in_kind Rmdir full (Some (File n)) (Some (File m)) v h = refl
-in_kind Rmdir full (Some (File n)) (Some (Dir m)) v h = cc
-in_kind Rmdir full (Some (Dir n)) t v h = cc
+in_kind : (c : EntryCall) (parent s t : Option Shape) → victim_of c s ≡ false → kind s ≡ kind t → entry_row_in_dir c parent s ≡ entry_row_in_dir c parent t
+in_kind (Mkdir most) parent s t v h = made_kind (Dir []) (is_full most parent) s t h
+in_kind (Mknod most) parent s t v h = made_kind (File []) (is_full most parent) s t h
+in_kind Unlink parent None None v h = refl
+in_kind Unlink parent None (Some (Dir n)) v h = cc
+in_kind Unlink parent None (Some (File n)) v h = cc
+in_kind Unlink parent (Some (Dir n)) None v h = cc
+in_kind Unlink parent (Some (Dir n)) (Some (Dir m)) v h = refl
+in_kind Unlink parent (Some (Dir n)) (Some (File m)) v h = cc
+in_kind Unlink parent (Some (File n)) t v h = cc
+in_kind Rmdir parent None None v h = refl
+in_kind Rmdir parent None (Some (Dir n)) v h = cc
+in_kind Rmdir parent None (Some (File n)) v h = cc
+in_kind Rmdir parent (Some (File n)) None v h = cc
+in_kind Rmdir parent (Some (File n)) (Some (File m)) v h = refl
+in_kind Rmdir parent (Some (File n)) (Some (Dir m)) v h = cc
+in_kind Rmdir parent (Some (Dir n)) t v h = cc
 
-row_in_kind : (c : EntryCall) (e : Option Errno) (full : Bool) (s t : Option Shape) → entry_row_in_dir c full s ≡ entry_row_in_dir c full t → entry_row c e full s ≡ entry_row c e full t
-row_in_kind c (Some e) full s t h = refl
-row_in_kind c None full s t h = h
+row_in_kind : (c : EntryCall) (e : Option Errno) (parent s t : Option Shape) → entry_row_in_dir c parent s ≡ entry_row_in_dir c parent t → entry_row c e parent s ≡ entry_row c e parent t
+row_in_kind c (Some e) parent s t h = refl
+row_in_kind c None parent s t h = h
 
 -- of p its kind alone
 to_moved : (m n : Shape) (s : Option Shape) (room : Bool) → kind (Some m) ≡ kind (Some n) → to_row m s room ≡ to_row n s room
@@ -176,13 +174,13 @@ rename_kind None e f m n b s t r u h = go e f (h refl)
 in_agree : (k : Key) (a b : Map Shape) (c : EntryCall) (p : Key) → HasNames p → Agree k a b → ReadsNothingBelow a (AtEntry c p) k → entry_looked a c p (parent_of p) (last_of p) ≡ entry_looked b c p (parent_of p) (last_of p)
 in_agree k a b c p m g h =
     let da : Option Errno = resolve_dir a (parent_of p) in
-    let row : entry_row c da (is_full (a (parent_of p))) (a p) ≡ entry_row c da (is_full (a (parent_of p))) (b p) = row_in_kind c da (is_full (a (parent_of p))) (a p) (b p) (there (victim_of c (a p)) refl) in
+    let row : entry_row c da (a (parent_of p)) (a p) ≡ entry_row c da (a (parent_of p)) (b p) = row_in_kind c da (a (parent_of p)) (a p) (b p) (there (victim_of c (a p)) refl) in
     ap (λ (r : Reply × Edit). (r.0, edit_change (parent_of p) (names_of (a (parent_of p))) (last_of p) p r.1)) row
-    ∙ ap₂ (λ (e : Option Errno) (s : Option Shape). ((entry_row c e (is_full s) (b p)).0, edit_change (parent_of p) (names_of s) (last_of p) p (entry_row c e (is_full s) (b p)).1)) (dir_agree k (parent_of p) a b g h.0) (g.off (parent_of p) h.0)
+    ∙ ap₂ (λ (e : Option Errno) (s : Option Shape). ((entry_row c e s (b p)).0, edit_change (parent_of p) (names_of s) (last_of p) p (entry_row c e s (b p)).1)) (dir_agree k (parent_of p) a b g h.0) (g.off (parent_of p) h.0)
   where
-    there : (v : Bool) → victim_of c (a p) ≡ v → entry_row_in_dir c (is_full (a (parent_of p))) (a p) ≡ entry_row_in_dir c (is_full (a (parent_of p))) (b p)
-    there true e = ap (entry_row_in_dir c (is_full (a (parent_of p)))) (g.off p (h.1 e))
-    there false e = in_kind c (is_full (a (parent_of p))) (a p) (b p) e (kind_agree k a b p g m h.0)
+    there : (v : Bool) → victim_of c (a p) ≡ v → entry_row_in_dir c (a (parent_of p)) (a p) ≡ entry_row_in_dir c (a (parent_of p)) (b p)
+    there true e = ap (entry_row_in_dir c (a (parent_of p))) (g.off p (h.1 e))
+    there false e = in_kind c (a (parent_of p)) (a p) (b p) e (kind_agree k a b p g m h.0)
 
 -- q is a proper prefix of p: it is not below k, as it is at or above p's parent
 prefix_off : (k p q : Key) (o : Option Key) → HasNames p → after_prefix q p ≡ o → has_more o ≡ true → after_prefix k (parent_of p) ≡ None → after_prefix k q ≡ None
@@ -198,9 +196,9 @@ prefix_off k p q (Some (x ∷ r)) m e b h = prefix_before k q (parent_of (x ∷ 
 abbrev answer_of : Key → Key → Key → Name → Key → Name → List Name → List Name → Reply × Bool → Reply × Change
 answer_of p q d x e y names others r = (r.0, move_change r.1 (rename_writes (is_end (after_prefix d e)) d names x e others y) p q)
 
-rename_agree : (k : Key) (a b : Map Shape) (p q d e : Key) (x y : Name) → d ≡ parent_of p → e ≡ parent_of q → HasNames p → HasNames q → Agree k a b → ReadsNothingBelow a (AtPair pairs.Rename p q) k
-    → rename_looked a p q d x e y ≡ rename_looked b p q d x e y
-rename_agree k a b p q d e x y is_d is_e mp mq g h = by (resolve_dir a d) refl
+rename_agree : (k : Key) (a b : Map Shape) (most : ℕ) (p q d e : Key) (x y : Name) → d ≡ parent_of p → e ≡ parent_of q → HasNames p → HasNames q → Agree k a b → ReadsNothingBelow a (AtPair (pairs.Rename most) p q) k
+    → rename_looked a most p q d x e y ≡ rename_looked b most p q d x e y
+rename_agree k a b most p q d e x y is_d is_e mp mq g h = by (resolve_dir a d) refl
   where
     off_d : after_prefix k d ≡ None
     off_d = ap (after_prefix k) is_d ∙ h.0
@@ -216,15 +214,15 @@ rename_agree k a b p q d e x y is_d is_e mp mq g h = by (resolve_dir a d) refl
         ≡ answer_of p q d x e y nb mb (rename_row db eb (b p) (is_end (after_prefix p q)) (b q) t)
     fails f ea eb da db na nb ma mb s t i j = rw (i, j) refl
 
-    by : (o : Option Errno) → resolve_dir a d ≡ o → rename_looked a p q d x e y ≡ rename_looked b p q d x e y
-    by (Some f) i = fails f (resolve_dir a e) (resolve_dir b e) (resolve_dir a d) (resolve_dir b d) (names_of (a d)) (names_of (b d)) (names_of (a e)) (names_of (b e)) (is_end (after_prefix d e) || not (is_full (a e))) (is_end (after_prefix d e) || not (is_full (b e))) i (sym same_dirs ∙ i)
+    by : (o : Option Errno) → resolve_dir a d ≡ o → rename_looked a most p q d x e y ≡ rename_looked b most p q d x e y
+    by (Some f) i = fails f (resolve_dir a e) (resolve_dir b e) (resolve_dir a d) (resolve_dir b d) (names_of (a d)) (names_of (b d)) (names_of (a e)) (names_of (b e)) (is_end (after_prefix d e) || not (is_full most (a e))) (is_end (after_prefix d e) || not (is_full most (b e))) i (sym same_dirs ∙ i)
     by None i =
         ap (λ (r : Reply × Bool). (r.0, move_change r.1 (rename_writes (is_end (after_prefix d e)) d (names_of (a d)) x e (names_of (a e)) y) p q)) rows
         ∙ ap₂ (λ (u : Option Errno) (s : Option Shape). moved u (resolve_dir b e) s (a e)) same_dirs (g.off d off_d)
         ∙ ap (λ (s : Option Shape). moved (resolve_dir b d) (resolve_dir b e) (b d) s) (g.off e off_e)
       where
         moved : Option Errno → Option Errno → Option Shape → Option Shape → Reply × Change
-        moved u v s t = (let r : Reply × Bool = rename_row u v (b p) (is_end (after_prefix p q)) (b q) (is_end (after_prefix d e) || not (is_full t)) in (r.0, move_change r.1 (rename_writes (is_end (after_prefix d e)) d (names_of s) x e (names_of t) y) p q))
+        moved u v s t = (let r : Reply × Bool = rename_row u v (b p) (is_end (after_prefix p q)) (b q) (is_end (after_prefix d e) || not (is_full most t)) in (r.0, move_change r.1 (rename_writes (is_end (after_prefix d e)) d (names_of s) x e (names_of t) y) p q))
 
         rest : (after_prefix k (parent_of q) ≡ None) × (looks_into a p q ≡ true → after_prefix k q ≡ None)
         rest = h.1 (ap (resolve_dir a) (sym is_d) ∙ i)
@@ -248,12 +246,12 @@ rename_agree k a b p q d e x y is_d is_e mp mq g h = by (resolve_dir a d) refl
                 all_true true true w i j k = cc
                 all_true true false true i j k = cc
 
-        rows : rename_row (resolve_dir a d) (resolve_dir a e) (a p) (is_end (after_prefix p q)) (a q) (is_end (after_prefix d e) || not (is_full (a e))) ≡ rename_row (resolve_dir a d) (resolve_dir b e) (b p) (is_end (after_prefix p q)) (b q) (is_end (after_prefix d e) || not (is_full (a e)))
-        rows = rename_kind (resolve_dir a d) (resolve_dir a e) (resolve_dir b e) (a p) (b p) (is_end (after_prefix p q)) (a q) (b q) (is_end (after_prefix d e) || not (is_full (a e))) (is_end (after_prefix d e) || not (is_full (a e)))
+        rows : rename_row (resolve_dir a d) (resolve_dir a e) (a p) (is_end (after_prefix p q)) (a q) (is_end (after_prefix d e) || not (is_full most (a e))) ≡ rename_row (resolve_dir a d) (resolve_dir b e) (b p) (is_end (after_prefix p q)) (b q) (is_end (after_prefix d e) || not (is_full most (a e)))
+        rows = rename_kind (resolve_dir a d) (resolve_dir a e) (resolve_dir b e) (a p) (b p) (is_end (after_prefix p q)) (a q) (b q) (is_end (after_prefix d e) || not (is_full most (a e))) (is_end (after_prefix d e) || not (is_full most (a e)))
             (λ z. (
               dir_agree k e a b g off_e,
-              from_there (a p) (is_end (after_prefix p q)) (a q) (b q) (is_end (after_prefix d e) || not (is_full (a e))) q_same q_kind
-                  ∙ from_moved (a p) (b p) (is_end (after_prefix p q)) (b q) (is_end (after_prefix d e) || not (is_full (a e))) p_kind,
+              from_there (a p) (is_end (after_prefix p q)) (a q) (b q) (is_end (after_prefix d e) || not (is_full most (a e))) q_same q_kind
+                  ∙ from_moved (a p) (b p) (is_end (after_prefix p q)) (b q) (is_end (after_prefix d e) || not (is_full most (a e))) p_kind,
             ))
 
 missing_kind : (s t : Option Shape) → kind s ≡ kind t → is_missing s ≡ is_missing t
@@ -285,12 +283,12 @@ outcome_agree k a b (AtEntry c p) g h = go p g h
     go : (p : Key) → Agree k a b → ReadsNothingBelow a (AtEntry c p) k → outcome a (AtEntry c p) ≡ outcome b (AtEntry c p)
     go [] g h = refl
     go (x ∷ p) g h = in_agree k a b c (x ∷ p) tt g h
-outcome_agree k a b (AtPair pairs.Rename p q) g h = go p q g h
+outcome_agree k a b (AtPair (pairs.Rename most) p q) g h = go p q g h
   where
-    go : (p q : Key) → Agree k a b → ReadsNothingBelow a (AtPair pairs.Rename p q) k → outcome a (AtPair pairs.Rename p q) ≡ outcome b (AtPair pairs.Rename p q)
+    go : (p q : Key) → Agree k a b → ReadsNothingBelow a (AtPair (pairs.Rename most) p q) k → outcome a (AtPair (pairs.Rename most) p q) ≡ outcome b (AtPair (pairs.Rename most) p q)
     go [] q g h = refl
     go (x ∷ p) [] g h = refl
-    go (x ∷ p) (y ∷ q) g h = ap (if_sound (by_text (AtPair pairs.Rename (x ∷ p) (y ∷ q)))) (rename_agree k a b (x ∷ p) (y ∷ q) (parent_of (x ∷ p)) (parent_of (y ∷ q)) (last_of (x ∷ p)) (last_of (y ∷ q)) refl refl tt tt g h)
+    go (x ∷ p) (y ∷ q) g h = ap (if_sound (by_text (AtPair (pairs.Rename most) (x ∷ p) (y ∷ q)))) (rename_agree k a b most (x ∷ p) (y ∷ q) (parent_of (x ∷ p)) (parent_of (y ∷ q)) (last_of (x ∷ p)) (last_of (y ∷ q)) refl refl tt tt g h)
 outcome_agree k a b (AtPair pairs.Exchange p q) g h = go p q g h
   where
     go : (p q : Key) → Agree k a b → ReadsNothingBelow a (AtPair pairs.Exchange p q) k → outcome a (AtPair pairs.Exchange p q) ≡ outcome b (AtPair pairs.Exchange p q)
@@ -322,8 +320,8 @@ same_kind_kind (Some s) (Some (File b)) (Some u) (Some (Dir d)) e f = cc
 
 victim_kind : (c : EntryCall) (s t : Option Shape) → kind s ≡ kind t → victim_of c s ≡ victim_of c t
 victim_kind c None None h = refl
-victim_kind Mkdir (Some s) (Some t) h = refl
-victim_kind Mknod (Some s) (Some t) h = refl
+victim_kind (Mkdir most) (Some s) (Some t) h = refl
+victim_kind (Mknod most) (Some s) (Some t) h = refl
 victim_kind Unlink (Some (Dir s)) (Some (Dir t)) h = refl
 victim_kind Unlink (Some (File s)) (Some (File t)) h = refl
 victim_kind Rmdir (Some (Dir s)) (Some (Dir t)) h = refl
@@ -339,13 +337,13 @@ victim_kind c (Some (File t)) None h = cc
 pub blind_agree : (k j : Key) (a b : Map Shape) (call : Form) → Agree k a b → Fits call → ReadsNothingBelow a call k → ReadsNothingBelow a call j → ReadsNothingBelow b call j
 blind_agree k j a b (AtNode c p) g f h i = i
 blind_agree k j a b (AtEntry c p) g f h i = (i.0, λ v. i.1 (victim_kind c (a p) (b p) (kind_agree k a b p g (in_more c p f) h.0) ∙ v))
-blind_agree k j a b (AtPair pairs.Rename p q) g f h i = (
+blind_agree k j a b (AtPair (pairs.Rename most) p q) g f h i = (
   i.0,
   λ e.
       let ea : resolve_dir a (parent_of p) ≡ None = dir_agree k (parent_of p) a b g h.0 ∙ e in
       let hk : (after_prefix k (parent_of q) ≡ None) × (looks_into a p q ≡ true → after_prefix k q ≡ None) = h.1 ea in
       let ij : (after_prefix j (parent_of q) ≡ None) × (looks_into a p q ≡ true → after_prefix j q ≡ None) = i.1 ea in
-      (ij.0, λ l. ij.1 (ap (λ (s : Bool). s && not (is_end (after_prefix p q)) && not (has_more (after_prefix q p))) (same_kind_kind (a p) (a q) (b p) (b q) (kind_agree k a b p g (from_more pairs.Rename p q f) h.0) (kind_agree k a b q g (to_more pairs.Rename p q f) hk.0)) ∙ l)),
+      (ij.0, λ l. ij.1 (ap (λ (s : Bool). s && not (is_end (after_prefix p q)) && not (has_more (after_prefix q p))) (same_kind_kind (a p) (a q) (b p) (b q) (kind_agree k a b p g (from_more (pairs.Rename most) p q f) h.0) (kind_agree k a b q g (to_more (pairs.Rename most) p q f) hk.0)) ∙ l)),
 )
 blind_agree k j a b (AtPair pairs.Exchange p q) g f h i = (i.0, λ e. i.1 (dir_agree k (parent_of p) a b g h.0 ∙ e))
 
@@ -398,10 +396,10 @@ looked_root tree (AtEntry c p) fits = go (resolve_dir tree (parent_of p)) refl
     edit (Add s) i = put_more p (Some s) (put (parent_of p) (Some (Dir (inserted_name (last_of p) (names_of (tree (parent_of p)))))) tree) m ∙ put_kind (parent_of p) (Some (Dir (inserted_name (last_of p) (names_of (tree (parent_of p)))))) tree (root_dir tree (parent_of p) i)
     edit Remove i = put_more p None (put (parent_of p) (Some (Dir (removed_name (last_of p) (names_of (tree (parent_of p)))))) tree) m ∙ put_kind (parent_of p) (Some (Dir (removed_name (last_of p) (names_of (tree (parent_of p)))))) tree (root_dir tree (parent_of p) i)
 
-    go : (e : Option Errno) → resolve_dir tree (parent_of p) ≡ e → kind (changed (edit_change (parent_of p) (names_of (tree (parent_of p))) (last_of p) p (entry_row c e (is_full (tree (parent_of p))) (tree p)).1) tree []) ≡ kind (tree [])
+    go : (e : Option Errno) → resolve_dir tree (parent_of p) ≡ e → kind (changed (edit_change (parent_of p) (names_of (tree (parent_of p))) (last_of p) p (entry_row c e (tree (parent_of p)) (tree p)).1) tree []) ≡ kind (tree [])
     go (Some e) i = refl
-    go None i = edit (entry_row_in_dir c (is_full (tree (parent_of p))) (tree p)).1 i
-looked_root tree (AtPair pairs.Rename p q) fits = go (resolve_dir tree (parent_of p)) (resolve_dir tree (parent_of q)) refl refl
+    go None i = edit (entry_row_in_dir c (tree (parent_of p)) (tree p)).1 i
+looked_root tree (AtPair (pairs.Rename most) p q) fits = go (resolve_dir tree (parent_of p)) (resolve_dir tree (parent_of q)) refl refl
   where
     two : (b : Bool) (names others : List Name) → resolve_dir tree (parent_of p) ≡ None → resolve_dir tree (parent_of q) ≡ None → kind (write_all (rename_writes b (parent_of p) names (last_of p) (parent_of q) others (last_of q)) tree []) ≡ kind (tree [])
     two true names others i j = put_kind (parent_of p) (Some (Dir (inserted_name (last_of q) (removed_name (last_of p) names)))) tree (root_dir tree (parent_of p) i)
@@ -412,14 +410,14 @@ looked_root tree (AtPair pairs.Rename p q) fits = go (resolve_dir tree (parent_o
     by : (r : Reply × Bool) (b : Bool) (names others : List Name) → resolve_dir tree (parent_of p) ≡ None → resolve_dir tree (parent_of q) ≡ None → kind (changed (move_change r.1 (rename_writes b (parent_of p) names (last_of p) (parent_of q) others (last_of q)) p q) tree []) ≡ kind (tree [])
     by (r, false) b names others i j = refl
     by (r, true) b names others i j =
-        ap kind (move_root p q (write_all (rename_writes b (parent_of p) names (last_of p) (parent_of q) others (last_of q)) tree) (from_more pairs.Rename p q fits) (to_more pairs.Rename p q fits))
+        ap kind (move_root p q (write_all (rename_writes b (parent_of p) names (last_of p) (parent_of q) others (last_of q)) tree) (from_more (pairs.Rename most) p q fits) (to_more (pairs.Rename most) p q fits))
         ∙ two b names others i j
 
     go : (d e : Option Errno) → resolve_dir tree (parent_of p) ≡ d → resolve_dir tree (parent_of q) ≡ e
-        → kind (changed (move_change (rename_row d e (tree p) (is_end (after_prefix p q)) (tree q) (is_end (after_prefix (parent_of p) (parent_of q)) || not (is_full (tree (parent_of q))))).1 (rename_writes (is_end (after_prefix (parent_of p) (parent_of q))) (parent_of p) (names_of (tree (parent_of p))) (last_of p) (parent_of q) (names_of (tree (parent_of q))) (last_of q)) p q) tree []) ≡ kind (tree [])
+        → kind (changed (move_change (rename_row d e (tree p) (is_end (after_prefix p q)) (tree q) (is_end (after_prefix (parent_of p) (parent_of q)) || not (is_full most (tree (parent_of q))))).1 (rename_writes (is_end (after_prefix (parent_of p) (parent_of q))) (parent_of p) (names_of (tree (parent_of p))) (last_of p) (parent_of q) (names_of (tree (parent_of q))) (last_of q)) p q) tree []) ≡ kind (tree [])
     go (Some d) e i j = refl
     go None (Some e) i j = refl
-    go None None i j = by (rename_row_in_dirs (tree p) (is_end (after_prefix p q)) (tree q) (is_end (after_prefix (parent_of p) (parent_of q)) || not (is_full (tree (parent_of q))))) (is_end (after_prefix (parent_of p) (parent_of q))) (names_of (tree (parent_of p))) (names_of (tree (parent_of q))) i j
+    go None None i j = by (rename_row_in_dirs (tree p) (is_end (after_prefix p q)) (tree q) (is_end (after_prefix (parent_of p) (parent_of q)) || not (is_full most (tree (parent_of q))))) (is_end (after_prefix (parent_of p) (parent_of q))) (names_of (tree (parent_of p))) (names_of (tree (parent_of q))) i j
 looked_root tree (AtPair pairs.Exchange p q) fits = ap kind (swap_root p q tree (exchange_row (resolve_dir tree (parent_of p)) (resolve_dir tree (parent_of q)) (tree p) (is_end (after_prefix p q)) (tree q)).1 (from_more pairs.Exchange p q fits) (to_more pairs.Exchange p q fits))
 
 pub after_root : (tree : Map Shape) (call : Form) → Fits call → kind (after tree call []) ≡ kind (tree [])

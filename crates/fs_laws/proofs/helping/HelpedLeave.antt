@@ -15,7 +15,7 @@ use Rattle.fs_machine.specs.declared.moves.Moved.{Moved}
 use Rattle.fs_machine.specs.Records.{Phase, Walking, Placed, Finished, Holds, Record, Holdings, holdings_at, Side, of_side, head_on}
 use Rattle.fs_laws.specs.Below.{IsHolding, IsAboutToMove, Meanwhile, Now, Begins_another, Steps_another, Helps_one, EachBelow, HelpsAreFew}
 use Rattle.fs_timeline.specs.Timeline.{commit_count}
-use Rattle.fs_laws.specs.Invariants.{IsIn, Own, Invariant, most_bytes}
+use Rattle.fs_laws.specs.Invariants.{IsIn, Own, Invariant, limits_of}
 use Rattle.fs_laws.specs.CallFacts.{IsAfter, Located}
 use Rattle.fs_machine.specs.States.{State, Begun, Begins, Reserves, new_op, began, Step, Run, Beginning, Stepping, taking, letting_go, helping, carrying, returning, IsMoved, IsWalkingBelow, IsWalkingBelowMoved}
 use Rattle.fs_machine.specs.declared.answers.Refusal.TheVariants.{SeatBusy, Full, OutOfMemory}
@@ -172,7 +172,7 @@ finish_outside : (s : State) (inv : Invariant s) (moved f : ℕ) (op : Record) (
     → (d : ℕ) (q : Record) (st : Holdings) (key : Key) → (d ≡ f → ⊥) → s.ops d ≡ Some q → q.phase ≡ Walking → q.holdings ≡ Some st → at (finish s.graph op).graph.child moved key ≡ Some st.node → at s.graph.child moved key ≡ Some st.node
 finish_outside s inv moved f op o is move alone d q st key differs q_is walks on e = same key moved e
   where
-    own : Own (most_bytes s) s.graph op
+    own : Own (limits_of s) s.graph op
     own = inv.own f op is
 
     there : numbers s.graph (inv.key d) ≡ Some st.node

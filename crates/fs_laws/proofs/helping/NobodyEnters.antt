@@ -4,9 +4,8 @@ use Rattle.fs_names.specs.Keys.{Key, after_prefix, parent_of, last_of, has_more,
 use Rattle.fs_names.specs.Names.{Name, same_name}
 use Rattle.fs_names.specs.Parts.{common, left}
 use Rattle.fs_names.specs.Shapes.{Shape, Dir, File, is_full}
-use Rattle.fs_calls.specs.Forms.{Form, AtNode, AtEntry, AtPair, by_paths}
-use Rattle.fs_calls.specs.declared.target.PairCall.{PairCall}
-use Rattle.fs_calls.specs.declared.target.PairCall.TheVariants as pairs
+use Rattle.fs_calls.specs.Forms.{Form, AtNode, AtEntry, AtPair, by_paths, PairCall}
+use Rattle.fs_calls.specs.Forms as pairs
 use Rattle.fs_calls.specs.Rows.{node_row, Edit, Keep, Add, Remove, entry_row}
 use Rattle.fs_calls.specs.declared.errno.Errno.{Errno}
 use Rattle.fs_calls.specs.declared.reply.Reply.{Reply}
@@ -101,10 +100,10 @@ dir_some (Some (Dir names)) rest t m e i = e
 
 -- at both parents
 parents_child : (graph : Graph) (pair : PairCall) (p q : Key) (st : Holdings) (all : Moved) (side : Side) (m : ℕ) → parents_move graph pair p q st ≡ Finishes all → moved_on all side ≡ Some m → graph.child (head_on side st).node (last_of (of_side side p q)) ≡ Some m
-parents_child graph pairs.Rename p q st all side m e i =
-    let f : Finishes (moved_node (rename_at graph p q st).1 (graph.child st.source.node (last_of p))) ≡ Finishes all = take_over (wants graph p q st) (graph.child st.dest.node (last_of q)) st.victim (moved_node (rename_at graph p q st).1 (graph.child st.source.node (last_of p))) all e in
-    let g : moved_node (rename_at graph p q st).1 (graph.child st.source.node (last_of p)) ≡ all = cc in
-    let h : (side ≡ Source) × (graph.child st.source.node (last_of p) ≡ Some m) = node_on (rename_at graph p q st).1 (graph.child st.source.node (last_of p)) side m (ap (λ (t : Moved). moved_on t side) g ∙ i) in
+parents_child graph (pairs.Rename most) p q st all side m e i =
+    let f : Finishes (moved_node (rename_at graph most p q st).1 (graph.child st.source.node (last_of p))) ≡ Finishes all = take_over (wants graph p q st) (graph.child st.dest.node (last_of q)) st.victim (moved_node (rename_at graph most p q st).1 (graph.child st.source.node (last_of p))) all e in
+    let g : moved_node (rename_at graph most p q st).1 (graph.child st.source.node (last_of p)) ≡ all = cc in
+    let h : (side ≡ Source) × (graph.child st.source.node (last_of p) ≡ Some m) = node_on (rename_at graph most p q st).1 (graph.child st.source.node (last_of p)) side m (ap (λ (t : Moved). moved_on t side) g ∙ i) in
     subst (λ (x : Side). graph.child (head_on x st).node (last_of (of_side x p q)) ≡ Some m) (sym h.0) h.1
 parents_child graph pairs.Exchange p q st all side m e i = go side (nodes_on (exchange_at graph p q st).1 (graph.child st.source.node (last_of p)) (graph.child st.dest.node (last_of q)) side m (ap (λ (t : Moved). moved_on t side) g ∙ i))
   where
@@ -193,19 +192,19 @@ in_entries graph op o n y (t, Remove) (Some m) i a b x e = go (set_or n y None g
     go (inr f) = Same_entry f
 
 -- a rename at both parents
-rename_entries : (graph : Graph) → IsGraph graph → (op : Record) (o : Moved) (p q : Key) (st : Holdings) → op.holdings ≡ Some st → Forked graph st.node p q st → fork_move graph pairs.Rename p q st ≡ Finishes o → (t : Bool) → (rename_at graph p q st).1 ≡ t → (s : Option ℕ) → graph.child st.source.node (last_of p) ≡ s
+rename_entries : (graph : Graph) → IsGraph graph → (op : Record) (o : Moved) (most : ℕ) (p q : Key) (st : Holdings) → op.holdings ≡ Some st → Forked graph st.node p q st → fork_move graph (pairs.Rename most) p q st ≡ Finishes o → (t : Bool) → (rename_at graph most p q st).1 ≡ t → (s : Option ℕ) → graph.child st.source.node (last_of p) ≡ s
     → (r : Reply) (a b : ℕ) (x : Name) → (move_effect graph st (last_of p) (last_of q) op.reserved r t s).graph.child a x ≡ Some b → NewEntry graph op o a b x
-rename_entries graph is op o p q st on f fork false i s j r a b x e = Same_entry e
-rename_entries graph is op o p q st on f fork true i None j r a b x e = Same_entry e
-rename_entries graph is op o p q st on f fork true i (Some m) j r a b x e = go (set_or st.dest.node (last_of q) (Some m) (set_child st.source.node (last_of p) None graph.child) a x b e)
+rename_entries graph is op o most p q st on f fork false i s j r a b x e = Same_entry e
+rename_entries graph is op o most p q st on f fork true i None j r a b x e = Same_entry e
+rename_entries graph is op o most p q st on f fork true i (Some m) j r a b x e = go (set_or st.dest.node (last_of q) (Some m) (set_child st.source.node (last_of p) None graph.child) a x b e)
   where
-    real : Really (dir_error (left st.source.walked (parent_of p)) (graph.shape st.source.node)) (dir_error (left st.dest.walked (parent_of q)) (graph.shape st.dest.node)) (entry_shape graph st.source.node (last_of p)) (is_end (after_prefix p q)) (there_by (has_more (after_prefix q p)) (entry_shape graph st.dest.node (last_of q))) (is_end (after_prefix (parent_of p) (parent_of q)) || not (is_full (graph.shape st.dest.node)))
-    real = really (dir_error (left st.source.walked (parent_of p)) (graph.shape st.source.node)) (dir_error (left st.dest.walked (parent_of q)) (graph.shape st.dest.node)) (entry_shape graph st.source.node (last_of p)) (is_end (after_prefix p q)) (there_by (has_more (after_prefix q p)) (entry_shape graph st.dest.node (last_of q))) (is_end (after_prefix (parent_of p) (parent_of q)) || not (is_full (graph.shape st.dest.node))) i
+    real : Really (dir_error (left st.source.walked (parent_of p)) (graph.shape st.source.node)) (dir_error (left st.dest.walked (parent_of q)) (graph.shape st.dest.node)) (entry_shape graph st.source.node (last_of p)) (is_end (after_prefix p q)) (there_by (has_more (after_prefix q p)) (entry_shape graph st.dest.node (last_of q))) (is_end (after_prefix (parent_of p) (parent_of q)) || not (is_full most (graph.shape st.dest.node)))
+    real = really (dir_error (left st.source.walked (parent_of p)) (graph.shape st.source.node)) (dir_error (left st.dest.walked (parent_of q)) (graph.shape st.dest.node)) (entry_shape graph st.source.node (last_of p)) (is_end (after_prefix p q)) (there_by (has_more (after_prefix q p)) (entry_shape graph st.dest.node (last_of q))) (is_end (after_prefix (parent_of p) (parent_of q)) || not (is_full most (graph.shape st.dest.node))) i
 
     o_is : One m ≡ o
     o_is =
-        let mv : rename_move graph p q st ≡ Finishes o = at_entries graph is pairs.Rename p q st o f real.source real.dest fork in
-        let z : Finishes (moved_node (rename_at graph p q st).1 (graph.child st.source.node (last_of p))) ≡ Finishes o = take_over (wants graph p q st) (graph.child st.dest.node (last_of q)) st.victim (moved_node (rename_at graph p q st).1 (graph.child st.source.node (last_of p))) o mv in
+        let mv : rename_move graph most p q st ≡ Finishes o = at_entries graph is (pairs.Rename most) p q st o f real.source real.dest fork in
+        let z : Finishes (moved_node (rename_at graph most p q st).1 (graph.child st.source.node (last_of p))) ≡ Finishes o = take_over (wants graph p q st) (graph.child st.dest.node (last_of q)) st.victim (moved_node (rename_at graph most p q st).1 (graph.child st.source.node (last_of p))) o mv in
         let y : Finishes (One m) ≡ Finishes o = sym (ap₂ (λ (c : Bool) (k : Option ℕ). Finishes (moved_node c k)) i j) ∙ z in
         let w : One m ≡ o = cc in w
 
@@ -248,7 +247,7 @@ exchange_entries graph is op o p q st on f fork true i a b x e = go (set_or st.s
 
 pair_entries : (graph : Graph) → IsGraph graph → (op : Record) (o : Moved) (pair : PairCall) (p q : Key) (st : Holdings) → op.holdings ≡ Some st → Forked graph st.node p q st → fork_move graph pair p q st ≡ Finishes o
     → (a b : ℕ) (x : Name) → (pair_effect graph pair p q st op.reserved []).graph.child a x ≡ Some b → NewEntry graph op o a b x
-pair_entries graph is op o pairs.Rename p q st on f fork a b x e = rename_entries graph is op o p q st on f fork (rename_at graph p q st).1 refl (graph.child st.source.node (last_of p)) refl (rename_at graph p q st).0 a b x e
+pair_entries graph is op o (pairs.Rename most) p q st on f fork a b x e = rename_entries graph is op o most p q st on f fork (rename_at graph most p q st).1 refl (graph.child st.source.node (last_of p)) refl (rename_at graph most p q st).0 a b x e
 pair_entries graph is op o pairs.Exchange p q st on f fork a b x e = exchange_entries graph is op o p q st on f fork (exchange_at graph p q st).1 refl a b x e
 
 pub finish_entries : (graph : Graph) → IsGraph graph → (op : Record) (o : Moved) → ((st : Holdings) → op.holdings ≡ Some st → HeadsSound graph st.node op.remaining st) → next graph op ≡ Finishes o → (a b : ℕ) (x : Name) → (finish graph op).graph.child a x ≡ Some b → NewEntry graph op o a b x
@@ -256,7 +255,7 @@ finish_entries graph is op o well m a b x e = go op.phase (by_paths op.call) op.
   where
     there : (st : Holdings) (rem : Form) → op.holdings ≡ Some st → HeadsSound graph st.node rem st → next_on graph rem st ≡ Finishes o → (effect_at graph rem st op.reserved).graph.child a x ≡ Some b → NewEntry graph op o a b x
     there st (AtNode c p) on w n f = Same_entry (sym (ap (λ (k : Children). k a x) (on_entries graph st.node op.reserved (node_row c (path_error p (graph.shape st.node)) (graph.shape st.node)))) ∙ f)
-    there st (AtEntry c p) on w n f = in_entries graph op o st.node (last_of p) (entry_row c (dir_error (parent_of p) (graph.shape st.node)) (is_full (graph.shape st.node)) (entry_shape graph st.node (last_of p))) op.reserved refl a b x f
+    there st (AtEntry c p) on w n f = in_entries graph op o st.node (last_of p) (entry_row c (dir_error (parent_of p) (graph.shape st.node)) (graph.shape st.node) (entry_shape graph st.node (last_of p))) op.reserved refl a b x f
     there st (AtPair pair p q) on w n f = by (standing graph is pair p q st o w n)
       where
         made : (pair_effect graph pair p q st op.reserved (common (parent_of p) (parent_of q))).graph.child a x ≡ Some b

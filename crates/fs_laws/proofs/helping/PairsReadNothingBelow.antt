@@ -5,9 +5,8 @@ use Rattle.fs_names.specs.Names.{Name, has_name}
 use Rattle.fs_names.specs.Parts.{HasNames, common, left, left_by}
 use Rattle.fs_names.specs.Shapes.{Shape, Dir, names_of}
 use Rattle.fs_laws.specs.Changes.{Change, resolve_dir, move_change, rename_writes}
-use Rattle.fs_calls.specs.Forms.{Form, AtNode, AtEntry, AtPair, Fits, under}
-use Rattle.fs_calls.specs.declared.target.PairCall.{PairCall}
-use Rattle.fs_calls.specs.declared.target.PairCall.TheVariants as pairs
+use Rattle.fs_calls.specs.Forms.{Form, AtNode, AtEntry, AtPair, Fits, under, PairCall}
+use Rattle.fs_calls.specs.Forms as pairs
 use Rattle.fs_laws.specs.Maps.{Map, below}
 use Rattle.fs_calls.specs.Rows.{as_dir}
 use Rattle.fs_calls.specs.declared.errno.Errno.{Errno}
@@ -121,19 +120,19 @@ dir_none : (a b : Key) (t : Option Shape) → b ≡ a → (names : List Name) ×
 dir_none a b t z n = ap₂ dir_error (ap (left a) (z ∙ sym (append-nil a)) ∙ ap left_by (prefix_append a [])) n.1
 
 -- what a rename that really moves changes
-rename_clear : (graph : Graph) → IsGraph graph → (k : Key) (p q : Key) (st : Holdings) (o : Moved) (kd : Key) (other : Holdings) (s : Shape) → Located (numbers graph) k st → graph.shape st.node ≡ Some s → Fits (AtPair pairs.Rename p q) → VictimAt graph (AtPair pairs.Rename p q) st
-    → ForkAt graph st.node p q st → fork_move graph pairs.Rename p q st ≡ Finishes o → (rename_at graph p q st).1 ≡ true → ParentsOff graph k p q kd → Front graph k st kd other
-    → ChangesNothingBelow (change_under k (pair_change (below k (graph_shapes graph)) pairs.Rename p q true)) kd
-rename_clear graph is k p q st o kd other s loc u fits victim at_c fork j offs f = (writes (is_end (after_prefix (parent_of p) (parent_of q))), (asides, lies_at (after_prefix (k ++ p) kd) refl))
+rename_clear : (graph : Graph) → IsGraph graph → (k : Key) (most : ℕ) (p q : Key) (st : Holdings) (o : Moved) (kd : Key) (other : Holdings) (s : Shape) → Located (numbers graph) k st → graph.shape st.node ≡ Some s → Fits (AtPair (pairs.Rename most) p q) → VictimAt graph (AtPair (pairs.Rename most) p q) st
+    → ForkAt graph st.node p q st → fork_move graph (pairs.Rename most) p q st ≡ Finishes o → (rename_at graph most p q st).1 ≡ true → ParentsOff graph k p q kd → Front graph k st kd other
+    → ChangesNothingBelow (change_under k (pair_change (below k (graph_shapes graph)) (pairs.Rename most) p q true)) kd
+rename_clear graph is k most p q st o kd other s loc u fits victim at_c fork j offs f = (writes (is_end (after_prefix (parent_of p) (parent_of q))), (asides, lies_at (after_prefix (k ++ p) kd) refl))
   where
     mp : HasNames p
-    mp = from_more pairs.Rename p q fits
+    mp = from_more (pairs.Rename most) p q fits
 
     mq : HasNames q
-    mq = to_more pairs.Rename p q fits
+    mq = to_more (pairs.Rename most) p q fits
 
     real : Real graph p q st
-    real = real_of graph is p q st o fits at_c.fork victim fork j
+    real = real_of graph is most p q st o fits at_c.fork victim fork j
 
     off1 : after_prefix kd (k ++ parent_of q) ≡ None
     off1 = offs.second (source_below graph is k s p q st loc u at_c ∙ dir_none st.source.walked (parent_of p) (graph.shape st.source.node) (real.path Source) real.source_dir)
@@ -146,7 +145,7 @@ rename_clear graph is k p q st o kd other s loc u fits victim at_c fork j offs f
     asides = (prefix_both k p q ∙ real.aside.0, prefix_both k q p ∙ real.aside.1)
 
     t_at : numbers graph (k ++ q) ≡ graph.child st.dest.node (last_of q)
-    t_at = ap (numbers graph) (sym (entry_key Dest k pairs.Rename p q st fits (real.path Dest))) ∙ at_child graph.child 0 st.dest.node (k ++ st.dest.walked) (last_of q) (loc.head Dest)
+    t_at = ap (numbers graph) (sym (entry_key Dest k (pairs.Rename most) p q st fits (real.path Dest))) ∙ at_child graph.child 0 st.dest.node (k ++ st.dest.walked) (last_of q) (loc.head Dest)
 
     t_off : after_prefix (k ++ q) kd ≡ None
     t_off = by real.replaces
@@ -183,13 +182,13 @@ exchange_clear graph is k p q st kd s loc u fits at_c j offs = (tt, (asides, lie
     lies_at (Below_neither e g) = inr (inr (entry_aside kd k p (from_more pairs.Exchange p q fits) offs.first e, entry_aside kd k q (to_more pairs.Exchange p q fits) off1 g))
 
 -- a victim that a rename looks into is held, and so the other call does not stand there
-rename_into : (graph : Graph) → IsGraph graph → (k : Key) (p q : Key) (st : Holdings) (o : Moved) (kd : Key) (other : Holdings) (s : Shape) → Located (numbers graph) k st → graph.shape st.node ≡ Some s → Fits (AtPair pairs.Rename p q) → VictimAt graph (AtPair pairs.Rename p q) st
-    → Standing graph pairs.Rename p q st o → ParentsOff graph k p q kd → Front graph k st kd other → resolve_dir (below k (graph_shapes graph)) (parent_of p) ≡ None → looks_into (graph_shapes graph) (k ++ p) (k ++ q) ≡ true → after_prefix kd (k ++ q) ≡ None
-rename_into graph is k p q st o kd other s loc u fits victim (Stuck x l i stop) offs f r look = let z : ◌≡◌ {A = Option Errno} (Some (walk_errno (graph.shape st.node))) None = sym (stuck_below graph is k s p q st x l loc u i stop) ∙ r in cc
-rename_into graph is k p q st o kd other s loc u fits victim (At_fork i at_c fork) offs f r look = by (left st.dest.walked (parent_of q)) refl
+rename_into : (graph : Graph) → IsGraph graph → (k : Key) (most : ℕ) (p q : Key) (st : Holdings) (o : Moved) (kd : Key) (other : Holdings) (s : Shape) → Located (numbers graph) k st → graph.shape st.node ≡ Some s → Fits (AtPair (pairs.Rename most) p q) → VictimAt graph (AtPair (pairs.Rename most) p q) st
+    → Standing graph (pairs.Rename most) p q st o → ParentsOff graph k p q kd → Front graph k st kd other → resolve_dir (below k (graph_shapes graph)) (parent_of p) ≡ None → looks_into (graph_shapes graph) (k ++ p) (k ++ q) ≡ true → after_prefix kd (k ++ q) ≡ None
+rename_into graph is k most p q st o kd other s loc u fits victim (Stuck x l i stop) offs f r look = let z : ◌≡◌ {A = Option Errno} (Some (walk_errno (graph.shape st.node))) None = sym (stuck_below graph is k s p q st x l loc u i stop) ∙ r in cc
+rename_into graph is k most p q st o kd other s loc u fits victim (At_fork i at_c fork) offs f r look = by (left st.dest.walked (parent_of q)) refl
   where
     mq : HasNames q
-    mq = to_more pairs.Rename p q fits
+    mq = to_more (pairs.Rename most) p q fits
 
     es : dir_error (left st.source.walked (parent_of p)) (graph.shape st.source.node) ≡ None
     es = sym (source_below graph is k s p q st loc u at_c) ∙ r
@@ -198,7 +197,7 @@ rename_into graph is k p q st o kd other s loc u fits victim (At_fork i at_c for
     want = ap₂ (λ (a b : Option Key). same_kind (graph_shapes graph (k ++ p)) (graph_shapes graph (k ++ q)) && not (is_end a) && not (has_more b)) (sym (prefix_both k p q)) (sym (prefix_both k q p)) ∙ look
 
     entry : (side : Side) → parent_of (of_side side p q) ≡ (head_on side st).walked → numbers graph (k ++ of_side side p q) ≡ graph.child (head_on side st).node (last_of (of_side side p q))
-    entry side d = ap (numbers graph) (sym (entry_key side k pairs.Rename p q st fits d)) ∙ at_child graph.child 0 (head_on side st).node (k ++ (head_on side st).walked) (last_of (of_side side p q)) (loc.head side)
+    entry side d = ap (numbers graph) (sym (entry_key side k (pairs.Rename most) p q st fits d)) ∙ at_child graph.child 0 (head_on side st).node (k ++ (head_on side st).walked) (last_of (of_side side p q)) (loc.head side)
 
     by : (l : Key) → left st.dest.walked (parent_of q) ≡ l → after_prefix kd (k ++ q) ≡ None
     by (z ∷ l) j =
@@ -217,7 +216,7 @@ rename_into graph is k p q st o kd other s loc u fits victim (At_fork i at_c for
             let ed : dir_error (left st.dest.walked (parent_of q)) (graph.shape st.dest.node) ≡ None = ap₂ dir_error j dd.1 in
             let kinds : same_kind (entry_shape graph st.source.node (last_of p)) (entry_shape graph st.dest.node (last_of q)) ≡ same_kind (graph_shapes graph (k ++ p)) (graph_shapes graph (k ++ q)) =
             ap₂ (λ (a b : Option ℕ). same_kind (then_at a graph.shape) (then_at b graph.shape)) (sym (entry Source (path_walked Source graph st.node p q st at_c.fork es))) (sym (entry Dest d_is)) in
-            let v : st.victim ≡ Some other.node = victim_held graph p q st o other.node victim (at_entries graph is pairs.Rename p q st o at_c.fork es ed fork) child
+            let v : st.victim ≡ Some other.node = victim_held graph most p q st o other.node victim (at_entries graph is (pairs.Rename most) p q st o at_c.fork es ed fork) child
             (ap (λ (b : Bool). b && not (is_end (after_prefix p q)) && not (has_more (after_prefix q p))) kinds ∙ want) in
             absurd (f.apart other.node (inl refl) (inr (inr (inr (inr v)))))
 
@@ -248,14 +247,14 @@ pair_off graph is k c p q st o kd other s loc u fits well victim e f = record {
     second c fits r = ap (after_prefix kd) (dir_under k q (to_more c p q fits)) ∙ offs.second (resolved c fits r)
 
     blind : (c : PairCall) → Standing graph c p q st o → VictimAt graph (AtPair c p q) st → Fits (AtPair c p q) → ReadsNothingBelow (graph_shapes graph) (under k (AtPair c p q)) kd
-    blind pairs.Rename stands victim fits = (first pairs.Rename fits, λ r. (second pairs.Rename fits r, rename_into graph is k p q st o kd other s loc u fits victim stands offs f (resolved pairs.Rename fits r)))
+    blind (pairs.Rename most) stands victim fits = (first (pairs.Rename most) fits, λ r. (second (pairs.Rename most) fits r, rename_into graph is k most p q st o kd other s loc u fits victim stands offs f (resolved (pairs.Rename most) fits r)))
     blind pairs.Exchange stands victim fits = (first pairs.Exchange fits, second pairs.Exchange fits)
 
     still : (b : Bool) → b ≡ false → ChangesNothingBelow (change_under k (pair_change (below k (graph_shapes graph)) c p q b)) kd
     still b i = subst (λ (ch : Change). ChangesNothingBelow (change_under k ch) kd) (sym (ap (pair_change (below k (graph_shapes graph)) c p q) i ∙ change_still (below k (graph_shapes graph)) c p q)) (tt, tt)
 
     moves : (c : PairCall) → Fits (AtPair c p q) → VictimAt graph (AtPair c p q) st → ForkAt graph st.node p q st → fork_move graph c p q st ≡ Finishes o → (pair_at graph c p q st).1 ≡ true → ChangesNothingBelow (change_under k (pair_change (below k (graph_shapes graph)) c p q true)) kd
-    moves pairs.Rename fits victim at_c fork j = rename_clear graph is k p q st o kd other s loc u fits victim at_c fork j offs f
+    moves (pairs.Rename most) fits victim at_c fork j = rename_clear graph is k most p q st o kd other s loc u fits victim at_c fork j offs f
     moves pairs.Exchange fits victim at_c fork j = exchange_clear graph is k p q st kd s loc u fits at_c j offs
 
     at_parents : ForkAt graph st.node p q st → fork_move graph c p q st ≡ Finishes o → (b : Bool) → (pair_at graph c p q st).1 ≡ b → ChangesNothingBelow (change_under k (pair_change (below k (graph_shapes graph)) c p q (pair_at graph c p q st).1)) kd

@@ -3,11 +3,9 @@ use Rattle.std.proofs.Common.{◌≡◌, ℕ, Bool, true, false, List, [], ◌�
 use Rattle.fs_names.specs.Keys.{Key, after_prefix, parent_of, last_of}
 use Rattle.fs_names.specs.Names.{Name, has_name}
 use Rattle.fs_names.specs.Parts.{HasNames}
-use Rattle.fs_names.specs.Shapes.{Shape, Dir, File, is_full, names_of}
+use Rattle.fs_names.specs.Shapes.{Shape, Dir, File, names_of}
 use Rattle.fs_laws.specs.Changes.{resolve, resolve_dir, looked, edit_change, content_change}
-use Rattle.fs_calls.specs.Forms.{NodeCall, Form, AtNode, AtEntry, under, Fits}
-use Rattle.fs_calls.specs.declared.target.EntryCall.{EntryCall}
-use Rattle.fs_calls.specs.declared.target.EntryCall.TheVariants.{Mkdir, Mknod, Unlink, Rmdir}
+use Rattle.fs_calls.specs.Forms.{NodeCall, Form, AtNode, AtEntry, under, Fits, EntryCall, Mkdir, Mknod, Unlink, Rmdir}
 use Rattle.fs_calls.specs.Rows.{node_row, Edit, Keep, Add, Remove, entry_row}
 use Rattle.fs_calls.specs.declared.errno.Errno.{Errno}
 use Rattle.fs_graph.specs.Graphs.{Graph, at, then_at, numbers, graph_shapes, entry_shape, IsGraph}
@@ -59,14 +57,14 @@ on_clear k kd p None off = (tt, tt)
 on_clear k kd p (Some bytes) off = ((off, tt), tt)
 
 -- a call on an entry that is there and is no victim leaves it
-edit_keeps : (c : EntryCall) (e : Option Errno) (full : Bool) (s : Shape) → victim_of c (Some s) ≡ false → (entry_row c e full (Some s)).1 ≡ Keep
-edit_keeps c (Some e) full s v = refl
-edit_keeps Mkdir None full s v = refl
-edit_keeps Mknod None full s v = refl
-edit_keeps Unlink None full (Dir names) v = refl
-edit_keeps Unlink None full (File bytes) v = cc
-edit_keeps Rmdir None full (Dir names) v = cc
-edit_keeps Rmdir None full (File bytes) v = refl
+edit_keeps : (c : EntryCall) (e : Option Errno) (parent : Option Shape) (s : Shape) → victim_of c (Some s) ≡ false → (entry_row c e parent (Some s)).1 ≡ Keep
+edit_keeps c (Some e) parent s v = refl
+edit_keeps (Mkdir most) None parent s v = refl
+edit_keeps (Mknod most) None parent s v = refl
+edit_keeps Unlink None parent (Dir names) v = refl
+edit_keeps Unlink None parent (File bytes) v = cc
+edit_keeps Rmdir None parent (Dir names) v = cc
+edit_keeps Rmdir None parent (File bytes) v = refl
 
 edit_clear : (k kd d : Key) (names : List Name) (x : Name) (p : Key) (e : Edit) → after_prefix kd (k ++ d) ≡ None → after_prefix kd (k ++ p) ≡ None → ChangesNothingBelow (change_under k (edit_change d names x p e)) kd
 edit_clear k kd d names x p Keep off on = (tt, tt)
@@ -136,7 +134,7 @@ in_off graph is k c p st o kd other s at_k fits victim e f in_use = record { bli
     key = append_assoc k (parent_of p) (last_of p ∷ []) ∙ ap (λ (l : Key). k ++ l) (sym (key_is p more))
 
     row : Edit
-    row = (entry_row c (resolve_dir (λ r. graph_shapes graph (k ++ r)) (parent_of p)) (is_full (graph_shapes graph (k ++ parent_of p))) (graph_shapes graph (k ++ p))).1
+    row = (entry_row c (resolve_dir (λ r. graph_shapes graph (k ++ r)) (parent_of p)) (graph_shapes graph (k ++ parent_of p)) (graph_shapes graph (k ++ p))).1
 
     itself : kd ≡ k ++ p → after_prefix kd (k ++ p) ≡ None → ⊥
     itself h z = let w : after_prefix kd kd ≡ Some [] = ap (after_prefix kd) (sym (append-nil kd)) ∙ prefix_append kd [] in let y : ◌≡◌ {A = Option Key} (Some []) None = sym w ∙ ap (after_prefix kd) h ∙ z in cc
@@ -146,8 +144,8 @@ in_off graph is k c p st o kd other s at_k fits victim e f in_use = record { bli
     by false h v =
         let there : graph_shapes graph (k ++ p) ≡ Some s = ap (graph_shapes graph) (sym h) ∙ ap (λ (n : Option ℕ). then_at n graph.shape) f.there ∙ in_use in
         kept_clear k kd (parent_of p) (names_of (graph_shapes graph (k ++ parent_of p))) (last_of p) p row
-        (ap (λ (t : Option Shape). (entry_row c (resolve_dir (λ r. graph_shapes graph (k ++ r)) (parent_of p)) (is_full (graph_shapes graph (k ++ parent_of p))) t).1) there
-        ∙ edit_keeps c (resolve_dir (λ r. graph_shapes graph (k ++ r)) (parent_of p)) (is_full (graph_shapes graph (k ++ parent_of p))) s (ap (victim_of c) (sym there) ∙ v))
+        (ap (λ (t : Option Shape). (entry_row c (resolve_dir (λ r. graph_shapes graph (k ++ r)) (parent_of p)) (graph_shapes graph (k ++ parent_of p)) t).1) there
+        ∙ edit_keeps c (resolve_dir (λ r. graph_shapes graph (k ++ r)) (parent_of p)) (graph_shapes graph (k ++ parent_of p)) s (ap (victim_of c) (sym there) ∙ v))
 
     go : (after_prefix kd ((k ++ parent_of p) ++ last_of p ∷ []) ≡ None) ⊎ (kd ≡ (k ++ parent_of p) ++ last_of p ∷ []) → ChangesNothingBelow (change_under k (edit_change (parent_of p) (names_of (graph_shapes graph (k ++ parent_of p))) (last_of p) p row)) kd
     go (inl h) = edit_clear k kd (parent_of p) (names_of (graph_shapes graph (k ++ parent_of p))) (last_of p) p row both.0 (ap (after_prefix kd) (sym key) ∙ h)

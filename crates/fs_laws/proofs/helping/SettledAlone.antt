@@ -2,10 +2,10 @@
 use Rattle.std.proofs.Common.{◌≡◌, ℕ, ◌+◌, ◌<◌, Bool, true, false, List, [], ◌∷◌, ◌++◌, Option, Some, None, refl, sym, ap, ap₂, ◌∙◌, append_assoc, subst, inl, inr, arith}
 use Rattle.fs_names.specs.Keys.{Key, after_prefix, parent_of, last_of}
 use Rattle.fs_names.specs.Names.{Name, inserted_name, removed_name}
-use Rattle.fs_names.specs.Shapes.{Shape, Dir, is_full, names_of, File}
+use Rattle.fs_names.specs.Shapes.{Shape, Dir, names_of, File}
 use Rattle.fs_laws.specs.Changes.{reply, after}
 use Rattle.fs_calls.specs.Forms.{Form, AtNode, AtEntry, AtPair, under, Fits}
-use Rattle.fs_calls.specs.declared.target.PairCall.TheVariants as pairs
+use Rattle.fs_calls.specs.Forms as pairs
 use Rattle.fs_laws.specs.Maps.{Map}
 use Rattle.fs_calls.specs.Rows.{node_row, Edit, Keep, Add, Remove, entry_row}
 use Rattle.fs_calls.specs.declared.reply.Reply.{Reply}
@@ -76,11 +76,11 @@ swapped_untouched graph st a x y reserved r true (Some s) (Some t) h g = record 
 
 made_untouched : (graph : Graph) (remaining : Form) (st : Holdings) (reserved : Option ℕ) (a : ℕ) → (a ≡ st.node → ⊥) → (a ≡ st.source.node → ⊥) → (a ≡ st.dest.node → ⊥) → Untouched graph (effect_at graph remaining st reserved).graph a
 made_untouched graph (AtNode c p) st reserved a h g i = on_untouched graph st.node a reserved (node_row c (path_error p (graph.shape st.node)) (graph.shape st.node)) h
-made_untouched graph (AtEntry c p) st reserved a h g i = in_untouched graph st.node a (last_of p) reserved (entry_row c (dir_error (parent_of p) (graph.shape st.node)) (is_full (graph.shape st.node)) (entry_shape graph st.node (last_of p))) h
-made_untouched graph (AtPair pairs.Rename p q) st reserved a h g i = go (target (AtPair pairs.Rename p q))
+made_untouched graph (AtEntry c p) st reserved a h g i = in_untouched graph st.node a (last_of p) reserved (entry_row c (dir_error (parent_of p) (graph.shape st.node)) (graph.shape st.node) (entry_shape graph st.node (last_of p))) h
+made_untouched graph (AtPair (pairs.Rename most) p q) st reserved a h g i = go (target (AtPair (pairs.Rename most) p q))
   where
-    go : (l : Key) → Untouched graph (rename_effect graph p q st reserved l).graph a
-    go [] = moved_untouched graph st a (last_of p) (last_of q) reserved (rename_at graph p q st).0 (rename_at graph p q st).1 (graph.child st.source.node (last_of p)) g i
+    go : (l : Key) → Untouched graph (rename_effect graph most p q st reserved l).graph a
+    go [] = moved_untouched graph st a (last_of p) (last_of q) reserved (rename_at graph most p q st).0 (rename_at graph most p q st).1 (graph.child st.source.node (last_of p)) g i
     go (x ∷ l) = untouched graph a
 made_untouched graph (AtPair pairs.Exchange p q) st reserved a h g i = go (target (AtPair pairs.Exchange p q))
   where

@@ -4,7 +4,6 @@ use Rattle.fs_laws.specs.Changes.{reply}
 use Rattle.fs_calls.specs.Forms.{form}
 use Rattle.fs_calls.specs.declared.call.Call.{Call}
 use Rattle.fs_calls.specs.declared.reply.Reply.{Reply}
-use Rattle.fs_names.specs.Limits.{file_limit}
 use Rattle.fs_graph.specs.Graphs.{set_at}
 use Rattle.fs_timeline.specs.declared.entry.Entry.{Entry}
 use Rattle.fs_timeline.specs.declared.entry.Entry.TheVariants.{Begin, Commit, Return}
@@ -56,7 +55,7 @@ unknown_step view (Begin n seat call) u next c e = u c (go (place n (Some call) 
     go : Place (Option Call) n (Some call) view.call c → view.call c ≡ None
     go (Here i j) = let z : ◌≡◌ {A = Option Call} (Some call) None = sym j ∙ e in cc
     go (Else m j) = sym j ∙ e
-unknown_step view (Commit n) u ((call, known), new) c e = go (place n (Some (reply view.tree (form (file_limit view.limits) call))) view.due c)
+unknown_step view (Commit n) u ((call, known), new) c e = go (place n (Some (reply view.tree (form view.limits call))) view.due c)
   where
     is : commit_of view n (view.call n) ≡ commit_of view n (Some call)
     is = ap (commit_of view n) known
@@ -64,7 +63,7 @@ unknown_step view (Commit n) u ((call, known), new) c e = go (place n (Some (rep
     old : view.call c ≡ None
     old = sym (ap (λ (b : JournalView). b.call c) is) ∙ e
 
-    go : Place (Option Reply) n (Some (reply view.tree (form (file_limit view.limits) call))) view.due c → ((commit_of view n (view.call n)).due c ≡ None) × ((commit_of view n (view.call n)).back c ≡ false)
+    go : Place (Option Reply) n (Some (reply view.tree (form view.limits call))) view.due c → ((commit_of view n (view.call n)).due c ≡ None) × ((commit_of view n (view.call n)).back c ≡ false)
     go (Here i j) = let z : ◌≡◌ {A = Option Call} (Some call) None = sym known ∙ ap view.call (sym i) ∙ old in cc
     go (Else m j) = (ap (λ (b : JournalView). b.due c) is ∙ j ∙ (u c old).0, ap (λ (b : JournalView). b.back c) is ∙ (u c old).1)
 unknown_step view (Return n r) u (due, back) c e = go (place n true view.back c)

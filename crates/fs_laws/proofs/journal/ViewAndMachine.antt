@@ -7,7 +7,6 @@ use Rattle.fs_calls.specs.Forms.{form, Form, under}
 use Rattle.fs_laws.specs.Maps.{Map}
 use Rattle.fs_calls.specs.declared.reply.Reply.{Reply}
 use Rattle.fs_calls.specs.declared.call.Call.{Call}
-use Rattle.fs_names.specs.Limits.{file_limit}
 use Rattle.fs_names.specs.declared.limits.Limits.{Limits}
 use Rattle.fs_calls.specs.Starts.{Start}
 use Rattle.fs_timeline.specs.declared.entry.Entry.{Entry}
@@ -39,7 +38,7 @@ spots_same ops key c op p is (d ∷ cs) = ap₂ (λ (r : Form) (ps : List (Key �
 abbrev pub committed : JournalView → ℕ → Form → JournalView
 committed view c call = record view { tree = after view.tree call; due = set_at c (Some (reply view.tree call)) view.due }
 
-noted_commit : (view : JournalView) (c : ℕ) (call : Call) → view.call c ≡ Some call → noted view (Commit c) ≡ committed view c (form (file_limit view.limits) call)
+noted_commit : (view : JournalView) (c : ℕ) (call : Call) → view.call c ≡ Some call → noted view (Commit c) ≡ committed view c (form view.limits call)
 noted_commit view c call e = ap (commit_of view c) e
 
 -- no entry changes the limits
@@ -54,10 +53,10 @@ view_limits view (Commit c ∷ es) = view_limits (noted view (Commit c)) es ∙ 
 view_limits view (Return c r ∷ es) = view_limits (noted view (Return c r)) es
 
 -- so it is a commit by those of the start
-pub noted_played : (first : Start) (es : List Entry) (c : ℕ) (call : Call) → (view_after (start first) es).call c ≡ Some call → noted (view_after (start first) es) (Commit c) ≡ committed (view_after (start first) es) c (form (file_limit first.limits) call)
+pub noted_played : (first : Start) (es : List Entry) (c : ℕ) (call : Call) → (view_after (start first) es).call c ≡ Some call → noted (view_after (start first) es) (Commit c) ≡ committed (view_after (start first) es) c (form first.limits call)
 noted_played first es c call e =
     noted_commit (view_after (start first) es) c call e
-    ∙ ap (λ (l : Limits). committed (view_after (start first) es) c (form (file_limit l) call)) (view_limits (start first) es)
+    ∙ ap (λ (l : Limits). committed (view_after (start first) es) c (form l call)) (view_limits (start first) es)
 
 due_here : (view : JournalView) (c : ℕ) (call : Form) → (committed view c call).due c ≡ Some (reply view.tree call)
 due_here view c call = go (place c (Some (reply view.tree call)) view.due c)
@@ -91,29 +90,29 @@ dues_push view tree ops key [] c r d e = (e, tt)
 dues_push view tree ops key (x ∷ cs) c r d e = (d.0, dues_push view (after tree (under (key x) (remaining_of (ops x)))) ops key cs c r d.1 e)
 
 -- what the new phase leaves of the records
-others : (most : ℕ) (ops : Records) (c : ℕ) (op : Record) (p : Mark) (tree : Map Shape) (view : JournalView) → ops c ≡ Some op → op.phase ≡ Walking
+others : (limits : Limits) (ops : Records) (c : ℕ) (op : Record) (p : Mark) (tree : Map Shape) (view : JournalView) → ops c ≡ Some op → op.phase ≡ Walking
     → ((d : ℕ) (q : Record) (r : Reply) → ops d ≡ Some q → q.phase ≡ Finished r → view.due d ≡ Some r)
-    → ((r : Reply) → p.0 ≡ Finished r → reply view.tree (form most op.call) ≡ r)
-    → (d : ℕ) (q : Record) (r : Reply) → set_at c (Some (phased op p)) ops d ≡ Some q → q.phase ≡ Finished r → (committed view c (form most op.call)).due d ≡ Some r
-others most ops c op p tree view is w old mine d q r e f = go (place c (Some (phased op p)) ops d)
+    → ((r : Reply) → p.0 ≡ Finished r → reply view.tree (form limits op.call) ≡ r)
+    → (d : ℕ) (q : Record) (r : Reply) → set_at c (Some (phased op p)) ops d ≡ Some q → q.phase ≡ Finished r → (committed view c (form limits op.call)).due d ≡ Some r
+others limits ops c op p tree view is w old mine d q r e f = go (place c (Some (phased op p)) ops d)
   where
-    go : Place (Option Record) c (Some (phased op p)) ops d → (committed view c (form most op.call)).due d ≡ Some r
+    go : Place (Option Record) c (Some (phased op p)) ops d → (committed view c (form limits op.call)).due d ≡ Some r
     go (Here i j) =
         let a : ◌≡◌ {A = Option Record} (Some (phased op p)) (Some q) = sym j ∙ e in
         let b : phased op p ≡ q = cc in
         let g : p.0 ≡ Finished r = ap (λ (o : Record). o.phase) b ∙ f in
-        ap (λ (n : ℕ). (committed view c (form most op.call)).due n) i ∙ due_here view c (form most op.call) ∙ ap (λ (x : Reply). Some x) (mine r g)
-    go (Else n j) = due_else view c d (form most op.call) n ∙ old d q r (sym j ∙ e) f
+        ap (λ (n : ℕ). (committed view c (form limits op.call)).due n) i ∙ due_here view c (form limits op.call) ∙ ap (λ (x : Reply). Some x) (mine r g)
+    go (Else n j) = due_else view c d (form limits op.call) n ∙ old d q r (sym j ∙ e) f
 
-others_fresh : (most : ℕ) (ops : Records) (c : ℕ) (op : Record) (p : Mark) (view : JournalView) → (p.0 ≡ Walking → ⊥) → ((d : ℕ) (q : Record) → ops d ≡ Some q → q.phase ≡ Walking → view.due d ≡ None) → (d : ℕ) (q : Record) → set_at c (Some (phased op p)) ops d ≡ Some q → q.phase ≡ Walking → (committed view c (form most op.call)).due d ≡ None
-others_fresh most ops c op p view np old d q e f = go (place c (Some (phased op p)) ops d)
+others_fresh : (limits : Limits) (ops : Records) (c : ℕ) (op : Record) (p : Mark) (view : JournalView) → (p.0 ≡ Walking → ⊥) → ((d : ℕ) (q : Record) → ops d ≡ Some q → q.phase ≡ Walking → view.due d ≡ None) → (d : ℕ) (q : Record) → set_at c (Some (phased op p)) ops d ≡ Some q → q.phase ≡ Walking → (committed view c (form limits op.call)).due d ≡ None
+others_fresh limits ops c op p view np old d q e f = go (place c (Some (phased op p)) ops d)
   where
-    go : Place (Option Record) c (Some (phased op p)) ops d → (committed view c (form most op.call)).due d ≡ None
+    go : Place (Option Record) c (Some (phased op p)) ops d → (committed view c (form limits op.call)).due d ≡ None
     go (Here i j) =
         let a : ◌≡◌ {A = Option Record} (Some (phased op p)) (Some q) = sym j ∙ e in
         let b : phased op p ≡ q = cc in
         absurd (np (ap (λ (o : Record). o.phase) b ∙ f))
-    go (Else n j) = due_else view c d (form most op.call) n ∙ old d q (sym j ∙ e) f
+    go (Else n j) = due_else view c d (form limits op.call) n ∙ old d q (sym j ∙ e) f
 
 others_calls : (ops : Records) (c : ℕ) (op : Record) (p : Mark) (view : JournalView) → ops c ≡ Some op → ((d : ℕ) (q : Record) → ops d ≡ Some q → view.call d ≡ Some q.call) → (d : ℕ) (q : Record) → set_at c (Some (phased op p)) ops d ≡ Some q → view.call d ≡ Some q.call
 others_calls ops c op p view is old d q e = go (place c (Some (phased op p)) ops d)
@@ -126,39 +125,39 @@ others_calls ops c op p view is old d q e = go (place c (Some (phased op p)) ops
     go (Else n j) = old d q (sym j ∙ e)
 
 -- a commit of a walking call: the entry may come next, and all stays tied. What is asked of the trees is what move_commits (and the same for a write, and for no change) gives
-pub tied_commit : (most : ℕ) (res rem : Option ℕ) (tree new : Map Shape) (ops : Records) (key key_new : ℕ → Key) (order : List ℕ) (view : JournalView) (c : ℕ) (op : Record)
+pub tied_commit : (limits : Limits) (res rem : Option ℕ) (tree new : Map Shape) (ops : Records) (key key_new : ℕ → Key) (order : List ℕ) (view : JournalView) (c : ℕ) (op : Record)
     → Tied tree ops key order view → ops c ≡ Some op → op.phase ≡ Walking → InOrder ops order
-    → settle new (spots ops key_new order) ≡ after (settle tree (spots ops key order)) (form most op.call)
-    → outcome (settle tree (spots ops key order)) (form most op.call) ≡ outcome tree (form most op.call)
+    → settle new (spots ops key_new order) ≡ after (settle tree (spots ops key order)) (form limits op.call)
+    → outcome (settle tree (spots ops key order)) (form limits op.call) ≡ outcome tree (form limits op.call)
     → settle_replies new (spots ops key_new order) ≡ settle_replies tree (spots ops key order)
-    → IsNext view (Commit c) × Tied new (set_at c (Some (phased op (Finished (reply tree (form most op.call)), res, rem))) ops) key_new order (committed view c (form most op.call))
-tied_commit most res rem tree new ops key key_new order view c op t is w in_order tree_is same_outcome same_replies =
-    let rep : reply view.tree (form most op.call) ≡ reply tree (form most op.call) = ap (λ (u : Map Shape). reply u (form most op.call)) (sym t.played) ∙ ap (λ (o : Reply × Change). o.0) same_outcome in
-    let s : spots (set_at c (Some (phased op (Finished (reply tree (form most op.call)), res, rem))) ops) key_new order ≡ spots ops key_new order = spots_same ops key_new c op (Finished (reply tree (form most op.call)), res, rem) is order in (
+    → IsNext view (Commit c) × Tied new (set_at c (Some (phased op (Finished (reply tree (form limits op.call)), res, rem))) ops) key_new order (committed view c (form limits op.call))
+tied_commit limits res rem tree new ops key key_new order view c op t is w in_order tree_is same_outcome same_replies =
+    let rep : reply view.tree (form limits op.call) ≡ reply tree (form limits op.call) = ap (λ (u : Map Shape). reply u (form limits op.call)) (sym t.played) ∙ ap (λ (o : Reply × Change). o.0) same_outcome in
+    let s : spots (set_at c (Some (phased op (Finished (reply tree (form limits op.call)), res, rem))) ops) key_new order ≡ spots ops key_new order = spots_same ops key_new c op (Finished (reply tree (form limits op.call)), res, rem) is order in (
       ((op.call, t.calls c op is), t.fresh c op is w),
       record {
-        played = ap (settle new) s ∙ tree_is ∙ ap (λ (u : Map Shape). after u (form most op.call)) t.played;
-        dues = subst (Dues (committed view c (form most op.call)) order) (sym (ap (settle_replies new) s ∙ same_replies)) (dues_kept view ops c op (form most op.call) is w order (settle_replies tree (spots ops key order)) in_order t.dues);
-        fixed = others most ops c op (Finished (reply tree (form most op.call)), res, rem) tree view is w t.fixed (λ r e. rep ∙ (let z : reply tree (form most op.call) ≡ r = cc in z));
-        fresh = others_fresh most ops c op (Finished (reply tree (form most op.call)), res, rem) view (λ e. cc) t.fresh;
-        calls = others_calls ops c op (Finished (reply tree (form most op.call)), res, rem) view is t.calls;
+        played = ap (settle new) s ∙ tree_is ∙ ap (λ (u : Map Shape). after u (form limits op.call)) t.played;
+        dues = subst (Dues (committed view c (form limits op.call)) order) (sym (ap (settle_replies new) s ∙ same_replies)) (dues_kept view ops c op (form limits op.call) is w order (settle_replies tree (spots ops key order)) in_order t.dues);
+        fixed = others limits ops c op (Finished (reply tree (form limits op.call)), res, rem) tree view is w t.fixed (λ r e. rep ∙ (let z : reply tree (form limits op.call) ≡ r = cc in z));
+        fresh = others_fresh limits ops c op (Finished (reply tree (form limits op.call)), res, rem) view (λ e. cc) t.fresh;
+        calls = others_calls ops c op (Finished (reply tree (form limits op.call)), res, rem) view is t.calls;
       },
     )
 
 -- helping: the helped call's entry may come next, it goes to the end, and all stays tied
-pub tied_help : (most : ℕ) (tree : Map Shape) (ops : Records) (key : ℕ → Key) (order : List ℕ) (view : JournalView) (c : ℕ) (op : Record) (place_no : ℕ)
-    → Tied tree ops key order view → ops c ≡ Some op → op.phase ≡ Walking → InOrder ops order → under (key c) op.remaining ≡ form most op.call
-    → IsNext view (Commit c) × Tied tree (set_at c (Some (phased op (Placed place_no, op.reserved, op.removed))) ops) key (order ++ c ∷ []) (committed view c (form most op.call))
-tied_help most tree ops key order view c op place_no t is w in_order stands =
+pub tied_help : (limits : Limits) (tree : Map Shape) (ops : Records) (key : ℕ → Key) (order : List ℕ) (view : JournalView) (c : ℕ) (op : Record) (place_no : ℕ)
+    → Tied tree ops key order view → ops c ≡ Some op → op.phase ≡ Walking → InOrder ops order → under (key c) op.remaining ≡ form limits op.call
+    → IsNext view (Commit c) × Tied tree (set_at c (Some (phased op (Placed place_no, op.reserved, op.removed))) ops) key (order ++ c ∷ []) (committed view c (form limits op.call))
+tied_help limits tree ops key order view c op place_no t is w in_order stands =
     let s : spots (set_at c (Some (phased op (Placed place_no, op.reserved, op.removed))) ops) key (order ++ c ∷ []) ≡ spots ops key order ++ (key c, op.remaining) ∷ [] = spots_same ops key c op (Placed place_no, op.reserved, op.removed) is (order ++ c ∷ []) ∙ spots_push order in (
       ((op.call, t.calls c op is), t.fresh c op is w),
       record {
-        played = ap (settle tree) s ∙ helped tree (spots ops key order) (key c) op.remaining (form most op.call) stands ∙ ap (λ (u : Map Shape). after u (form most op.call)) t.played;
+        played = ap (settle tree) s ∙ helped tree (spots ops key order) (key c) op.remaining (form limits op.call) stands ∙ ap (λ (u : Map Shape). after u (form limits op.call)) t.played;
         dues =
-            subst (Dues (committed view c (form most op.call)) (order ++ c ∷ [])) (sym (ap (settle_replies tree) s ∙ helped_replies tree (spots ops key order) (key c) op.remaining (form most op.call) stands))
-            (dues_push (committed view c (form most op.call)) tree ops key order c (reply (settle tree (spots ops key order)) (form most op.call)) (dues_kept view ops c op (form most op.call) is w order (settle_replies tree (spots ops key order)) in_order t.dues) (due_here view c (form most op.call) ∙ ap (λ (u : Map Shape). Some (reply u (form most op.call))) (sym t.played)));
-        fixed = others most ops c op (Placed place_no, op.reserved, op.removed) tree view is w t.fixed (λ r e. cc);
-        fresh = others_fresh most ops c op (Placed place_no, op.reserved, op.removed) view (λ e. cc) t.fresh;
+            subst (Dues (committed view c (form limits op.call)) (order ++ c ∷ [])) (sym (ap (settle_replies tree) s ∙ helped_replies tree (spots ops key order) (key c) op.remaining (form limits op.call) stands))
+            (dues_push (committed view c (form limits op.call)) tree ops key order c (reply (settle tree (spots ops key order)) (form limits op.call)) (dues_kept view ops c op (form limits op.call) is w order (settle_replies tree (spots ops key order)) in_order t.dues) (due_here view c (form limits op.call) ∙ ap (λ (u : Map Shape). Some (reply u (form limits op.call))) (sym t.played)));
+        fixed = others limits ops c op (Placed place_no, op.reserved, op.removed) tree view is w t.fixed (λ r e. cc);
+        fresh = others_fresh limits ops c op (Placed place_no, op.reserved, op.removed) view (λ e. cc) t.fresh;
         calls = others_calls ops c op (Placed place_no, op.reserved, op.removed) view is t.calls;
       },
     )

@@ -12,7 +12,6 @@ use Rattle.fs_calls.specs.Starts.{Start}
 use Rattle.fs_calls.specs.declared.call.Call.{Call}
 use Rattle.fs_calls.specs.declared.reply.Reply.{Reply}
 use Rattle.fs_calls.proofs.TreeLaws.{stays_a_tree}
-use Rattle.fs_names.specs.Limits.{file_limit}
 use Rattle.fs_names.specs.declared.limits.Limits.{Limits}
 use Rattle.fs_graph.specs.Graphs.{set_at}
 use Rattle.fs_timeline.specs.Timeline as journal
@@ -163,14 +162,14 @@ agrees_step t view k (Begin c seat call) a next = record {
         cc
 agrees_step t view k (Commit c) a ((call, known), new) = subst (λ (o : Option Call). Agrees (commit_of view c (view.call c)) (played k c o)) (sym (sym (a.call c) ∙ known)) (subst (λ (o : Option Call). Agrees (commit_of view c o) (played k c (Some call))) (sym known) made)
   where
-    most : ℕ
-    most = file_limit k.now.limits
+    limits : Limits
+    limits = k.now.limits
 
-    tie : (tree.reply most k.now.tree call ≡ reply (tree_shapes k.now.tree) (form most call)) × (tree_shapes (tree.after most k.now.tree call) ≡ after (tree_shapes k.now.tree) (form most call))
-    tie = t most k.now.tree call a.is_tree
+    tie : (tree.reply limits k.now.tree call ≡ reply (tree_shapes k.now.tree) (form limits call)) × (tree_shapes (tree.after limits k.now.tree call) ≡ after (tree_shapes k.now.tree) (form limits call))
+    tie = t limits k.now.tree call a.is_tree
 
-    same_reply_is : ◌≡◌ {A = Option Reply} (Some (reply view.tree (form (file_limit view.limits) call))) (Some (tree.reply_at k.now call))
-    same_reply_is = ap₂ (λ (u : Map Shape) (l : Limits). Some (reply u (form (file_limit l) call))) a.tree a.limits ∙ ap (λ (r : Reply). Some r) (sym tie.0)
+    same_reply_is : ◌≡◌ {A = Option Reply} (Some (reply view.tree (form view.limits call))) (Some (tree.reply_at k.now call))
+    same_reply_is = ap₂ (λ (u : Map Shape) (l : Limits). Some (reply u (form l call))) a.tree a.limits ∙ ap (λ (r : Reply). Some r) (sym tie.0)
 
     made : Agrees (commit_of view c (Some call)) (played k c (Some call))
     made = record {
@@ -179,8 +178,8 @@ agrees_step t view k (Commit c) a ((call, known), new) = subst (λ (o : Option C
       back = a.back;
       busy = a.busy;
       limits = a.limits;
-      tree = ap₂ (λ (u : Map Shape) (l : Limits). after u (form (file_limit l) call)) a.tree a.limits ∙ sym tie.1;
-      is_tree = stays_a_tree most k.now.tree call a.is_tree;
+      tree = ap₂ (λ (u : Map Shape) (l : Limits). after u (form l call)) a.tree a.limits ∙ sym tie.1;
+      is_tree = stays_a_tree limits k.now.tree call a.is_tree;
       unknown = subst (λ (o : Option Call). Unknown (commit_of view c o)) known (unknown_step view (Commit c) a.unknown ((call, known), new));
       seat = a.seat;
       known = a.known;

@@ -1,15 +1,14 @@
 -- What every state of a run keeps besides: who is a node's holder stands at it, calls under way are on their seats, and numbers and sizes are within their limits.
 use Rattle.std.proofs.Common.{◌≡◌, ℕ, ◌+◌, ◌<◌, Bool, true, false, List, [], ◌∷◌, Option, Some, None, refl, sym, ap, ◌∙◌, subst, arith, Ok, Err}
+use Rattle.fs_names.specs.declared.limits.Limits.{Limits}
 use Rattle.fs_calls.specs.Starts.{Start}
 use Rattle.fs_names.specs.Keys.{Key}
 use Rattle.fs_names.specs.Names.{Name}
 use Rattle.fs_names.specs.Shapes.{Shape, Dir, File}
-use Rattle.fs_calls.specs.Forms.{form, by_text, reserves, Form, AtNode, AtEntry, AtPair, by_paths, reserved_by}
-use Rattle.fs_calls.specs.declared.target.EntryCall.TheVariants.{Mkdir, Mknod, Unlink, Rmdir}
+use Rattle.fs_calls.specs.Forms.{form, by_text, reserves, Form, AtNode, AtEntry, AtPair, by_paths, reserved_by, Mkdir, Mknod, Unlink, Rmdir}
 use Rattle.fs_calls.specs.declared.call.Call.{Call}
 use Rattle.fs_calls.specs.declared.reply.Reply.{Reply}
 use Rattle.fs_calls.proofs.FormLemmas.{by_text_any, reserves_any}
-use Rattle.fs_names.specs.Limits.{file_limit}
 use Rattle.fs_graph.specs.Graphs.{Graph, numbers, set_at, released_in, reserved_in}
 use Rattle.fs_machine.specs.Finishes.{finish}
 use Rattle.fs_machine.specs.Leaving.{is_removed, releasing, let_go, finished_op, unreserved}
@@ -19,7 +18,7 @@ use Rattle.fs_machine.specs.declared.moves.Moved.{Moved}
 use Rattle.fs_machine.specs.Records.{Phase, Walking, Placed, Finished, Holds, Record, Records, Holdings, Source}
 use Rattle.fs_laws.specs.JournalViews.{start, view_after}
 use Rattle.fs_timeline.specs.Timeline.{begins, commit_count}
-use Rattle.fs_laws.specs.Invariants.{IsUnfinished, Own, Invariant, most_bytes}
+use Rattle.fs_laws.specs.Invariants.{IsUnfinished, Own, Invariant, limits_of}
 use Rattle.fs_laws.specs.CallFacts.{Keeps}
 use Rattle.fs_machine.specs.States.{State, fresh, IsStart, Begun, began, new_op, Reserves, Begins, Step, taking, letting_go, helping, carrying, committing, returning, Run, Starting, Beginning, Stepping}
 use Rattle.fs_machine.specs.declared.answers.Refusal.TheVariants.{SeatBusy, Full, OutOfMemory}
@@ -48,12 +47,12 @@ pub record StateFacts (s : State) : Type 0 where
   pub holds : (n c : ℕ) → s.holder n ≡ Some c → Holder s n c
   pub on_seat : (c : ℕ) (op : Record) → s.ops c ≡ Some op → s.on_seat op.seat ≡ Some c
   pub neat : (c : ℕ) (op : Record) (st : Holdings) → s.ops c ≡ Some op → op.holdings ≡ Some st → HeadsOfCallInOrder s.graph op st
-  pub within : AllWithin (most_bytes s) s.graph.shape
+  pub within : AllWithin (limits_of s) s.graph.shape
   pub below : (n : ℕ) (shape : Shape) → s.graph.shape n ≡ Some shape → n < s.limit
 
 -- a call that stands somewhere is not decided by its paths
 pub text_open : (s : State) (inv : Invariant s) (c : ℕ) (op : Record) (st : Holdings) → s.ops c ≡ Some op → op.holdings ≡ Some st → by_paths op.call ≡ None
-text_open s inv c op st is on = sym (by_text_any (most_bytes s) op.call) ∙ ap by_text (sym (inv.own c op is).parts) ∙ fits_under op.walked op.remaining (inv.kept.each c op st is on).fits
+text_open s inv c op st is on = sym (by_text_any (limits_of s) op.call) ∙ ap by_text (sym (inv.own c op is).parts) ∙ fits_under op.walked op.remaining (inv.kept.each c op st is on).fits
 
 -- the source head's node is reached
 source_reached : (s : State) (inv : Invariant s) (c : ℕ) (op : Record) (st : Holdings) → s.ops c ≡ Some op → op.holdings ≡ Some st → (key : Key) × (numbers s.graph key ≡ Some st.source.node)
@@ -63,10 +62,10 @@ source_reached s inv c op st is on = let k : Keeps (numbers s.graph) (inv.key c)
 released_stays : (graph : Graph) (n m : ℕ) → ((key : Key) → numbers graph key ≡ Some n → ⊥) → (key : Key) × (numbers graph key ≡ Some m) → DirStays graph (released_in n graph) m
 released_stays graph n m loose reached names e = (names, upd_else n None graph.shape m (λ i. loose reached.0 (reached.1 ∙ ap (λ (x : ℕ). Some x) i)) ∙ e)
 
-released_within : (most : ℕ) (graph : Graph) (n : ℕ) → AllWithin most graph.shape → AllWithin most (released_in n graph).shape
-released_within most graph n w m s e = go (place n None graph.shape m)
+released_within : (limits : Limits) (graph : Graph) (n : ℕ) → AllWithin limits graph.shape → AllWithin limits (released_in n graph).shape
+released_within limits graph n w m s e = go (place n None graph.shape m)
   where
-    go : Place (Option Shape) n None graph.shape m → Within most s
+    go : Place (Option Shape) n None graph.shape m → Within limits s
     go (Here i j) = absurd (none_some ((released_in n graph).shape m) s j e)
     go (Else h j) = w m s (sym j ∙ e)
 
@@ -88,15 +87,15 @@ record Changes (old : State) (c : ℕ) (op v : Record) (graph : Graph) : Type 0 
   pub seat : v.seat ≡ op.seat
   pub neat : (st : Holdings) → op.holdings ≡ Some st → HeadsOfCallInOrder graph v st
   pub others : (d : ℕ) (q : Record) (st : Holdings) → (d ≡ c → ⊥) → old.ops d ≡ Some q → q.holdings ≡ Some st → HeadsOfCallInOrder graph q st
-  pub within : AllWithin (most_bytes old) graph.shape
+  pub within : AllWithin (limits_of old) graph.shape
   pub below : (n : ℕ) (shape : Shape) → graph.shape n ≡ Some shape → n < old.limit
 
-changes_keep : (old : State) (acc : StateFacts old) (c : ℕ) (op v : Record) (graph : Graph) (new : State) → Changes old c op v graph → new.limit ≡ old.limit → most_bytes new ≡ most_bytes old → new.graph ≡ graph → new.holder ≡ old.holder → new.ops ≡ set_at c (Some v) old.ops → new.on_seat ≡ old.on_seat → StateFacts new
-changes_keep old acc c op v graph new ch limit most is_graph holder ops seats = record {
+changes_keep : (old : State) (acc : StateFacts old) (c : ℕ) (op v : Record) (graph : Graph) (new : State) → Changes old c op v graph → new.limit ≡ old.limit → limits_of new ≡ limits_of old → new.graph ≡ graph → new.holder ≡ old.holder → new.ops ≡ set_at c (Some v) old.ops → new.on_seat ≡ old.on_seat → StateFacts new
+changes_keep old acc c op v graph new ch limit limits is_graph holder ops seats = record {
   holds = λ n d e. holds n d (ap (λ (f : ℕ → Option ℕ). f n) (sym holder) ∙ e);
   on_seat = λ d q e. seat d q (either old.ops c v d q (sym (ap (λ (f : Records). f d) ops) ∙ e));
   neat = λ d q st e f. subst (λ (g : Graph). HeadsOfCallInOrder g q st) (sym is_graph) (neat d q st (either old.ops c v d q (sym (ap (λ (f : Records). f d) ops) ∙ e)) f);
-  within = subst (λ (m : ℕ). AllWithin m new.graph.shape) (sym most) (subst (λ (g : Graph). AllWithin (most_bytes old) g.shape) (sym is_graph) ch.within);
+  within = subst (λ (l : Limits). AllWithin l new.graph.shape) (sym limits) (subst (λ (g : Graph). AllWithin (limits_of old) g.shape) (sym is_graph) ch.within);
   below = λ n s e. subst (λ (m : ℕ). n < m) (sym limit) (ch.below n s (ap (λ (g : Graph). g.shape n) (sym is_graph) ∙ e));
 }
   where
@@ -177,7 +176,7 @@ account_took n old new seat inv acc (c, op, moves, free, same) = subst StateFact
 -- a let go
 record Releases (old : State) (n : ℕ) (graph : Graph) : Type 0 where
   pub stays : (c : ℕ) (op : Record) (st : Holdings) → old.ops c ≡ Some op → op.holdings ≡ Some st → DirStays old.graph graph st.source.node
-  pub within : AllWithin (most_bytes old) graph.shape
+  pub within : AllWithin (limits_of old) graph.shape
   pub below : (m : ℕ) (s : Shape) → graph.shape m ≡ Some s → m < old.limit
 
 releases_same : (old : State) (acc : StateFacts old) (n : ℕ) → Releases old n old.graph
@@ -186,7 +185,7 @@ releases_same old acc n = record { stays = λ c op st e f names g. (names, g); w
 releases_out : (old : State) (inv : Invariant old) (acc : StateFacts old) (n : ℕ) → ((key : Key) → numbers old.graph key ≡ Some n → ⊥) → Releases old n (released_in n old.graph)
 releases_out old inv acc n loose = record {
   stays = λ c op st e f. released_stays old.graph n st.source.node loose (source_reached old inv c op st e f);
-  within = released_within (most_bytes old) old.graph n acc.within;
+  within = released_within (limits_of old) old.graph n acc.within;
   below = released_below old.graph n old.limit acc.below;
 }
 
@@ -289,11 +288,11 @@ finish_changes old inv acc c op o is u n = record {
   below = λ m t e. (let s : (s : Shape) × (old.graph.shape m ≡ Some s) = sized.to_old m t e in acc.below m s.0 s.1);
 }
   where
-    own : Own (most_bytes old) old.graph op
+    own : Own (limits_of old) old.graph op
     own = inv.own c op is
 
-    sized : Resizes (most_bytes old) old.graph.shape (finish old.graph op).graph.shape
-    sized = finish_resizes (most_bytes old) old.graph inv.is_graph acc.within op (own_limited (most_bytes old) old.graph op own) own.well
+    sized : Resizes (limits_of old) old.graph.shape (finish old.graph op).graph.shape
+    sized = finish_resizes (limits_of old) old.graph inv.is_graph acc.within op (own_limited (limits_of old) old.graph op own) own.well
 
     stays : (m : ℕ) (names : List Name) → old.graph.shape m ≡ Some (Dir names) → (ns : List Name) × ((finish old.graph op).graph.shape m ≡ Some (Dir ns))
     stays m names e = let t : (t : Shape) × ((finish old.graph op).graph.shape m ≡ Some t) × SameKind (Dir names) t = sized.to_new m (Dir names) e in go t.0 t.1 t.2
@@ -365,7 +364,7 @@ account_returned r old new seat inv acc (c, op, moves, ph, same) = subst StateFa
 -- a begin
 record Reserved (old : State) (graph : Graph) : Type 0 where
   pub stays : (m : ℕ) → DirStays old.graph graph m
-  pub within : AllWithin (most_bytes old) graph.shape
+  pub within : AllWithin (limits_of old) graph.shape
   pub below : (m : ℕ) (s : Shape) → graph.shape m ≡ Some s → m < old.limit
 
 began_keeps : (old : State) (inv : Invariant old) (acc : StateFacts old) (seat : ℕ) (call : Call) (c : ℕ) (reserved : Option ℕ) (graph : Graph) → old.on_seat seat ≡ None → old.ops c ≡ None → Reserved old graph → StateFacts (began old seat call c reserved graph)
@@ -403,24 +402,24 @@ not_begun s inv c less = go (s.ops c) refl
     go (Some q) e = absurd (none_some ((view_after (start s.start) s.timeline).call c) q.call (inv.fresh c less) (inv.tied.calls c q e))
 
 -- what is reserved is empty
-new_within : (most : ℕ) (call : Form) (shape : Shape) → reserves call ≡ Some shape → Within most shape
-new_within most (AtNode c p) shape e = cc
-new_within most (AtEntry c []) shape e = cc
-new_within most (AtEntry Mkdir (x ∷ p)) shape e = let y : Dir [] ≡ shape = cc in subst (Within most) y (tt, omega arith)
-new_within most (AtEntry Mknod (x ∷ p)) shape e = let y : File [] ≡ shape = cc in subst (Within most) y (omega arith)
-new_within most (AtEntry Unlink (x ∷ p)) shape e = cc
-new_within most (AtEntry Rmdir (x ∷ p)) shape e = cc
-new_within most (AtPair c p q) shape e = cc
+new_within : (limits : Limits) (call : Form) (shape : Shape) → reserves call ≡ Some shape → Within limits shape
+new_within limits (AtNode c p) shape e = cc
+new_within limits (AtEntry c []) shape e = cc
+new_within limits (AtEntry (Mkdir most) (x ∷ p)) shape e = let y : Dir [] ≡ shape = cc in subst (Within limits) y (tt, omega arith)
+new_within limits (AtEntry (Mknod most) (x ∷ p)) shape e = let y : File [] ≡ shape = cc in subst (Within limits) y (omega arith)
+new_within limits (AtEntry Unlink (x ∷ p)) shape e = cc
+new_within limits (AtEntry Rmdir (x ∷ p)) shape e = cc
+new_within limits (AtPair c p q) shape e = cc
 
-reserved_is : (old : State) (acc : StateFacts old) (n : ℕ) (shape : Shape) → old.graph.shape n ≡ None → n < old.limit → Within (most_bytes old) shape → Reserved old (reserved_in n shape old.graph)
+reserved_is : (old : State) (acc : StateFacts old) (n : ℕ) (shape : Shape) → old.graph.shape n ≡ None → n < old.limit → Within (limits_of old) shape → Reserved old (reserved_in n shape old.graph)
 reserved_is old acc n shape free less fits = record {
   stays = λ m names e. (names, upd_else n (Some shape) old.graph.shape m (λ i. none_some (old.graph.shape m) (Dir names) (ap old.graph.shape i ∙ free) e) ∙ e);
   within = λ m s e. within m s e (place n (Some shape) old.graph.shape m);
   below = λ m s e. below m s e (place n (Some shape) old.graph.shape m);
 }
   where
-    within : (m : ℕ) (s : Shape) → (reserved_in n shape old.graph).shape m ≡ Some s → Place (Option Shape) n (Some shape) old.graph.shape m → Within (most_bytes old) s
-    within m s e (Here i j) = let z : ◌≡◌ {A = Option Shape} (Some shape) (Some s) = sym j ∙ e in subst (Within (most_bytes old)) (let y : shape ≡ s = cc in y) fits
+    within : (m : ℕ) (s : Shape) → (reserved_in n shape old.graph).shape m ≡ Some s → Place (Option Shape) n (Some shape) old.graph.shape m → Within (limits_of old) s
+    within m s e (Here i j) = let z : ◌≡◌ {A = Option Shape} (Some shape) (Some s) = sym j ∙ e in subst (Within (limits_of old)) (let y : shape ≡ s = cc in y) fits
     within m s e (Else h j) = acc.within m s (sym j ∙ e)
 
     below : (m : ℕ) (s : Shape) → (reserved_in n shape old.graph).shape m ≡ Some s → Place (Option Shape) n (Some shape) old.graph.shape m → m < old.limit
@@ -435,7 +434,7 @@ account_begun c old new seat call inv acc (free, number, r) = go (reserved_by ca
 
     go : (o : Option Shape) → reserved_by call ≡ o → Reserves old seat call c o new → StateFacts new
     go None i same = subst StateFacts (sym same) (began_keeps old inv acc seat call c None old.graph free unused (record { stays = λ m names e. (names, e); within = acc.within; below = acc.below }))
-    go (Some shape) i (n, less, empty_n, same) = subst StateFacts (sym same) (began_keeps old inv acc seat call c (Some n) (reserved_in n shape old.graph) free unused (reserved_is old acc n shape empty_n less (new_within (most_bytes old) (form (most_bytes old) call) shape (reserves_any (most_bytes old) call ∙ i))))
+    go (Some shape) i (n, less, empty_n, same) = subst StateFacts (sym same) (began_keeps old inv acc seat call c (Some n) (reserved_in n shape old.graph) free unused (reserved_is old acc n shape empty_n less (new_within (limits_of old) (form (limits_of old) call) shape (reserves_any (limits_of old) call ∙ i))))
 
 -- where a timeline begins
 account_start : (limit : ℕ) (tree : Start) (graph : Graph) → IsStart limit tree graph → StateFacts (fresh limit tree graph)
@@ -447,7 +446,7 @@ account_start limit tree graph h = record {
   below = h.below;
 }
   where
-    within : (n : ℕ) (s : Shape) → graph.shape n ≡ Some s → Within (file_limit tree.limits) s
+    within : (n : ℕ) (s : Shape) → graph.shape n ≡ Some s → Within tree.limits s
     within n (Dir names) e = (h.rising n names e, h.bounded.entries n names e)
     within n (File bytes) e = h.bounded.bytes n bytes e
 

@@ -7,7 +7,7 @@ use Rattle.fs_names.specs.Parts.{HasNames}
 use Rattle.fs_names.specs.Names.{Name, has_name}
 use Rattle.fs_names.specs.Shapes.{Shape, Dir, File, is_there, has_entries}
 use Rattle.fs_calls.specs.Forms.{Form, AtNode, AtEntry, AtPair, Fits, by_paths}
-use Rattle.fs_calls.specs.declared.target.PairCall.TheVariants as pairs
+use Rattle.fs_calls.specs.Forms as pairs
 use Rattle.fs_calls.specs.declared.errno.Errno.{Errno}
 use Rattle.fs_calls.specs.declared.reply.Reply.{Reply}
 use Rattle.fs_laws.proofs.finish.Limits.{own_limited, told_within}
@@ -19,7 +19,7 @@ use Rattle.fs_machine.specs.declared.moves.Moved.{Moved}
 use Rattle.fs_machine.specs.Records.{Phase, Walking, Placed, Finished, Record, Holdings, Source, Dest}
 use Rattle.fs_machine.specs.OpValues.{IsSpare, SpareIf, IsBounded, HeadsApart, MovesApart, CanFinish}
 use Rattle.fs_timeline.specs.Timeline.{begins}
-use Rattle.fs_laws.specs.Invariants.{Invariant, most_bytes}
+use Rattle.fs_laws.specs.Invariants.{Invariant, limits_of}
 use Rattle.fs_laws.specs.CallFacts.{Located}
 use Rattle.fs_machine.specs.States.{State, Run}
 use Rattle.fs_laws.proofs.trees.Prefixes.{same_refl, prefix_append}
@@ -65,7 +65,7 @@ spare_removed s c op n run is e = spare_gone s c op run is n (removed_is op.remo
     removed_is (Some m) f = ap (λ (x : ℕ). Some x) (eqb_true m n f)
 
 -- directories and files are within their limits
-pub run_bounded : (s : State) → Run s → IsBounded (most_bytes s) s.graph
+pub run_bounded : (s : State) → Run s → IsBounded (limits_of s) s.graph
 run_bounded s run = record { entries = λ n names e. ((run_accounts s run).within n (Dir names) e).1; bytes = λ n content e. (run_accounts s run).within n (File content) e }
 
 -- and the numbers in use below theirs
@@ -148,13 +148,13 @@ moves_apart s c op st run is on = go op.remaining (inv.kept.each c op st is on).
             )
     go (AtNode e p) fits = tt
     go (AtEntry e p) fits = tt
-    go (AtPair pairs.Rename p q) fits = λ n source dest child (way, reach).
-        let whole : q ≡ p ++ (way ++ last_of q ∷ []) = key_is q (to_more pairs.Rename p q fits) ∙ ap (λ (k : Key). k ++ last_of q ∷ []) (sym (reaches p q way n source dest (from_more pairs.Rename p q fits) child reach)) ∙ append_assoc p way (last_of q ∷ []) in
-        not_under pairs.Rename p q fits (ap (λ (k : Key). has_more (after_prefix p k)) whole ∙ goes_on p way (last_of q))
+    go (AtPair (pairs.Rename most) p q) fits = λ n source dest child (way, reach).
+        let whole : q ≡ p ++ (way ++ last_of q ∷ []) = key_is q (to_more (pairs.Rename most) p q fits) ∙ ap (λ (k : Key). k ++ last_of q ∷ []) (sym (reaches p q way n source dest (from_more (pairs.Rename most) p q fits) child reach)) ∙ append_assoc p way (last_of q ∷ []) in
+        not_under (pairs.Rename most) p q fits (ap (λ (k : Key). has_more (after_prefix p k)) whole ∙ goes_on p way (last_of q))
 
 -- what a finish needs
 pub can_finish : (s : State) (c : ℕ) (op : Record) (t : Moved) → Run s → s.ops c ≡ Some op → next s.graph op ≡ Finishes t → CanFinish s.graph op.reserved op.remaining op.holdings
-can_finish s c op t run is m = record { spare = spare_reserved s c op run is; heads = λ st on. heads_apart s c op st run is on; other = λ st on. reserved_other s c op st run is on; apart = λ st on. moves_apart s c op st run is on; bounded = told_within (most_bytes s) s.graph op.remaining (own_limited (most_bytes s) s.graph op ((run_keeps s run).own c op is)) (run_bounded s run) }
+can_finish s c op t run is m = record { spare = spare_reserved s c op run is; heads = λ st on. heads_apart s c op st run is on; other = λ st on. reserved_other s c op st run is on; apart = λ st on. moves_apart s c op st run is on; bounded = told_within (limits_of s) s.graph op.remaining (own_limited (limits_of s) s.graph op ((run_keeps s run).own c op is)) (run_bounded s run) }
 
 -- who ends is finished and stands nowhere
 pub ends_finished : (s : State) (c : ℕ) (op : Record) → next s.graph op ≡ Ends → (r : Reply) × (op.phase ≡ Finished r) × (op.holdings ≡ None)

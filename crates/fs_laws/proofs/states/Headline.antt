@@ -4,7 +4,6 @@ use Rattle.fs_calls.specs.Sights.{tree_shapes}
 use Rattle.fs_calls.specs.Starts.{Start}
 use Rattle.fs_laws.specs.Changes.{play}
 use Rattle.fs_calls.specs.declared.call.Call.{Call}
-use Rattle.fs_names.specs.Limits.{file_limit}
 use Rattle.fs_graph.specs.Graphs.{Graph, graph_shapes}
 use Rattle.fs_timeline.specs.declared.entry.Entry.{Entry}
 use Rattle.fs_timeline.specs.declared.entry.Entry.TheVariants.{Begin, Commit, Return}
@@ -28,10 +27,10 @@ use Rattle.fs_laws.proofs.events.Begin.{keeps_begun}
 -- by the view: the timeline is well formed and each returned reply is the sequential tree's; where no call is under way, the nodes spell that tree
 pub record Headline (state : State) : Type 0 where
   pub lawful : IsLawful (start state.start) state.timeline
-  pub spelled : IsIdle state → graph_shapes state.graph ≡ play (file_limit state.start.limits) (tree_shapes state.start.tree) (commits_of (start state.start).call state.timeline)
+  pub spelled : IsIdle state → graph_shapes state.graph ≡ play state.start.limits (tree_shapes state.start.tree) (commits_of (start state.start).call state.timeline)
 
 -- the tree of the view is what the calls of the Commit entries make
-with_played : (o : Option Call) (view : JournalView) (n : ℕ) (calls : List Call) → play (file_limit (commit_of view n o).limits) (commit_of view n o).tree calls ≡ play (file_limit view.limits) view.tree (with_call o calls)
+with_played : (o : Option Call) (view : JournalView) (n : ℕ) (calls : List Call) → play (commit_of view n o).limits (commit_of view n o).tree calls ≡ play view.limits view.tree (with_call o calls)
 with_played None view n calls = refl
 with_played (Some call) view n calls = refl
 
@@ -39,12 +38,12 @@ same_call : (o : Option Call) (view : JournalView) (n : ℕ) → (commit_of view
 same_call None view n = refl
 same_call (Some call) view n = refl
 
-pub view_plays : (view : JournalView) (es : List Entry) → (view_after view es).tree ≡ play (file_limit view.limits) view.tree (commits_of view.call es)
+pub view_plays : (view : JournalView) (es : List Entry) → (view_after view es).tree ≡ play view.limits view.tree (commits_of view.call es)
 view_plays view [] = refl
 view_plays view (Begin n seat call ∷ es) = view_plays (noted view (Begin n seat call)) es
 view_plays view (Commit n ∷ es) =
     view_plays (commit_of view n (view.call n)) es
-    ∙ ap (λ (c : ℕ → Option Call). play (file_limit (commit_of view n (view.call n)).limits) (commit_of view n (view.call n)).tree (commits_of c es)) (same_call (view.call n) view n)
+    ∙ ap (λ (c : ℕ → Option Call). play (commit_of view n (view.call n)).limits (commit_of view n (view.call n)).tree (commits_of c es)) (same_call (view.call n) view n)
     ∙ with_played (view.call n) view n (commits_of view.call es)
 view_plays view (Return n r ∷ es) = view_plays (noted view (Return n r)) es
 

@@ -10,7 +10,6 @@ use Rattle.fs_calls.specs.Tree.{Tree, IsTree}
 use Rattle.fs_calls.specs.declared.call.Call.{Call}
 use Rattle.fs_calls.specs.declared.reply.Reply.{Reply}
 use Rattle.fs_calls.proofs.TreeLaws.{played_trees_are_trees}
-use Rattle.fs_names.specs.Limits.{file_limit}
 use Rattle.fs_names.specs.declared.limits.Limits.{Limits}
 use Rattle.fs_laws.proofs.journal.ViewAndMachine.{view_limits}
 use Rattle.fs_graph.specs.Graphs.{Graph, graph_shapes, set_at, reserved_in}
@@ -20,7 +19,7 @@ use Rattle.fs_machine.specs.Records.{Walking, Record}
 use Rattle.fs_laws.specs.JournalViews.{JournalView, start, view_after, noted, commit_of}
 use Rattle.fs_timeline.specs.Timeline.{begins}
 use Rattle.fs_machine.specs.Headline.{IsIdle}
-use Rattle.fs_laws.specs.Invariants.{Invariant, most_bytes}
+use Rattle.fs_laws.specs.Invariants.{Invariant, limits_of}
 use Rattle.fs_laws.specs.OneCall.{IsNoReturn, StepsTo, Returns, Goes_on, MeetsTree}
 use Rattle.fs_machine.specs.States.{State, Begins, Reserves, new_op, began, Run, Beginning, Stepping, Step, returning}
 use Rattle.fs_machine.specs.declared.answers.Stepped.{Stepped}
@@ -41,11 +40,11 @@ abbrev with_commit : JournalView → ℕ → ℕ → Call → JournalView
 with_commit b c seat call = noted (noted b (Begin c seat call)) (Commit c)
 
 -- what its commit says
-committed_tree : (b : JournalView) (c seat : ℕ) (call : Call) → (with_commit b c seat call).tree ≡ after b.tree (form (file_limit b.limits) call)
+committed_tree : (b : JournalView) (c seat : ℕ) (call : Call) → (with_commit b c seat call).tree ≡ after b.tree (form b.limits call)
 committed_tree b c seat call = ap (λ (o : Option Call). (commit_of (noted b (Begin c seat call)) c o).tree) (upd_here c (Some call) b.call)
 
-committed_due : (b : JournalView) (c seat : ℕ) (call : Call) → (with_commit b c seat call).due c ≡ Some (reply b.tree (form (file_limit b.limits) call))
-committed_due b c seat call = ap (λ (o : Option Call). (commit_of (noted b (Begin c seat call)) c o).due c) (upd_here c (Some call) b.call) ∙ upd_here c (Some (reply b.tree (form (file_limit b.limits) call))) b.due
+committed_due : (b : JournalView) (c seat : ℕ) (call : Call) → (with_commit b c seat call).due c ≡ Some (reply b.tree (form b.limits call))
+committed_due b c seat call = ap (λ (o : Option Call). (commit_of (noted b (Begin c seat call)) c o).due c) (upd_here c (Some call) b.call) ∙ upd_here c (Some (reply b.tree (form b.limits call))) b.due
 
 -- what is known while the call is the only one under way
 record During (b : JournalView) (c seat : ℕ) (call : Call) (u : State) : Type 0 where
@@ -77,7 +76,7 @@ not_twice b c seat call u w d q is walks = go w.view
 
     go : (view_after (start u.start) u.timeline ≡ with_begin b c seat call) ⊎ (view_after (start u.start) u.timeline ≡ with_commit b c seat call) → view_after (start u.start) (u.timeline ++ Commit d ∷ []) ≡ with_commit b c seat call
     go (inl e) = view_push (start u.start) u.timeline (Commit d) ∙ ap₂ (λ (x : JournalView) (n : ℕ). noted x (Commit n)) e here
-    go (inr e) = absurd (none_some ((view_after (start u.start) u.timeline).due c) (reply b.tree (form (file_limit b.limits) call)) (ap (view_after (start u.start) u.timeline).due (sym here) ∙ fresh) (ap (λ (x : JournalView). x.due c) e ∙ committed_due b c seat call))
+    go (inr e) = absurd (none_some ((view_after (start u.start) u.timeline).due c) (reply b.tree (form b.limits call)) (ap (view_after (start u.start) u.timeline).due (sym here) ∙ fresh) (ap (λ (x : JournalView). x.due c) e ∙ committed_due b c seat call))
 
 -- the same with one record changed, at the call
 changed_others : (b : JournalView) (c seat : ℕ) (call : Call) (u : State) → During b c seat call u → (f : ℕ) (v : Option Record) → f ≡ c → (d : ℕ) → (d ≡ c → ⊥) → set_at f v u.ops d ≡ None
@@ -125,8 +124,8 @@ goes_during b c seat call u next (Returned r) w plain st = absurd plain
 record Ended (b : JournalView) (call : Call) (r : Reply) (new : State) : Type 0 where
   pub run : Run new
   pub idle : IsIdle new
-  pub replied : r ≡ reply b.tree (form (file_limit b.limits) call)
-  pub tree : (view_after (start new.start) new.timeline).tree ≡ after b.tree (form (file_limit b.limits) call)
+  pub replied : r ≡ reply b.tree (form b.limits call)
+  pub tree : (view_after (start new.start) new.timeline).tree ≡ after b.tree (form b.limits call)
 
 some_is : (a b : Reply) → ◌≡◌ {A = Option Reply} (Some a) (Some b) → a ≡ b
 some_is a b e = cc
@@ -154,7 +153,7 @@ returns_ended b c seat call u new r none w (f, op, m, ph, same) = go w.view
     go (inr e) = record {
       run = Stepping seat (Returned r) new w.run (f, op, m, ph, same);
       idle = subst IsIdle (sym same) idle;
-      replied = some_is r (reply b.tree (form (file_limit b.limits) call)) (sym due ∙ ap (λ (x : JournalView). x.due c) e ∙ committed_due b c seat call);
+      replied = some_is r (reply b.tree (form b.limits call)) (sym due ∙ ap (λ (x : JournalView). x.due c) e ∙ committed_due b c seat call);
       tree = ap (λ (s : State). (view_after (start s.start) s.timeline).tree) same ∙ ap (λ (x : JournalView). x.tree) (view_push (start u.start) u.timeline (Return f r)) ∙ ap (λ (x : JournalView). x.tree) e ∙ committed_tree b c seat call;
     }
 
@@ -211,15 +210,15 @@ meets_tree s first new seat c call r run idle begin steps = result
     is_tree : IsTree (outcomes.play s.start (journal.commits s.timeline))
     is_tree = (played_trees_are_trees.1 s.start (journal.commits s.timeline) (run_starts s run)).0
 
-    maps : (outcomes.reply (most_bytes s) (outcomes.play s.start (journal.commits s.timeline)) call ≡ reply (tree_shapes (outcomes.play s.start (journal.commits s.timeline))) (form (most_bytes s) call)) × (tree_shapes (outcomes.after (most_bytes s) (outcomes.play s.start (journal.commits s.timeline)) call) ≡ after (tree_shapes (outcomes.play s.start (journal.commits s.timeline))) (form (most_bytes s) call))
-    maps = trees_as_maps (most_bytes s) (outcomes.play s.start (journal.commits s.timeline)) call is_tree
+    maps : (outcomes.reply (limits_of s) (outcomes.play s.start (journal.commits s.timeline)) call ≡ reply (tree_shapes (outcomes.play s.start (journal.commits s.timeline))) (form (limits_of s) call)) × (tree_shapes (outcomes.after (limits_of s) (outcomes.play s.start (journal.commits s.timeline)) call) ≡ after (tree_shapes (outcomes.play s.start (journal.commits s.timeline))) (form (limits_of s) call))
+    maps = trees_as_maps (limits_of s) (outcomes.play s.start (journal.commits s.timeline)) call is_tree
 
     result : MeetsTree s call r new
     result = record {
       tree = outcomes.play s.start (journal.commits s.timeline);
       is_tree = is_tree;
       before = (linearizes s run).spelled idle;
-      replied = ended.replied ∙ ap₂ (λ (m : Map Shape) (l : Limits). reply m (form (file_limit l) call)) seen_is same_limits ∙ sym maps.0;
-      after = idle_spells new ended.run ended.idle ∙ ended.tree ∙ ap₂ (λ (m : Map Shape) (l : Limits). after m (form (file_limit l) call)) seen_is same_limits ∙ sym maps.1;
+      replied = ended.replied ∙ ap₂ (λ (m : Map Shape) (l : Limits). reply m (form l call)) seen_is same_limits ∙ sym maps.0;
+      after = idle_spells new ended.run ended.idle ∙ ended.tree ∙ ap₂ (λ (m : Map Shape) (l : Limits). after m (form l call)) seen_is same_limits ∙ sym maps.1;
       idle = ended.idle;
     }

@@ -4,7 +4,7 @@ use mathlib.Core.Path.{fun_ext}
 use Rattle.fs_names.specs.Keys.{Key}
 use Rattle.fs_names.specs.Names.{Name, has_name}
 use Rattle.fs_names.specs.Shapes.{Shape, Dir, File}
-use Rattle.fs_names.specs.declared.limits.TheConstants.{ENTRY_LIMIT}
+use Rattle.fs_names.specs.Limits.{entry_limit}
 use Rattle.fs_calls.specs.Tree.{root_tree, look}
 use Rattle.fs_calls.specs.Sights.{tree_shapes}
 use Rattle.fs_calls.proofs.TreeLaws.{played_trees_are_trees}
@@ -52,7 +52,7 @@ starts_empty limits limit more = record {
   spelled = fun_ext spelled_start;
   is_graph = graph_start;
   bounded = record {
-    entries = λ n names e. let z : Dir names ≡ Dir [] = (root_is n (Dir names) e).1 in let y : names ≡ [] = cc in subst (λ (l : List Name). length l ≤ ENTRY_LIMIT) (sym y) (omega arith);
+    entries = λ n names e. let z : Dir names ≡ Dir [] = (root_is n (Dir names) e).1 in let y : names ≡ [] = cc in subst (λ (l : List Name). length l ≤ entry_limit limits) (sym y) (omega arith);
     bytes = λ n bytes e. let z : File bytes ≡ Dir [] = (root_is n (File bytes) e).1 in cc;
   };
   rising = λ n names e. let z : Dir names ≡ Dir [] = (root_is n (Dir names) e).1 in let y : names ≡ [] = cc in subst AreRising (sym y) tt;

@@ -13,7 +13,7 @@ use Rattle.fs_machine.specs.Moves.{next, next_by, took, took_by, target, left_ho
 use Rattle.fs_machine.specs.declared.moves.Move.TheVariants.{Take as Takes, LetGo as Leaves}
 use Rattle.fs_machine.specs.Records.{Phase, Walking, Placed, Finished, Record, Records, Holdings, holdings_at}
 use Rattle.fs_timeline.specs.Timeline.{begins, commit_count}
-use Rattle.fs_laws.specs.Invariants.{IsUnfinished, most_bytes}
+use Rattle.fs_laws.specs.Invariants.{IsUnfinished, limits_of}
 use Rattle.fs_laws.specs.Settled.{names_left}
 use Rattle.fs_machine.specs.States.{State, Reserves, began, new_op, Run, taking, letting_go, helping, carrying, committing, returning}
 use Rattle.fs_machine.specs.declared.answers.Stepped.TheVariants.{Idle, Took, Busy, LetGo, Helped, Committed, CarriedOut, Returned}
@@ -164,7 +164,7 @@ takes_work s run seat (Returned r) new (c, op, moves, ph, same) g =
     (subst (λ (p : Phase). 1 ≤ steps_left_by op.remaining p op.holdings) (sym ph) (subst (λ (o : Option Holdings). 1 ≤ steps_left_by op.remaining (Finished r) o) (sym (ends_nowhere s.graph op r ph moves.2)) (omega arith))))
 
 -- a begin
-began_work : (s : State) → Run s → (seat : ℕ) (call : Call) (c : ℕ) (reserved : Option ℕ) (graph : Graph) → c ≡ begins s.timeline + 1 → steps_left (began s seat call c reserved graph) ≡ steps_left s + first_steps (form (most_bytes s) call)
+began_work : (s : State) → Run s → (seat : ℕ) (call : Call) (c : ℕ) (reserved : Option ℕ) (graph : Graph) → c ≡ begins s.timeline + 1 → steps_left (began s seat call c reserved graph) ≡ steps_left s + first_steps (form (limits_of s) call)
 began_work s run seat call c reserved graph number = ap (total (λ d. steps_left_of (set_at c (Some (new_op s.start.limits seat call reserved)) s.ops d))) (begins_begins s.timeline c seat call) ∙ more
   where
     n : ℕ
@@ -173,10 +173,10 @@ began_work s run seat call c reserved graph number = ap (total (λ d. steps_left
     others : total (λ d. steps_left_of (set_at c (Some (new_op s.start.limits seat call reserved)) s.ops d)) (begins s.timeline) ≡ total (λ d. steps_left_of (s.ops d)) (begins s.timeline)
     others = total_same (λ d. steps_left_of (set_at c (Some (new_op s.start.limits seat call reserved)) s.ops d)) (λ d. steps_left_of (s.ops d)) (begins s.timeline) (λ d i. ap steps_left_of (upd_else c (Some (new_op s.start.limits seat call reserved)) s.ops d (λ e. (let z : d ≡ begins s.timeline + 1 = e ∙ number in omega (arith, z, i)))))
 
-    mine : steps_left_of (set_at c (Some (new_op s.start.limits seat call reserved)) s.ops (begins s.timeline + 1)) ≡ first_steps (form (most_bytes s) call)
+    mine : steps_left_of (set_at c (Some (new_op s.start.limits seat call reserved)) s.ops (begins s.timeline + 1)) ≡ first_steps (form (limits_of s) call)
     mine = ap (λ (d : ℕ). steps_left_of (set_at c (Some (new_op s.start.limits seat call reserved)) s.ops d)) (sym number) ∙ ap steps_left_of (upd_here c (Some (new_op s.start.limits seat call reserved)) s.ops)
 
-    more : total (λ d. steps_left_of (set_at c (Some (new_op s.start.limits seat call reserved)) s.ops d)) (begins s.timeline + 1) ≡ steps_left s + first_steps (form (most_bytes s) call)
+    more : total (λ d. steps_left_of (set_at c (Some (new_op s.start.limits seat call reserved)) s.ops d)) (begins s.timeline + 1) ≡ steps_left s + first_steps (form (limits_of s) call)
     more = next_total (λ d. steps_left_of (set_at c (Some (new_op s.start.limits seat call reserved)) s.ops d)) (begins s.timeline) ∙ ap₂ (λ (a b : ℕ). a + b) others mine
       where
         next_total : (f : ℕ → ℕ) (m : ℕ) → total f (m + 1) ≡ total f m + f (m + 1)
@@ -185,6 +185,6 @@ began_work s run seat call c reserved graph number = ap (total (λ d. steps_left
 pub adds_work : (s : State) → Run s → AddsWork s
 adds_work s run seat c call new (free, number, r) = go (reserved_by call) r
   where
-    go : (o : Option Shape) → Reserves s seat call c o new → steps_left new ≡ steps_left s + first_steps (form (most_bytes s) call)
+    go : (o : Option Shape) → Reserves s seat call c o new → steps_left new ≡ steps_left s + first_steps (form (limits_of s) call)
     go None same = ap steps_left same ∙ began_work s run seat call c None s.graph number
     go (Some shape) (n, less, unused, same) = ap steps_left same ∙ began_work s run seat call c (Some n) (reserved_in n shape s.graph) number

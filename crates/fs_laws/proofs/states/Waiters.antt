@@ -71,7 +71,7 @@ wants_below s inv c op n st is on t = go t
     go (Walk x l way b child t_is) = of [] st.node x here (inl refl) child
     go (There (Entry e p rem way child off) b t_is) = of [] st.node (last_of p) here (inl refl) child
     go (There (Of_head side pair p q x l rem way turn at_left child) b t_is) = of (head_on side st).walked (head_on side st).node x (loc.head side) (node_held side (numbers s.graph) (inv.key c) st loc) child
-    go (There (Replaced p q rem way there at_left want child off) b t_is) = of st.dest.walked st.dest.node (last_of q) (loc.head Dest) (node_held Dest (numbers s.graph) (inv.key c) st loc) child
+    go (There (Replaced most p q rem way there at_left want child off) b t_is) = of st.dest.walked st.dest.node (last_of q) (loc.head Dest) (node_held Dest (numbers s.graph) (inv.key c) st loc) child
 
 -- of two calls that wait, the first for the second, by their keys
 waits_key : (s : State) (run : Run s) (c d e : ℕ) (op q : Record) (st other : Holdings) → WaitsFor s c d op → op.holdings ≡ Some st → WaitsFor s d e q → q.holdings ≡ Some other → (r : Key) × HasNames r × ((run_keeps s run).key d ≡ (run_keeps s run).key c ++ r)

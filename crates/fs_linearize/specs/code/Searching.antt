@@ -58,7 +58,7 @@ pub record AddsCommits (h : List Heard) (r : Reached) (us : List UnderWay) (old 
 -- each call that has to do with the return of a call commits, if it can; those that may have one parent have to do with each other where the tree has no room for all
 pub record AreTriedNear (h : List Heard) (c : ℕ) (x : Configuration) (us : List UnderWay) (layer : List Reached) : Type 0 where
   pub siblings : Bool
-  pub room : siblings ≡ false → HasRoom (length us) (start_tree x.now)
+  pub room : siblings ≡ false → HasRoom x.now.limits (length us) (start_tree x.now)
   pub near : List UnderWay
   pub are : AreNear c siblings us near
   pub each : (u : UnderWay) → Contains near u → IsTried h x u layer

@@ -2,11 +2,9 @@
 use Rattle.std.specs.Prelude.{ℕ, Bool, not, ◌&&◌, true, false, Option, Some, None}
 use Rattle.fs_names.specs.Keys.{Key, parent_of, last_of, after_prefix, has_more, is_end}
 use Rattle.fs_names.specs.Names.{Name}
-use Rattle.fs_names.specs.Shapes.{Shape, is_full}
-use Rattle.fs_calls.specs.Forms.{Form, AtNode, AtEntry, AtPair, new_shape}
-use Rattle.fs_calls.specs.declared.target.EntryCall.{EntryCall}
-use Rattle.fs_calls.specs.declared.target.PairCall.{PairCall}
-use Rattle.fs_calls.specs.declared.target.PairCall.TheVariants as pairs
+use Rattle.fs_names.specs.Shapes.{Shape}
+use Rattle.fs_calls.specs.Forms.{Form, AtNode, AtEntry, AtPair, new_shape, EntryCall, PairCall}
+use Rattle.fs_calls.specs.Forms as pairs
 use Rattle.fs_calls.specs.Rows.{as_dir, entry_fault}
 use Rattle.fs_nodes.specs.Graphs.{Graph, entry_shape}
 use Rattle.fs_walk.specs.Ways.{Way, ForkWay}
@@ -49,11 +47,11 @@ take_or None plan = Finishes plan
 abbrev pub entry_next : Graph → ℕ → EntryCall → Name → Option ℕ → Next
 entry_next graph n c x victim =
     take_or (to_take (victim_of c (entry_shape graph n x)) (graph.child n x) victim)
-    (entry_plan (entry_fault c (as_dir None (graph.shape n)) (is_full (graph.shape n)) (entry_shape graph n x)) (new_shape c) n)
+    (entry_plan (entry_fault c (as_dir None (graph.shape n)) (graph.shape n) (entry_shape graph n x)) (new_shape c) n)
 
 -- whether what stands at the second name goes, by what stands at both and by how the paths stand to each other
 abbrev pub replaces : PairCall → Option Shape → Option Shape → Bool → Bool → Bool
-replaces pairs.Rename moved there same_path above = same_kind moved there && not same_path && not above
+replaces (pairs.Rename most) moved there same_path above = same_kind moved there && not same_path && not above
 replaces pairs.Exchange one other same_path above = false
 
 -- a call on two entries, with the directories of both held

@@ -1,7 +1,7 @@
 -- The lines of a start tree while they are read.
 use Rattle.std.specs.Prelude.{◌≡◌, ℕ, List, [], ◌∷◌, ◌++◌, length, Result, Ok, Err, Option, Some, None, MatchResult, if◌then◌else◌}
 use Rattle.fs_names.specs.Keys.{Key}
-use Rattle.fs_names.specs.Limits.{name_limit, file_limit}
+use Rattle.fs_names.specs.Limits.{name_limit}
 use Rattle.fs_names.specs.declared.limits.Limits.{Limits}
 use Rattle.fs_names.specs.declared.kind.Kind.{Kind}
 use Rattle.fs_names.specs.declared.kind.Kind.TheVariants.{Dir}
@@ -39,7 +39,7 @@ starting limits t = record { limits = limits; tree = t }
 abbrev pub behind_rows : Limits → Tree → List ℕ → List Row → (Start → Read) → Read
 behind_rows limits t ns [] rest = rest (starting limits t)
 behind_rows limits t [] (row ∷ rows) rest = rest (starting limits t)
-behind_rows limits t (n ∷ ns) (row ∷ rows) rest = if fits (file_limit limits) t row then behind_rows limits (t ++ row_of row ∷ []) ns rows rest else Err (fault_at n kind.BadStart)
+behind_rows limits t (n ∷ ns) (row ∷ rows) rest = if fits limits t row then behind_rows limits (t ++ row_of row ∷ []) ns rows rest else Err (fault_at n kind.BadStart)
 
 -- what is read at the end of the rows, where they made a tree
 abbrev pub read_end : End → LinesLeft → Start → Read

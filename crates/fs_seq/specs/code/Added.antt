@@ -2,14 +2,15 @@
 use Rattle.std.specs.Prelude.{◌≡◌, ℕ, true, [], ◌∷◌, ◌++◌, Some}
 use Rattle.fs_names.specs.Names.{Name}
 use Rattle.fs_names.specs.Keys.{Key}
+use Rattle.fs_names.specs.declared.limits.Limits.{Limits}
 use Rattle.fs_seq.specs.declared.rows.Row.{Row}
 use Rattle.fs_seq.specs.Rows.{key_of, fits}
 use Rattle.fs_slab.specs.code.Slots.{Slots, Dir, place_at, links_at, walk, tree_of}
 use Rattle.fs_slab.specs.code.Nodes.{BelongsAt}
 
 -- a row fits, and this is its directory, the place among the entries there and its name
-pub record IsPlaceOf (most : ℕ) (g : Slots) (row : Row) (dir i : ℕ) (x : Name) : Type 0 where
-  pub fits : fits most (tree_of g) row ≡ true
+pub record IsPlaceOf (limits : Limits) (g : Slots) (row : Row) (dir i : ℕ) (x : Name) : Type 0 where
+  pub fits : fits limits (tree_of g) row ≡ true
   pub above : Key
   pub split : key_of row ≡ above ++ x ∷ []
   pub parent : walk g above ≡ Some dir

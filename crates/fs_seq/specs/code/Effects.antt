@@ -2,11 +2,14 @@
 use Rattle.std.specs.Prelude.{◌≡◌, ℕ, length, List, [], insert, remove, ◌<◌, Option, Some, None, Result, Ok, Err, if◌then◌else◌, IsTrue}
 use Rattle.fs_names.specs.Names.{Name}
 use Rattle.fs_names.specs.Keys.{Key, is_root, parent_of, last_of}
+use Rattle.fs_names.specs.Limits.{entry_limit}
 use Rattle.fs_names.specs.Failures.{check, or_else}
+use Rattle.fs_names.specs.declared.limits.Limits.{Limits}
 use Rattle.fs_calls.specs.Tree as tree
 use Rattle.fs_calls.specs.Tree.{Tree}
-use Rattle.fs_calls.specs.Sights.{tree_shapes, has_any, is_full}
+use Rattle.fs_calls.specs.Sights.{tree_shapes, has_any}
 use Rattle.fs_calls.specs.Outcomes.{fault, resolution, parents_resolution, reply, after, replied, if_sound}
+use Rattle.fs_calls.specs.Forms as forms
 use Rattle.fs_calls.specs.Forms.{NodeCall}
 use Rattle.fs_calls.specs.declared.target.EntryCall.{EntryCall}
 use Rattle.fs_calls.specs.declared.target.EntryCall.TheVariants.{Mkdir, Mknod, Unlink, Rmdir}
@@ -28,25 +31,29 @@ pub record Gives (g g' : Slots) (found : Option Errno) (well : Reply) (new : Tre
   pub tree : tree_of g' ≡ if_sound found (tree_of g) new
   pub forest : IsForest g'
 
--- the same, of a call where a file has at most so many bytes
-pub record AnswersWithin (most : ℕ) (g g' : Slots) (call : Call) (r : Reply) : Type 0 where
-  pub reply : r ≡ reply most (tree_of g) call
-  pub tree : tree_of g' ≡ after most (tree_of g) call
+-- the same, of a call by these limits
+pub record AnswersWithin (limits : Limits) (g g' : Slots) (call : Call) (r : Reply) : Type 0 where
+  pub reply : r ≡ reply limits (tree_of g) call
+  pub tree : tree_of g' ≡ after limits (tree_of g) call
   pub forest : IsForest g'
 
--- the same, of a call that does not ask how many these are
+-- the same, of a call that no limit decides
 pub record Answers (g g' : Slots) (call : Call) (r : Reply) : Type 0 where
-  pub reply : (most : ℕ) → r ≡ reply most (tree_of g) call
-  pub tree : (most : ℕ) → tree_of g' ≡ after most (tree_of g) call
+  pub reply : (limits : Limits) → r ≡ reply limits (tree_of g) call
+  pub tree : (limits : Limits) → tree_of g' ≡ after limits (tree_of g) call
   pub forest : IsForest g'
 
 -- the first error of such a call, or that it has none
 abbrev pub HasFault : Tree → Call → Option Errno → Type 0
-HasFault t call o = (most : ℕ) → fault most t call ≡ o
+HasFault t call o = (limits : Limits) → fault limits t call ≡ o
 
--- such a call needs memory
+-- the same of a call by these limits
+abbrev pub HasFaultBy : Limits → Tree → Call → Option Errno → Type 0
+HasFaultBy limits t call o = fault limits t call ≡ o
+
+-- a call that no limit decides needs memory
 abbrev pub NeedsMemory : Tree → Call → Type 0
-NeedsMemory t call = (most : ℕ) → IsTrue (needs_memory most t call)
+NeedsMemory t call = (limits : Limits) → IsTrue (needs_memory limits t call)
 
 -- what a node is in a tree
 abbrev pub tree_node : Node → tree.Node
@@ -61,21 +68,21 @@ call_on Unlink p = calls.Unlink p
 call_on Rmdir p = calls.Rmdir p
 
 -- the errors of the calls that make a node
-unfoldable pub making_fault : Tree → Key → Option Errno
-making_fault t p = or_else (check (is_root p) Eexist) (entry_fault Mkdir (parents_resolution t p) (is_full (tree_shapes t (parent_of p))) (tree_shapes t p))
+unfoldable pub making_fault : Limits → Tree → Key → Option Errno
+making_fault limits t p = or_else (check (is_root p) Eexist) (entry_fault (forms.Mkdir (entry_limit limits)) (parents_resolution t p) (tree_shapes t (parent_of p)) (tree_shapes t p))
 
 -- a directory in which a path's last name can be made, and the place where it belongs
-pub record IsGap (g : Slots) (p : Key) (dir i : ℕ) : Type 0 where
-  pub sound : making_fault (tree_of g) p ≡ None
+pub record IsGap (limits : Limits) (g : Slots) (p : Key) (dir i : ℕ) : Type 0 where
+  pub sound : making_fault limits (tree_of g) p ≡ None
   pub named : 0 < length p
   pub parent : walk g (parent_of p) ≡ Some dir
   pub directory : place_at g dir ≡ Some (Dir (links_at g dir))
   pub belongs : BelongsAt (links_at g dir) (last_of p) i
 
 -- a gap that was found, or why there is none
-abbrev pub FindsGap : Slots → Key → Result (ℕ × ℕ) Errno → Type 0
-FindsGap g p (Ok at) = IsGap g p at.0 at.1
-FindsGap g p (Err e) = making_fault (tree_of g) p ≡ Some e
+abbrev pub FindsGap : Limits → Slots → Key → Result (ℕ × ℕ) Errno → Type 0
+FindsGap limits g p (Ok at) = IsGap limits g p at.0 at.1
+FindsGap limits g p (Err e) = making_fault limits (tree_of g) p ≡ Some e
 
 -- a new place under a number that had none, and an entry for it
 pub record Attaches (g g' : Slots) (dir i : ℕ) (x : Name) (new : Place) : Type 0 where

@@ -2,9 +2,10 @@
 use Rattle.std.specs.Prelude.{◌≡◌, ◌≢◌, ℕ, insert, remove, slice_set, Some, None, Result, Ok, Err}
 use Rattle.fs_names.specs.Names.{Name}
 use Rattle.fs_names.specs.Keys.{Key}
+use Rattle.fs_names.specs.declared.limits.Limits.{Limits}
 use Rattle.fs_slab.specs.code.Slots.{Slots, Dir, links_at, tree_of, Sets}
 use Rattle.fs_slab.specs.code.Nodes.{IsFree, IsAt}
-use Rattle.fs_seq.specs.code.Effects.{HasFault}
+use Rattle.fs_seq.specs.code.Effects.{HasFaultBy}
 use Rattle.fs_calls.specs.declared.call.Call.TheVariants.{Rename}
 use Rattle.fs_calls.specs.declared.errno.Errno.{Errno}
 use Rattle.fs_slab.specs.declared.nodes.Entry.{Entry}
@@ -12,17 +13,17 @@ use Rattle.fs_seq.specs.declared.rename.Plan.{Plan}
 use Rattle.fs_seq.specs.declared.rename.Plan.TheVariants.{Stay, Onto, Within, Across}
 
 -- a rename without an error, of one path to another
-pub record Moves (g : Slots) (p q : Key) : Type 0 where
-  pub allowed : HasFault (tree_of g) (Rename p q) None
+pub record Moves (limits : Limits) (g : Slots) (p q : Key) : Type 0 where
+  pub allowed : HasFaultBy limits (tree_of g) (Rename p q) None
   pub differ : p ≢ q
 
 -- nothing to do, an entry onto another, an entry of a new name in its directory, or an entry to another directory; or the first error
-abbrev pub Plans : Slots → Key → Key → Result Plan Errno → Type 0
-Plans g p q (Ok Stay) = HasFault (tree_of g) (Rename p q) None × (p ≡ q)
-Plans g p q (Ok (Onto entry victim)) = Moves g p q × IsAt g p entry × IsAt g q victim
-Plans g p q (Ok (Within entry)) = Moves g p q × IsAt g p entry × ((i entries : ℕ) × IsFree g q entry.dir i entries)
-Plans g p q (Ok (Across entry dir i)) = Moves g p q × IsAt g p entry × ((entries : ℕ) × IsFree g q dir i entries) × (entry.dir ≢ dir)
-Plans g p q (Err e) = HasFault (tree_of g) (Rename p q) (Some e)
+abbrev pub Plans : Limits → Slots → Key → Key → Result Plan Errno → Type 0
+Plans limits g p q (Ok Stay) = HasFaultBy limits (tree_of g) (Rename p q) None × (p ≡ q)
+Plans limits g p q (Ok (Onto entry victim)) = Moves limits g p q × IsAt g p entry × IsAt g q victim
+Plans limits g p q (Ok (Within entry)) = Moves limits g p q × IsAt g p entry × ((i entries : ℕ) × IsFree g q entry.dir i entries)
+Plans limits g p q (Ok (Across entry dir i)) = Moves limits g p q × IsAt g p entry × ((entries : ℕ) × IsFree g q dir i entries) × (entry.dir ≢ dir)
+Plans limits g p q (Err e) = HasFaultBy limits (tree_of g) (Rename p q) (Some e)
 
 -- an entry is led to the node of another one, which is taken out, and its own node is removed
 pub record Displaces (g g' : Slots) (entry victim : Entry) (x : Name) : Type 0 where

@@ -5,7 +5,6 @@ use Rattle.std.specs.FinMap.Entries.{where_key}
 use Rattle.fs_names.specs.Names.{Name, name_cmp, same_name}
 use Rattle.fs_names.specs.Keys.{Key, parent_of, last_of}
 use Rattle.fs_names.specs.Shapes.{Shape}
-use Rattle.fs_names.specs.declared.limits.TheConstants.{ENTRY_LIMIT}
 use Rattle.slab.specs.Slab.{Slab}
 use Rattle.fs_calls.specs.declared.errno.Errno.{Errno}
 use Rattle.fs_calls.specs.declared.errno.Errno.TheVariants.{Enoent, Enotdir}
@@ -133,7 +132,7 @@ abbrev pub entry_there : Spot → Option Entry
 entry_there (Taken dir i n) = Some (record { dir = dir; place = i; node = n })
 entry_there (Free dir i entries) = None
 
--- whether the directory has no place for the name; a name that stands there has its own
-abbrev pub full_there : Spot → Bool
-full_there (Taken dir i n) = false
-full_there (Free dir i entries) = nat_le ENTRY_LIMIT entries
+-- whether the directory, which has at most so many entries, has no place for the name; a name that stands there has its own
+abbrev pub full_there : ℕ → Spot → Bool
+full_there most (Taken dir i n) = false
+full_there most (Free dir i entries) = nat_le most entries

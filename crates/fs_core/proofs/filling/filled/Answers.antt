@@ -2,7 +2,6 @@ use Rattle.std.proofs.Common.{◌≡◌, ◌<◌, ◌≤◌, ◌+◌, ℕ, None,
 use Rattle.std.specs.Prelude.{slice_get}
 use Rattle.std.proofs.lemmas.List.{length-map}
 use Rattle.std.proofs.lemmas.Option.{slice_get-get_or}
-use Rattle.fs_names.specs.Limits.{file_limit}
 use Rattle.fs_calls.specs.Tree.{Tree}
 use Rattle.fs_nodes.specs.Seen.{Seen}
 use Rattle.fs_nodes.specs.Stores.{graph_of, used_below}
@@ -19,9 +18,9 @@ pub loop-i-init : goal.loop-i-init
 loop-i-init c =
     let limits = c.args.start.now.limits in
     let graph = ap (λ (s : Seen). s.graph) c.in-Ok-new.ensures in
-    let fit : misfit (file_limit limits) c.in-Ok.rows.items ≡ None = rows_fit (file_limit limits) c.in-Ok.rows.items c.args.start.now.tree c.in-Ok.ensures.tree c.in-Ok.ensures.plain c.requires.within in
+    let fit : misfit limits c.in-Ok.rows.items ≡ None = rows_fit limits c.in-Ok.rows.items c.args.start.now.tree c.in-Ok.ensures.tree c.in-Ok.ensures.plain c.requires.within in
     record {
-      starts = root_starts c.args.limit limits (map row_of (take 1 c.in-Ok.rows.items)) (graph_of c.in-Ok-new.store) c.requires.least (first_is_root (file_limit limits) c.in-Ok.rows.items fit) graph;
+      starts = root_starts c.args.limit limits (map row_of (take 1 c.in-Ok.rows.items)) (graph_of c.in-Ok-new.store) c.requires.least (first_is_root limits c.in-Ok.rows.items fit) graph;
       count = root_count c.args.limit (graph_of c.in-Ok-new.store) c.requires.least graph;
       limit = ap (λ (s : Seen). s.limit) c.in-Ok-new.ensures;
       holders = c.in-Ok-make_room.ensures.holders ∙ c.new-holders.ensures.holders;
@@ -34,10 +33,10 @@ add_row-requires-clause-can c =
     let rows = c.in-Ok.rows.items in
     let i = c.loop-i.i in
     let row = c.index.result.now in
-    let fit : misfit (file_limit limits) rows ≡ None = rows_fit (file_limit limits) rows c.args.start.now.tree c.in-Ok.ensures.tree c.in-Ok.ensures.plain c.requires.within in
+    let fit : misfit limits rows ≡ None = rows_fit limits rows c.args.start.now.tree c.in-Ok.ensures.tree c.in-Ok.ensures.plain c.requires.within in
     let within : i < length rows = omega (arith, c.loop-i-test.true, c.len-i-end.ensures, c.in-Ok.rows.ok.0) in
     let at : slice_get rows i ≡ Some row = slice_get-get_or rows i row within ∙ ap (λ (r : Row). Some r) (sym c.index.ensures) in
-    can_add c.args.limit limits (map row_of (take i rows)) (graph_of c.loop-i.store) row c.loop-i.invariant.starts (fits_each (file_limit limits) rows i row fit c.loop-i.auto.i at)
+    can_add c.args.limit limits (map row_of (take i rows)) (graph_of c.loop-i.store) row c.loop-i.invariant.starts (fits_each limits rows i row fit c.loop-i.auto.i at)
 
 pub loop-i-preserved : goal.loop-i-preserved
 loop-i-preserved c =
@@ -48,13 +47,13 @@ loop-i-preserved c =
     let old = graph_of c.loop-i.store in
     let new = graph_of c.add_row.new.store in
     let before = c.loop-i.invariant in
-    let fit : misfit (file_limit limits) rows ≡ None = rows_fit (file_limit limits) rows c.args.start.now.tree c.in-Ok.ensures.tree c.in-Ok.ensures.plain c.requires.within in
+    let fit : misfit limits rows ≡ None = rows_fit limits rows c.args.start.now.tree c.in-Ok.ensures.tree c.in-Ok.ensures.plain c.requires.within in
     let within : i < length rows = omega (arith, c.loop-i-test.true, c.len-i-end.ensures, c.in-Ok.rows.ok.0) in
     let at : slice_get rows i ≡ Some row = slice_get-get_or rows i row within ∙ ap (λ (r : Row). Some r) (sym c.index.ensures) in
     let node = c.in_ok-add_row.ensures.added.0 in
     let added : IsAdded c.args.limit old new row node = subst (λ (limit : ℕ). IsAdded limit old new row node) before.limit c.in_ok-add_row.ensures.added.1 in
     record {
-      starts = subst (λ (t : Tree). IsStart c.args.limit (record { limits = limits; tree = t }) new) (sym (one_more_row rows i row at)) (added_starts c.args.limit limits (map row_of (take i rows)) old new row node before.starts (fits_each (file_limit limits) rows i row fit c.loop-i.auto.i at) added);
+      starts = subst (λ (t : Tree). IsStart c.args.limit (record { limits = limits; tree = t }) new) (sym (one_more_row rows i row at)) (added_starts c.args.limit limits (map row_of (take i rows)) old new row node before.starts (fits_each limits rows i row fit c.loop-i.auto.i at) added);
       count = added_count c.args.limit old new row node before.starts.is_graph added ∙ ap (λ (n : ℕ). n + 1) before.count;
       limit = c.in_ok-add_row.ensures.limit ∙ before.limit;
       holders = c.in_ok-add_row.ensures.holders ∙ before.holders;

@@ -12,6 +12,6 @@ use Rattle.fs_finish.proofs.carrying.answer_at.Goals as goal
 pub returns-in-Node-clause-made : goal.returns-in-Node-clause-made
 returns-in-Node-clause-made c =
     let old = c.args.store.now in
-    subst (λ (f : Form). IsEffect (answered_at (graph_of old) f c.args.node c.args.reserved) c.kept.result (graph_of c.answer.new.store)) (sym (ap (form_of c.args.most) c.in-Node.is))
-    (row_effect (graph_of old) c.args.node c.args.reserved (node_row (node_call c.args.most c.in-Node.call) None (shape old c.args.node)) c.kept.result (graph_of c.answer.new.store)
+    subst (λ (f : Form). IsEffect (answered_at (graph_of old) f c.args.node c.args.reserved) c.kept.result (graph_of c.answer.new.store)) (sym (ap (form_of c.args.limits) c.in-Node.is))
+    (row_effect (graph_of old) c.args.node c.args.reserved (node_row (node_call c.args.limits c.in-Node.call) None (shape old c.args.node)) c.kept.result (graph_of c.answer.new.store)
     (ap (λ f. f.replies) c.kept.ensures ∙ c.answer.ensures.reply) (ap (λ f. f.reserved) c.kept.ensures) (ap (λ f. f.removed) c.kept.ensures) (ap (λ (s : Seen). s.graph) c.answer.ensures.change))

@@ -22,7 +22,7 @@ pub returns-then-has_room : goal.returns-then-has_room
 returns-then-has_room c = λ h r is each are.
     let s = c.index-reached.result.now in
     let t = c.in_ok-reached.reached in
-    let room : false ≡ false → HasRoom (length c.args.calls.now) (start_tree t.configuration.now) = λ e. c.has_room.ensures c.if-has_room.true in
+    let room : false ≡ false → HasRoom t.configuration.now.limits (length c.args.calls.now) (start_tree t.configuration.now) = λ e. c.has_room.ensures c.if-has_room.true in
     follows_commits_at h c.args.number false r s t c.args.calls.now c.args.near.now c.args.links.now.items c.add_commits.new.links.items c.args.layer.now.items c.add_commits.new.layer.items c.args.place is c.index-reached.ensures
     c.in_ok-reached.ensures.configuration c.in_ok-reached.ensures.last each are room (c.in_ok-add_commits.ensures h)
 
@@ -32,6 +32,6 @@ returns c = λ h r is each near_it.
     let t = c.in_ok-reached.reached in
     let near = c.deref.result.now in
     let are = subst (λ (us : List UnderWay). AreNear c.args.number true c.args.calls.now us) (sym c.deref.ensures.value) c.in_ok-near.ensures in
-    let room : true ≡ false → HasRoom (length c.args.calls.now) (start_tree t.configuration.now) = λ e. absurd (cc) in
+    let room : true ≡ false → HasRoom t.configuration.now.limits (length c.args.calls.now) (start_tree t.configuration.now) = λ e. absurd (cc) in
     follows_commits_at h c.args.number true r s t c.args.calls.now near c.args.links.now.items c.add_commits-2.new.links.items c.args.layer.now.items c.add_commits-2.new.layer.items c.args.place is c.index-reached.ensures
     c.in_ok-reached.ensures.configuration c.in_ok-reached.ensures.last each are room (c.in_ok-add_commits-2.ensures h)

@@ -1,4 +1,5 @@
 use Rattle.std.proofs.Common.{Some, subst, Option, ap, ◌∙◌}
+use Rattle.fs_names.specs.declared.limits.Limits.TheVariants.{V1}
 use Rattle.fs_calls.specs.Forms.{reserves}
 use Rattle.fs_names.specs.Shapes.{Shape}
 use Rattle.fs_nodes.specs.Seen.{Seen, seen}
@@ -14,7 +15,7 @@ returns-in_ok-reserve_counted-in-Some-clause-ok c =
     let new = graph_of c.reserve_counted.new.self in
     let r = c.in_ok-reserve_counted-in-Some.ensures in
     let n = c.in_ok-reserve_counted-in-Some.field-0 in
-    subst (λ (o : Option Shape). HasReserved (graph_of old) (seen old).limit o (Some n) new) (c.in-Some.ensures 0 ∙ ap reserves c.target.ensures.by_text) (record {
+    subst (λ (o : Option Shape). HasReserved (graph_of old) (seen old).limit o (Some n) new) (c.in-Some.ensures V1 ∙ ap reserves c.target.ensures.by_text) (record {
       reserves = record { within = r.within; free = r.free; added = ap (λ (s : Seen). s.graph) r.change };
       spare = only n (IsSpare new) (reserved_spare (graph_of old) c.in-Some.kind n new r.unlinked r.not_root (ap (λ (s : Seen). s.graph) r.change));
     })

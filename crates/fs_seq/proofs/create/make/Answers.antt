@@ -7,4 +7,4 @@ pub returns-in_ok-attach-in-Ok-clause-given : goal.returns-in_ok-attach-in-Ok-cl
 returns-in_ok-attach-in-Ok-clause-given c =
     let named : 0 < length c.args.path.now = c.in-Ok.ensures.named in
     let len : (c.len.result - 1) + 1 ≡ length c.args.path.now = omega (arith, c.len.ensures.len) in
-    is_made (graph c.args.nodes.now) (graph c.attach.new.nodes) c.args.path.now (c.len.result - 1) c.in-Ok.dir c.in-Ok.i c.name.result.now c.args.node c.requires.forest c.requires.bare c.in-Ok.ensures len c.name.ensures c.in_ok-attach-in-Ok.ensures.ok
+    is_made c.args.limits (graph c.args.nodes.now) (graph c.attach.new.nodes) c.args.path.now (c.len.result - 1) c.in-Ok.dir c.in-Ok.i c.name.result.now c.args.node c.requires.forest c.requires.bare c.in-Ok.ensures len c.name.ensures c.in_ok-attach-in-Ok.ensures.ok

@@ -4,16 +4,16 @@ use Rattle.fs_slab.specs.code.Slots.{tree_of}
 use Rattle.fs_seq.specs.code.Effects.{making_fault}
 use Rattle.fs_calls.specs.declared.call.Call.TheVariants.{Mkdir}
 use Rattle.fs_seq.proofs.Made.{mkdir_fault}
-use Rattle.fs_seq.proofs.Replies.{answers, at_each, needs, IfOk-map, OnErr-map}
+use Rattle.fs_seq.proofs.Replies.{answers, needs, IfOk-map, OnErr-map}
 use Rattle.fs_seq.proofs.create.mkdir.Goals as goal
 
 pub returns-clause-given : goal.returns-clause-given
 returns-clause-given c =
     let g = graph c.args.nodes.now in
     let p = c.args.path.now in
-    IfOk-map c.make.result (λ r given. at_each g (graph c.make.new.nodes) (Mkdir p) r (λ most. answers most g (graph c.make.new.nodes) (Mkdir p) (making_fault (tree_of g) p) _ _ r (mkdir_fault most (tree_of g) p) refl refl given)) c.make.ensures.given
+    IfOk-map c.make.result (λ r given. answers c.args.limits g (graph c.make.new.nodes) (Mkdir p) (making_fault c.args.limits (tree_of g) p) _ _ r (mkdir_fault c.args.limits (tree_of g) p) refl refl given) c.make.ensures.given
 
 pub returns-clause-memory : goal.returns-clause-memory
 returns-clause-memory c =
     let t = tree_of (graph c.args.nodes.now) in
-    OnErr-map c.make.result (λ sound most. needs most t (Mkdir c.args.path.now) (mkdir_fault most t c.args.path.now ∙ sound) refl) c.make.ensures.memory
+    OnErr-map c.make.result (λ sound. needs c.args.limits t (Mkdir c.args.path.now) (mkdir_fault c.args.limits t c.args.path.now ∙ sound) refl) c.make.ensures.memory

@@ -5,16 +5,16 @@ use Rattle.fs_slab.specs.code.Slots.{tree_of}
 use Rattle.fs_seq.specs.code.Effects.{making_fault}
 use Rattle.fs_calls.specs.declared.call.Call.TheVariants.{Mknod}
 use Rattle.fs_seq.proofs.Made.{mknod_fault}
-use Rattle.fs_seq.proofs.Replies.{answers, at_each, needs, IfOk-map, OnErr-map}
+use Rattle.fs_seq.proofs.Replies.{answers, needs, IfOk-map, OnErr-map}
 use Rattle.fs_seq.proofs.create.mknod.Goals as goal
 
 pub returns-clause-given : goal.returns-clause-given
 returns-clause-given c =
     let g = graph c.args.nodes.now in
     let p = c.args.path.now in
-    IfOk-map c.make.result (λ r given. at_each g (graph c.make.new.nodes) (Mknod p) r (λ most. answers most g (graph c.make.new.nodes) (Mknod p) (making_fault (tree_of g) p) _ _ r (mknod_fault most (tree_of g) p) refl (ap (λ z. inserted (tree_of g) p (File z)) (sym c.new.ensures.items)) given)) c.make.ensures.given
+    IfOk-map c.make.result (λ r given. answers c.args.limits g (graph c.make.new.nodes) (Mknod p) (making_fault c.args.limits (tree_of g) p) _ _ r (mknod_fault c.args.limits (tree_of g) p) refl (ap (λ z. inserted (tree_of g) p (File z)) (sym c.new.ensures.items)) given) c.make.ensures.given
 
 pub returns-clause-memory : goal.returns-clause-memory
 returns-clause-memory c =
     let t = tree_of (graph c.args.nodes.now) in
-    OnErr-map c.make.result (λ sound most. needs most t (Mknod c.args.path.now) (mknod_fault most t c.args.path.now ∙ sound) refl) c.make.ensures.memory
+    OnErr-map c.make.result (λ sound. needs c.args.limits t (Mknod c.args.path.now) (mknod_fault c.args.limits t c.args.path.now ∙ sound) refl) c.make.ensures.memory

@@ -11,7 +11,7 @@ use Rattle.fs_seq.proofs.exchange.exchange.Goals as goal
 pub returns-in-Err : goal.returns-in-Err
 returns-in-Err c =
     let g = graph c.args.nodes.now in
-    at_each g g (Exchange c.args.path.now c.args.other.now) _ (λ most. refused most g g (Exchange c.args.path.now c.args.other.now) c.in-Err.errno refl c.requires (c.in-Err.ensures most))
+    at_each g g (Exchange c.args.path.now c.args.other.now) _ (λ limits. refused limits g g (Exchange c.args.path.now c.args.other.now) c.in-Err.errno refl c.requires (c.in-Err.ensures limits))
 
 pub returns : goal.returns
 returns c =

@@ -9,7 +9,7 @@ use Rattle.fs_seq.proofs.exchange.find_both.Goals.{in_default-2-via-in-Some+in_d
 use Rattle.fs_seq.proofs.exchange.find_both.Goals as goal
 
 pub returns-in-Some : goal.returns-in-Some
-returns-in-Some c most = fault_by_paths most _ _ c.in-Some.errno (sym c.exchange_error.ensures ∙ c.in-Some.is)
+returns-in-Some c limits = fault_by_paths limits _ _ c.in-Some.errno (sym c.exchange_error.ensures ∙ c.in-Some.is)
 
 pub returns-in-Err : goal.returns-in-Err
 returns-in-Err c = lost (graph c.args.nodes.now) c.requires c.args.path.now c.args.other.now (sym c.exchange_error.ensures ∙ c.in_default.is) c.in-Err.errno c.in-Err.ensures
@@ -29,9 +29,9 @@ sight-requires-2 c =
     record { there = spot_kept c.args.nodes.now c.requires c.args.other.now (other_named (graph c.args.nodes.now) c.requires c.args.path.now c.args.other.now text) c.in-Ok-look_up.spot c.in-Ok-look_up.ensures }
 
 pub returns-in-Some-error : goal.returns-in-Some-error
-returns-in-Some-error c most =
+returns-in-Some-error c limits =
     let g = graph c.args.nodes.now in
-    met g c.requires c.args.path.now c.args.other.now (sym c.exchange_error.ensures ∙ c.in_default.is) c.in-Ok.spot c.in-Ok-look_up.spot c.in-Ok.ensures c.in-Ok-look_up.ensures most
+    met g c.requires c.args.path.now c.args.other.now (sym c.exchange_error.ensures ∙ c.in_default.is) c.in-Ok.spot c.in-Ok-look_up.spot c.in-Ok.ensures c.in-Ok-look_up.ensures limits
     ∙ sym (c.error.ensures (shape_there g c.in-Ok.spot) (shape_there g c.in-Ok-look_up.spot) (sym c.sight.ensures) (sym c.sight-2.ensures)) ∙ c.in-Some-error.is
 
 pub unreachable-requires : goal.unreachable-requires
@@ -47,7 +47,7 @@ unreachable-requires c =
 pub returns : goal.returns
 returns c =
     let g = graph c.args.nodes.now in (
-      λ most. met g c.requires c.args.path.now c.args.other.now (sym c.exchange_error.ensures ∙ c.in_default.is) c.in-Ok.spot c.in-Ok-look_up.spot c.in-Ok.ensures c.in-Ok-look_up.ensures most
+      λ limits. met g c.requires c.args.path.now c.args.other.now (sym c.exchange_error.ensures ∙ c.in_default.is) c.in-Ok.spot c.in-Ok-look_up.spot c.in-Ok.ensures c.in-Ok-look_up.ensures limits
           ∙ sym (c.error.ensures (shape_there g c.in-Ok.spot) (shape_there g c.in-Ok-look_up.spot) (sym c.sight.ensures) (sym c.sight-2.ensures)) ∙ c.in_default-error.is,
       at_path g c.args.path.now c.in-Ok.spot c.in-Some-Some.one c.in-Ok.ensures (sym c.entry.ensures ∙ c.in-Some-Some.is-0),
       at_path g c.args.other.now c.in-Ok-look_up.spot c.in-Some-Some.two c.in-Ok-look_up.ensures (sym c.entry-2.ensures ∙ c.in-Some-Some.is-1),

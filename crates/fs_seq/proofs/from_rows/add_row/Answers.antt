@@ -4,8 +4,8 @@ use Rattle.fs_seq.proofs.from_rows.add_row.Goals as goal
 
 pub returns-clause-forest : goal.returns-clause-forest
 returns-clause-forest c =
-    forest_added c.args.most (graph c.args.nodes.now) (graph c.attach.new.nodes) c.requires.forest c.args.row.now c.in-Some.dir c.in-Some.i c.in-Some.name.now c.in_ok-node.node c.in_ok-node.ensures.bare c.in-Some.ensures c.in_ok-attach.ensures.ok
+    forest_added c.args.limits (graph c.args.nodes.now) (graph c.attach.new.nodes) c.requires.forest c.args.row.now c.in-Some.dir c.in-Some.i c.in-Some.name.now c.in_ok-node.node c.in_ok-node.ensures.bare c.in-Some.ensures c.in_ok-attach.ensures.ok
 
 pub returns-clause-tree : goal.returns-clause-tree
 returns-clause-tree c = λ fit.
-    tree_added c.args.most (graph c.args.nodes.now) (graph c.attach.new.nodes) c.requires.forest c.args.row.now c.in-Some.dir c.in-Some.i c.in-Some.name.now c.in_ok-node.node c.in_ok-node.ensures.bare c.in-Some.ensures c.in_ok-attach.ensures.ok c.in_ok-node.ensures.node
+    tree_added c.args.limits (graph c.args.nodes.now) (graph c.attach.new.nodes) c.requires.forest c.args.row.now c.in-Some.dir c.in-Some.i c.in-Some.name.now c.in_ok-node.node c.in_ok-node.ensures.bare c.in-Some.ensures c.in_ok-attach.ensures.ok c.in_ok-node.ensures.node

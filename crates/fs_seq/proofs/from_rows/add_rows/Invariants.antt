@@ -9,5 +9,5 @@ abbrev pub invariant-loop-i : goal.invariant-loop-i
 invariant-loop-i l = record {
   forest : IsForest (graph l.nodes);
   tree : tree_of (graph l.nodes) ≡ map row_of (take l.i l.rows);
-  rest : misfit_from l.most (map row_of (take l.i l.rows)) (l.i + 1) (drop l.i l.rows) ≡ misfit l.most l.rows;
+  rest : misfit_from l.limits (map row_of (take l.i l.rows)) (l.i + 1) (drop l.i l.rows) ≡ misfit l.limits l.rows;
 }

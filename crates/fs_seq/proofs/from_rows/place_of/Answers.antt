@@ -11,11 +11,11 @@ use Rattle.fs_seq.proofs.Appended.{fails_at_root, fails_lost, fails_in_file, fai
 use Rattle.fs_seq.proofs.from_rows.place_of.Goals as goal
 
 pub returns-in_default : goal.returns-in_default
-returns-in_default c = fails_at_root c.args.most (graph c.args.nodes.now) c.requires.forest c.args.row.now (ap length (sym c.deref.ensures.value) ∙ c.in_default.ensures.cases)
+returns-in_default c = fails_at_root c.args.limits (graph c.args.nodes.now) c.requires.forest c.args.row.now (ap length (sym c.deref.ensures.value) ∙ c.in_default.ensures.cases)
 
 pub returns-in_default-reached : goal.returns-in_default-reached
 returns-in_default-reached c =
-    fails_lost c.args.most (graph c.args.nodes.now) c.requires.forest c.args.row.now c.in-Some.parent.now c.in-Some.name.now (sym c.deref.ensures.value ∙ c.in-Some.ensures.cases.0) (sym c.reached.ensures ∙ c.in_default-reached.is)
+    fails_lost c.args.limits (graph c.args.nodes.now) c.requires.forest c.args.row.now c.in-Some.parent.now c.in-Some.name.now (sym c.deref.ensures.value ∙ c.in-Some.ensures.cases.0) (sym c.reached.ensures ∙ c.in_default-reached.is)
 
 pub index-requires : goal.index-requires
 index-requires c = has_key c.args.nodes.now c.in-Some-reached.dir (c.requires.forest.inside _ _ (sym c.in-Some-reached.ensures))
@@ -27,14 +27,14 @@ search-requires c =
 
 pub returns-in-File : goal.returns-in-File
 returns-in-File c =
-    fails_in_file c.args.most (graph c.args.nodes.now) c.requires.forest c.args.row.now c.in-Some.parent.now c.in-Some.name.now (sym c.deref.ensures.value ∙ c.in-Some.ensures.cases.0) c.in-Some-reached.dir (sym c.in-Some-reached.ensures) _
+    fails_in_file c.args.limits (graph c.args.nodes.now) c.requires.forest c.args.row.now c.in-Some.parent.now c.in-Some.name.now (sym c.deref.ensures.value ∙ c.in-Some.ensures.cases.0) c.in-Some-reached.dir (sym c.in-Some-reached.ensures) _
     (place_got c.args.nodes.now c.in-Some-reached.dir _ (c.index.ensures ∙ ap Some c.in-File.is))
 
 pub returns-then-is_full : goal.returns-then-is_full
 returns-then-is_full c =
-    fails_full c.args.most (graph c.args.nodes.now) c.requires.forest c.args.row.now c.in-Some.parent.now c.in-Some.name.now (sym c.deref.ensures.value ∙ c.in-Some.ensures.cases.0) c.in-Some-reached.dir (sym c.in-Some-reached.ensures) (pairs c.in-Dir.links.items)
+    fails_full c.args.limits (graph c.args.nodes.now) c.requires.forest c.args.row.now c.in-Some.parent.now c.in-Some.name.now (sym c.deref.ensures.value ∙ c.in-Some.ensures.cases.0) c.in-Some-reached.dir (sym c.in-Some-reached.ensures) (pairs c.in-Dir.links.items)
     (place_got c.args.nodes.now c.in-Some-reached.dir _ (c.index.ensures ∙ ap Some c.in-Dir.is))
-    (ap (nat_le 256) (length-pairs c.in-Dir.links.items ∙ sym c.in-Dir.links.ok.0 ∙ sym c.len.ensures) ∙ sym c.is_full.ensures ∙ c.if-is_full.true)
+    ((λ i. nat_le (sym c.entries.ensures i) ((length-pairs c.in-Dir.links.items ∙ sym c.in-Dir.links.ok.0 ∙ sym c.len.ensures) i)) ∙ sym c.is_full.ensures ∙ c.if-is_full.true)
 
 pub returns-in-Ok : goal.returns-in-Ok
 returns-in-Ok c =
@@ -42,15 +42,15 @@ returns-in-Ok c =
     let less : key_cmp (last_key (tree_of g)) (key_of c.args.row.now) ≡ Less = ap (λ k. key_cmp k (key_of c.args.row.now)) c.requires.last ∙ sym c.cmp.ensures ∙ less_by_index c.cmp.result c.ne.result c.ne.ensures c.if-ne.false in
     let at = place_got c.args.nodes.now c.in-Some-reached.dir _ (c.index.ensures ∙ ap Some c.in-Dir.is) in
     let to = stands_to (pairs c.deref-in-Dir.result.now) c.in-Some.name.now c.in-Ok.field-0 c.in-Ok.ensures in
-    absurd (not_there c.args.most g c.requires.forest c.args.row.now c.in-Some.parent.now c.in-Some.name.now (sym c.deref.ensures.value ∙ c.in-Some.ensures.cases.0) c.in-Some-reached.dir (sym c.in-Some-reached.ensures) to.0 less
+    absurd (not_there c.args.limits g c.requires.forest c.args.row.now c.in-Some.parent.now c.in-Some.name.now (sym c.deref.ensures.value ∙ c.in-Some.ensures.cases.0) c.in-Some-reached.dir (sym c.in-Some-reached.ensures) to.0 less
     (child_got g c.in-Some-reached.dir c.in-Some.name.now _ at ∙ ap (λ links. find name_cmp c.in-Some.name.now (pairs links)) (sym c.deref-in-Dir.ensures.value) ∙ to.1))
 
 pub returns-in-Err : goal.returns-in-Err
 returns-in-Err c =
     let g = graph c.args.nodes.now in
     let less : key_cmp (last_key (tree_of g)) (key_of c.args.row.now) ≡ Less = ap (λ k. key_cmp k (key_of c.args.row.now)) c.requires.last ∙ sym c.cmp.ensures ∙ less_by_index c.cmp.result c.ne.result c.ne.ensures c.if-ne.false in
-    is_place c.args.most g c.requires.forest c.args.row.now c.in-Some.parent.now c.in-Some.name.now (sym c.deref.ensures.value ∙ c.in-Some.ensures.cases.0) c.in-Some-reached.dir (sym c.in-Some-reached.ensures) (pairs c.in-Dir.links.items) c.in-Err.i less
+    is_place c.args.limits g c.requires.forest c.args.row.now c.in-Some.parent.now c.in-Some.name.now (sym c.deref.ensures.value ∙ c.in-Some.ensures.cases.0) c.in-Some-reached.dir (sym c.in-Some-reached.ensures) (pairs c.in-Dir.links.items) c.in-Err.i less
     (place_got c.args.nodes.now c.in-Some-reached.dir _ (c.index.ensures ∙ ap Some c.in-Dir.is))
-    (ap (nat_le 256) (length-pairs c.in-Dir.links.items ∙ sym c.in-Dir.links.ok.0 ∙ sym c.len.ensures) ∙ sym c.is_full.ensures ∙ c.if-is_full.false)
+    ((λ i. nat_le (sym c.entries.ensures i) ((length-pairs c.in-Dir.links.items ∙ sym c.in-Dir.links.ok.0 ∙ sym c.len.ensures) i)) ∙ sym c.is_full.ensures ∙ c.if-is_full.false)
     (sym c.may_have.ensures ∙ c.if-not-may_have.false)
     (rw c.deref-in-Dir.ensures.value at c.in-Err.ensures)

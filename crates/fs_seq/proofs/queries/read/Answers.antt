@@ -1,4 +1,5 @@
 use Rattle.std.proofs.Common.{refl, ap, sym, ◌∙◌, take, drop}
+use Rattle.fs_names.specs.Limits.{file_limit}
 use Rattle.fs_calls.specs.Forms as forms
 use Rattle.fs_calls.specs.Sights.{bytes_of, has_any}
 use Rattle.fs_calls.specs.declared.call.Call.TheVariants.{Read}
@@ -10,20 +11,20 @@ use Rattle.fs_seq.proofs.Replies.{needs, on_err}
 use Rattle.fs_seq.proofs.queries.read.Goals as goal
 
 pub returns-in-Err-clause-reply : goal.returns-in-Err-clause-reply
-returns-in-Err-clause-reply c most =
+returns-in-Err-clause-reply c limits =
     let p = c.args.path.now in
-    failed_reply most (Read p c.args.off c.args.count) (forms.Read most c.args.off c.args.count) p refl (tree_of (graph c.args.nodes.now)) c.in-Err.errno c.in-Err.ensures
+    failed_reply limits (Read p c.args.off c.args.count) (forms.Read (file_limit limits) c.args.off c.args.count) p refl (tree_of (graph c.args.nodes.now)) c.in-Err.errno c.in-Err.ensures
 
 pub returns-in_ok-copy-in-Ok-clause-reply : goal.returns-in_ok-copy-in-Ok-clause-reply
-returns-in_ok-copy-in-Ok-clause-reply c most =
+returns-in_ok-copy-in-Ok-clause-reply c limits =
     let p = c.args.path.now in
     ap replies.Bytes (c.in_ok-copy-in-Ok.ensures.ok ∙ c.part.ensures ∙ ap (λ z. take c.args.count (drop c.args.off z)) c.bytes.ensures)
-    ∙ found_reply most (Read p c.args.off c.args.count) (forms.Read most c.args.off c.args.count) p refl (tree_of (graph c.args.nodes.now)) _ (record { sound = c.in-Ok.ensures.sound; shape = c.in-Ok.ensures.shape })
+    ∙ found_reply limits (Read p c.args.off c.args.count) (forms.Read (file_limit limits) c.args.off c.args.count) p refl (tree_of (graph c.args.nodes.now)) _ (record { sound = c.in-Ok.ensures.sound; shape = c.in-Ok.ensures.shape })
 
 pub returns-in_err-copy-in-Ok-clause-memory : goal.returns-in_err-copy-in-Ok-clause-memory
 returns-in_err-copy-in-Ok-clause-memory c =
     let p = c.args.path.now in
     let t = tree_of (graph c.args.nodes.now) in
-    on_err c.from_residual.result (λ most. needs most t (Read p c.args.off c.args.count)
-    (looking_fault most (Read p c.args.off c.args.count) (forms.Read most c.args.off c.args.count) p refl t ∙ c.in-Ok.ensures.sound)
+    on_err c.from_residual.result (λ limits. needs limits t (Read p c.args.off c.args.count)
+    (looking_fault limits (Read p c.args.off c.args.count) (forms.Read (file_limit limits) c.args.off c.args.count) p refl t ∙ c.in-Ok.ensures.sound)
     (ap (λ z. has_any (take c.args.count (drop c.args.off z))) (ap bytes_of c.in-Ok.ensures.shape ∙ sym c.bytes.ensures) ∙ ap has_any (sym c.part.ensures) ∙ c.in_err-copy-in-Ok.ensures.memory))

@@ -12,21 +12,21 @@ use Rattle.fs_seq.proofs.Looked.{failed_reply, found_reply}
 use Rattle.fs_seq.proofs.queries.stat.Goals as goal
 
 pub returns-in-Err : goal.returns-in-Err
-returns-in-Err c most =
+returns-in-Err c limits =
     let p = c.args.path.now in
-    failed_reply most (Stat p) forms.Stat p refl (tree_of (graph c.args.nodes.now)) c.in-Err.errno c.in-Err.ensures
+    failed_reply limits (Stat p) forms.Stat p refl (tree_of (graph c.args.nodes.now)) c.in-Err.errno c.in-Err.ensures
 
 pub returns-in-Ok-Dir : goal.returns-in-Ok-Dir
-returns-in-Ok-Dir c most =
+returns-in-Ok-Dir c limits =
     let p = c.args.path.now in
     let t = tree_of (graph c.args.nodes.now) in
     let found = subst (λ z. IsFound t forms.Stat p (place z)) c.in-Ok-Dir.field-0-is c.in-Ok-Dir.ensures in
     ap (replies.Stat kind.Dir) (c.len.ensures ∙ c.in-Ok-Dir.links.ok.0 ∙ sym (length-pairs c.in-Ok-Dir.links.items) ∙ sym (length-map (pairs c.in-Ok-Dir.links.items) (λ l. l.0)))
-    ∙ found_reply most (Stat p) forms.Stat p refl t _ found
+    ∙ found_reply limits (Stat p) forms.Stat p refl t _ found
 
 pub returns-in-Ok-File : goal.returns-in-Ok-File
-returns-in-Ok-File c most =
+returns-in-Ok-File c limits =
     let p = c.args.path.now in
     let t = tree_of (graph c.args.nodes.now) in
     let found = subst (λ z. IsFound t forms.Stat p (place z)) c.in-Ok-File.field-0-is c.in-Ok-File.ensures in
-    ap (replies.Stat kind.File) (c.len-in-Ok-File.ensures ∙ c.in-Ok-File.bytes.ok.0) ∙ found_reply most (Stat p) forms.Stat p refl t _ found
+    ap (replies.Stat kind.File) (c.len-in-Ok-File.ensures ∙ c.in-Ok-File.bytes.ok.0) ∙ found_reply limits (Stat p) forms.Stat p refl t _ found

@@ -1,6 +1,8 @@
-use Rattle.std.proofs.Common.{◌≡◌, ◌<◌, length, subst, sym, ap, ◌∙◌, arith, Some, None, Ok, false}
+use Rattle.std.proofs.Common.{◌≡◌, ◌<◌, length, subst, sym, ap, ◌∙◌, arith, Some, None, Ok, refl}
 use Rattle.fs_names.specs.Failures.{first_failure}
+use Rattle.fs_names.specs.declared.limits.Limits.TheVariants.{V1}
 use Rattle.fs_calls.specs.Forms.{root_error}
+use Rattle.fs_calls.specs.code.Targets.{entry_call}
 use Rattle.fs_calls.specs.Rows.{entry_errors, entry_fault}
 use Rattle.fs_slab.specs.code.Nodes.{graph, shape_there, LooksUp}
 use Rattle.fs_slab.specs.code.Slots.{tree_of, place_at, shape_of}
@@ -16,8 +18,8 @@ returns-then-len-eq0 c =
     let p = c.args.path.now in
     let e = c.args.entry in
     let g = graph c.args.nodes.now in
-    refused (call_on e p) p (root_error e) (λ parent there. entry_fault e parent false there) (entry_goes e c.requires.removes p) g c.root_error.result c.requires.forest
-    (λ most. root_fault (call_on e p) p (root_error e) (λ parent there. entry_fault e parent false there) (entry_goes e c.requires.removes p) (tree_of g) (sym c.len.ensures.len ∙ c.if-len-eq0.true) most ∙ ap Some (sym c.root_error.ensures))
+    refused (call_on e p) p (root_error (entry_call V1 e)) (λ parent there. entry_fault (entry_call V1 e) parent None there) (entry_goes e c.requires.removes p) g c.root_error.result c.requires.forest
+    (λ limits. root_fault (call_on e p) p (root_error (entry_call V1 e)) (λ parent there. entry_fault (entry_call V1 e) parent None there) (entry_goes e c.requires.removes p) (tree_of g) (sym c.len.ensures.len ∙ c.if-len-eq0.true) limits ∙ ap Some (sym (c.root_error.ensures V1)))
 
 pub returns-in-Err : goal.returns-in-Err
 returns-in-Err c =
@@ -25,7 +27,7 @@ returns-in-Err c =
     let e = c.args.entry in
     let g = graph c.args.nodes.now in
     let named : 0 < length p = omega (arith, c.len.ensures.len, c.if-len-eq0.false) in
-    refused (call_on e p) p (root_error e) (λ parent there. entry_fault e parent false there) (entry_goes e c.requires.removes p) g c.in-Err.errno c.requires.forest (parent_fault (call_on e p) p (root_error e) (λ parent there. entry_fault e parent false there) (entry_goes e c.requires.removes p) (tree_of g) c.in-Err.errno named c.in-Err.ensures)
+    refused (call_on e p) p (root_error (entry_call V1 e)) (λ parent there. entry_fault (entry_call V1 e) parent None there) (entry_goes e c.requires.removes p) g c.in-Err.errno c.requires.forest (parent_fault (call_on e p) p (root_error (entry_call V1 e)) (λ parent there. entry_fault (entry_call V1 e) parent None there) (entry_goes e c.requires.removes p) (tree_of g) c.in-Err.errno named c.in-Err.ensures)
 
 pub sight-requires : goal.sight-requires
 sight-requires c =
@@ -39,8 +41,8 @@ returns-in-Some c =
     let e = c.args.entry in
     let g = graph c.args.nodes.now in
     let named : 0 < length p = omega (arith, c.len.ensures.len, c.if-len-eq0.false) in
-    refused (call_on e p) p (root_error e) (λ parent there. entry_fault e parent false there) (entry_goes e c.requires.removes p) g c.in-Some.errno c.requires.forest
-    (λ most. spot_fault (call_on e p) p (root_error e) (λ parent there. entry_fault e parent false there) (entry_goes e c.requires.removes p) g c.in-Ok.spot c.requires.forest named c.in-Ok.ensures most ∙ sym (c.error.ensures (shape_there g c.in-Ok.spot) (sym c.sight.ensures)) ∙ c.in-Some.is)
+    refused (call_on e p) p (root_error (entry_call V1 e)) (λ parent there. entry_fault (entry_call V1 e) parent None there) (entry_goes e c.requires.removes p) g c.in-Some.errno c.requires.forest
+    (λ limits. spot_fault (call_on e p) p (root_error (entry_call V1 e)) (λ parent there. entry_fault (entry_call V1 e) parent None there) (entry_goes e c.requires.removes p) g c.in-Ok.spot c.requires.forest named c.in-Ok.ensures limits ∙ sym (c.error.ensures V1 None (shape_there g c.in-Ok.spot) refl (sym c.sight.ensures)) ∙ c.in-Some.is)
 
 pub returns : goal.returns
 returns c =
@@ -48,18 +50,18 @@ returns c =
     let e = c.args.entry in
     let g = graph c.args.nodes.now in
     let named : 0 < length p = omega (arith, c.len.ensures.len, c.if-len-eq0.false) in
-    let none : first_failure (entry_errors e false (shape_there g c.in-Ok.spot)) ≡ None = sym (c.error.ensures (shape_there g c.in-Ok.spot) (sym c.sight.ensures)) ∙ c.in_default.is in
+    let none : first_failure (entry_errors (entry_call V1 e) None (shape_there g c.in-Ok.spot)) ≡ None = sym (c.error.ensures V1 None (shape_there g c.in-Ok.spot) refl (sym c.sight.ensures)) ∙ c.in_default.is in
     elim c.match-spot.branch [
       | in-Taken w ↦
           let same : c.match-spot.nodes ≡ w.detach.new.nodes = (let is = w.nodes-is in cc) in
-          let here : first_failure (entry_errors e false (shape_of (place_at g w.in-Taken.node))) ≡ None = subst (λ s. first_failure (entry_errors e false (shape_there g s)) ≡ None) w.in-Taken.is none in
+          let here : first_failure (entry_errors (entry_call V1 e) None (shape_of (place_at g w.in-Taken.node))) ≡ None = subst (λ s. first_failure (entry_errors (entry_call V1 e) None (shape_there g s)) ≡ None) w.in-Taken.is none in
           subst (λ nodes. Answers g (graph nodes) (call_on e p) Done) (sym same)
-          (is_removed (call_on e p) p (root_error e) (λ parent there. entry_fault e parent false there) (entry_goes e c.requires.removes p) g (graph w.detach.new.nodes) w.in-Taken.dir w.in-Taken.i w.in-Taken.node c.requires.forest
+          (is_removed (call_on e p) p (root_error (entry_call V1 e)) (λ parent there. entry_fault (entry_call V1 e) parent None there) (entry_goes e c.requires.removes p) g (graph w.detach.new.nodes) w.in-Taken.dir w.in-Taken.i w.in-Taken.node c.requires.forest
           (record {
-            sound = λ most. spot_fault (call_on e p) p (root_error e) (λ parent there. entry_fault e parent false there) (entry_goes e c.requires.removes p) g c.in-Ok.spot c.requires.forest named c.in-Ok.ensures most ∙ none;
+            sound = λ limits. spot_fault (call_on e p) p (root_error (entry_call V1 e)) (λ parent there. entry_fault (entry_call V1 e) parent None there) (entry_goes e c.requires.removes p) g c.in-Ok.spot c.requires.forest named c.in-Ok.ensures limits ∙ none;
             named = named;
             spot = subst (λ s. LooksUp g p (Ok s)) w.in-Taken.is c.in-Ok.ensures;
             leaf = entry_leaf e (place_at g w.in-Taken.node) c.requires.removes here;
           }) w.detach.ensures)
-      | in_default-spot w ↦ absurd (entry_met e c.requires.removes (subst (λ s. first_failure (entry_errors e false (shape_there g s)) ≡ None) w.in_default-spot.is none))
+      | in_default-spot w ↦ absurd (entry_met e c.requires.removes (subst (λ s. first_failure (entry_errors (entry_call V1 e) None (shape_there g s)) ≡ None) w.in_default-spot.is none))
     ]

@@ -17,16 +17,16 @@ is_last : (q : Key) (n : ℕ) (x : Name) → n ≡ length q → 1 ≤ length q �
 is_last q n x len named at = last_got q (n - 1) x (omega arith) at
 
 pub returns-in-Err-clause-given : goal.returns-in-Err-clause-given
-returns-in-Err-clause-given c = failed (graph c.args.nodes.now) c.args.from.now c.args.to.now c.in-Err.errno c.requires c.in-Err.ensures
+returns-in-Err-clause-given c = failed c.args.limits (graph c.args.nodes.now) c.args.from.now c.args.to.now c.in-Err.errno c.requires c.in-Err.ensures
 
 pub overflow_sub-len : goal.overflow_sub-len
 overflow_sub-len c =
-    let named = new_path_named (graph c.args.nodes.now) c.args.from.now c.args.to.now c.in-Ok.plan c.requires c.in-Ok.ensures in
+    let named = new_path_named c.args.limits (graph c.args.nodes.now) c.args.from.now c.args.to.now c.in-Ok.plan c.requires c.in-Ok.ensures in
     omega (arith, named, c.len.ensures.len)
 
 pub name-name-requires : goal.name-name-requires
 name-name-requires c =
-    let named = new_path_named (graph c.args.nodes.now) c.args.from.now c.args.to.now c.in-Ok.plan c.requires c.in-Ok.ensures in
+    let named = new_path_named c.args.limits (graph c.args.nodes.now) c.args.from.now c.args.to.now c.in-Ok.plan c.requires c.in-Ok.ensures in
     omega (arith, named, c.len.ensures.len)
 
 pub displace-requires-clause-victim_node : goal.displace-requires-clause-victim_node
@@ -34,50 +34,50 @@ displace-requires-clause-victim_node c =
     let g = graph c.args.nodes.now in
     let p = c.args.from.now in
     let q = c.args.to.now in
-    let plan : Plans g p q (Ok (Onto c.in-Onto.entry c.in-Onto.victim)) = subst (λ plan. Plans g p q (Ok plan)) c.in-Onto.is c.in-Ok.ensures in
-    node_placed g c.requires p q plan.0 c.in-Onto.victim.dir c.in-Onto.victim.place c.in-Onto.victim.node plan.2
+    let plan : Plans c.args.limits g p q (Ok (Onto c.in-Onto.entry c.in-Onto.victim)) = subst (λ plan. Plans c.args.limits g p q (Ok plan)) c.in-Onto.is c.in-Ok.ensures in
+    node_placed c.args.limits g c.requires p q plan.0 c.in-Onto.victim.dir c.in-Onto.victim.place c.in-Onto.victim.node plan.2
 
 pub replace_link-requires-clause-rising : goal.replace_link-requires-clause-rising
 replace_link-requires-clause-rising c =
     let g = graph c.args.nodes.now in
     let p = c.args.from.now in
     let q = c.args.to.now in
-    let plan : Plans g p q (Ok (Within c.in-Within.entry)) = subst (λ plan. Plans g p q (Ok plan)) c.in-Within.is c.in-Ok.ensures in
-    left_rising g c.requires p q plan.0 c.in-Within.entry plan.1
+    let plan : Plans c.args.limits g p q (Ok (Within c.in-Within.entry)) = subst (λ plan. Plans c.args.limits g p q (Ok plan)) c.in-Within.is c.in-Ok.ensures in
+    left_rising c.args.limits g c.requires p q plan.0 c.in-Within.entry plan.1
 
 pub replace_link-requires-clause-absent : goal.replace_link-requires-clause-absent
 replace_link-requires-clause-absent c =
     let g = graph c.args.nodes.now in
     let p = c.args.from.now in
     let q = c.args.to.now in
-    let plan : Plans g p q (Ok (Within c.in-Within.entry)) = subst (λ plan. Plans g p q (Ok plan)) c.in-Within.is c.in-Ok.ensures in
-    let named = new_path_named g p q c.in-Ok.plan c.requires c.in-Ok.ensures in
-    left_absent g c.requires p q plan.0 c.in-Within.entry plan.1 c.name-name.result.now plan.2.0 plan.2.1 plan.2.2 (is_last q c.len.result c.name-name.result.now c.len.ensures.len named c.name-name.ensures)
+    let plan : Plans c.args.limits g p q (Ok (Within c.in-Within.entry)) = subst (λ plan. Plans c.args.limits g p q (Ok plan)) c.in-Within.is c.in-Ok.ensures in
+    let named = new_path_named c.args.limits g p q c.in-Ok.plan c.requires c.in-Ok.ensures in
+    left_absent c.args.limits g c.requires p q plan.0 c.in-Within.entry plan.1 c.name-name.result.now plan.2.0 plan.2.1 plan.2.2 (is_last q c.len.result c.name-name.result.now c.len.ensures.len named c.name-name.ensures)
 
 pub returns-in_err-transfer-in-Across-clause-memory : goal.returns-in_err-transfer-in-Across-clause-memory
 returns-in_err-transfer-in-Across-clause-memory c =
     let g = graph c.args.nodes.now in
     let p = c.args.from.now in
     let q = c.args.to.now in
-    let plan : Plans g p q (Ok (Across c.in-Across.entry c.in-Across.dir c.in-Across.place)) = subst (λ plan. Plans g p q (Ok plan)) c.in-Across.is c.in-Ok.ensures in
-    on_err c.from_residual.result (memory_needed g c.requires p q plan.0 c.in-Across.entry plan.1 c.in-Across.dir c.in-Across.place plan.2.0 plan.2.1 plan.3)
+    let plan : Plans c.args.limits g p q (Ok (Across c.in-Across.entry c.in-Across.dir c.in-Across.place)) = subst (λ plan. Plans c.args.limits g p q (Ok plan)) c.in-Across.is c.in-Ok.ensures in
+    on_err c.from_residual.result (memory_needed c.args.limits g c.requires p q plan.0 c.in-Across.entry plan.1 c.in-Across.dir c.in-Across.place plan.2.0 plan.2.1 plan.3)
 
 pub returns-in-Stay-clause-given : goal.returns-in-Stay-clause-given
 returns-in-Stay-clause-given c =
     let g = graph c.args.nodes.now in
     let p = c.args.from.now in
     let q = c.args.to.now in
-    let plan : Plans g p q (Ok Stay) = subst (λ plan. Plans g p q (Ok plan)) c.in-Stay.is c.in-Ok.ensures in
-    stayed g p q c.requires plan.0 plan.1
+    let plan : Plans c.args.limits g p q (Ok Stay) = subst (λ plan. Plans c.args.limits g p q (Ok plan)) c.in-Stay.is c.in-Ok.ensures in
+    stayed c.args.limits g p q c.requires plan.0 plan.1
 
 pub returns-in-Onto-clause-given : goal.returns-in-Onto-clause-given
 returns-in-Onto-clause-given c =
     let g = graph c.args.nodes.now in
     let p = c.args.from.now in
     let q = c.args.to.now in
-    let plan : Plans g p q (Ok (Onto c.in-Onto.entry c.in-Onto.victim)) = subst (λ plan. Plans g p q (Ok plan)) c.in-Onto.is c.in-Ok.ensures in
-    let named = new_path_named g p q c.in-Ok.plan c.requires c.in-Ok.ensures in
-    moved_onto g c.requires p q plan.0 c.in-Onto.entry plan.1 c.in-Onto.victim plan.2 (graph c.displace.new.nodes) c.name-name.result.now
+    let plan : Plans c.args.limits g p q (Ok (Onto c.in-Onto.entry c.in-Onto.victim)) = subst (λ plan. Plans c.args.limits g p q (Ok plan)) c.in-Onto.is c.in-Ok.ensures in
+    let named = new_path_named c.args.limits g p q c.in-Ok.plan c.requires c.in-Ok.ensures in
+    moved_onto c.args.limits g c.requires p q plan.0 c.in-Onto.entry plan.1 c.in-Onto.victim plan.2 (graph c.displace.new.nodes) c.name-name.result.now
     (is_last q c.len.result c.name-name.result.now c.len.ensures.len named c.name-name.ensures) c.displace.ensures
 
 pub returns-in-Within-clause-given : goal.returns-in-Within-clause-given
@@ -85,9 +85,9 @@ returns-in-Within-clause-given c =
     let g = graph c.args.nodes.now in
     let p = c.args.from.now in
     let q = c.args.to.now in
-    let plan : Plans g p q (Ok (Within c.in-Within.entry)) = subst (λ plan. Plans g p q (Ok plan)) c.in-Within.is c.in-Ok.ensures in
-    let named = new_path_named g p q c.in-Ok.plan c.requires c.in-Ok.ensures in
-    moved_within g c.requires p q plan.0 c.in-Within.entry plan.1 (graph c.replace_link.new.nodes) c.name-name.result.now plan.2.0 plan.2.1 plan.2.2
+    let plan : Plans c.args.limits g p q (Ok (Within c.in-Within.entry)) = subst (λ plan. Plans c.args.limits g p q (Ok plan)) c.in-Within.is c.in-Ok.ensures in
+    let named = new_path_named c.args.limits g p q c.in-Ok.plan c.requires c.in-Ok.ensures in
+    moved_within c.args.limits g c.requires p q plan.0 c.in-Within.entry plan.1 (graph c.replace_link.new.nodes) c.name-name.result.now plan.2.0 plan.2.1 plan.2.2
     (is_last q c.len.result c.name-name.result.now c.len.ensures.len named c.name-name.ensures) c.replace_link.ensures
 
 pub returns-in_ok-transfer-in-Across-clause-given : goal.returns-in_ok-transfer-in-Across-clause-given
@@ -95,7 +95,7 @@ returns-in_ok-transfer-in-Across-clause-given c =
     let g = graph c.args.nodes.now in
     let p = c.args.from.now in
     let q = c.args.to.now in
-    let plan : Plans g p q (Ok (Across c.in-Across.entry c.in-Across.dir c.in-Across.place)) = subst (λ plan. Plans g p q (Ok plan)) c.in-Across.is c.in-Ok.ensures in
-    let named = new_path_named g p q c.in-Ok.plan c.requires c.in-Ok.ensures in
-    moved_across g c.requires p q plan.0 c.in-Across.entry plan.1 c.in-Across.dir c.in-Across.place plan.2.0 plan.2.1 plan.3 (graph c.transfer.new.nodes) c.name-name.result.now
+    let plan : Plans c.args.limits g p q (Ok (Across c.in-Across.entry c.in-Across.dir c.in-Across.place)) = subst (λ plan. Plans c.args.limits g p q (Ok plan)) c.in-Across.is c.in-Ok.ensures in
+    let named = new_path_named c.args.limits g p q c.in-Ok.plan c.requires c.in-Ok.ensures in
+    moved_across c.args.limits g c.requires p q plan.0 c.in-Across.entry plan.1 c.in-Across.dir c.in-Across.place plan.2.0 plan.2.1 plan.3 (graph c.transfer.new.nodes) c.name-name.result.now
     (is_last q c.len.result c.name-name.result.now c.len.ensures.len named c.name-name.ensures) c.in_ok-transfer-in-Across.ensures.ok

@@ -1,4 +1,5 @@
 use Rattle.std.proofs.Common.{ap, sym, ◌∙◌, refl}
+use Rattle.fs_names.specs.Limits.{file_limit}
 use Rattle.fs_calls.specs.Forms as forms
 use Rattle.fs_calls.specs.Outcomes.{resolution}
 use Rattle.fs_calls.specs.declared.call.Call.TheVariants.{Truncate}
@@ -20,15 +21,15 @@ returns-in-Err-clause-given c =
     let g = graph c.args.nodes.now in
     let p = c.args.path.now in
     let whole = take_whole p c.len.result c.len.ensures.len in
-    refused c.args.most g g (Truncate p c.args.size) c.in-Err.errno refl c.requires
-    (looking_fault c.args.most (Truncate p c.args.size) (forms.Truncate c.args.most c.args.size) p refl (tree_of g) ∙ lost_error (tree_of g) (forms.Truncate c.args.most c.args.size) p c.in-Err.errno (ap (resolution (tree_of g)) (sym whole) ∙ c.in-Err.ensures))
+    refused c.args.limits g g (Truncate p c.args.size) c.in-Err.errno refl c.requires
+    (looking_fault c.args.limits (Truncate p c.args.size) (forms.Truncate (file_limit c.args.limits) c.args.size) p refl (tree_of g) ∙ lost_error (tree_of g) (forms.Truncate (file_limit c.args.limits) c.args.size) p c.in-Err.errno (ap (resolution (tree_of g)) (sym whole) ∙ c.in-Err.ensures))
 
 pub returns-in-Ok-clause-given : goal.returns-in-Ok-clause-given
 returns-in-Ok-clause-given c =
     let s = c.args.nodes.now in
     let p = c.args.path.now in
     let walked = ap (walk (graph s)) (sym (take_whole p c.len.result c.len.ensures.len)) ∙ c.in-Ok.ensures in
-    IfOk-map c.truncate_node.result (λ r rewrites. is_rewritten c.args.most s (Truncate p c.args.size) (forms.Truncate c.args.most c.args.size) p refl c.in-Ok.at c.index_mut.result.now c.requires walked c.index_mut.ensures.value c.truncate_node.new.node r rewrites) c.truncate_node.ensures.given
+    IfOk-map c.truncate_node.result (λ r rewrites. is_rewritten c.args.limits s (Truncate p c.args.size) (forms.Truncate (file_limit c.args.limits) c.args.size) p refl c.in-Ok.at c.index_mut.result.now c.requires walked c.index_mut.ensures.value c.truncate_node.new.node r rewrites) c.truncate_node.ensures.given
 
 pub returns-in-Ok-clause-err : goal.returns-in-Ok-clause-err
 returns-in-Ok-clause-err c = OnErr-map c.truncate_node.result (λ same. same_graph c.args.nodes.now c.in-Ok.at _ _ c.index_mut.ensures.value same) c.truncate_node.ensures.err
@@ -38,4 +39,4 @@ returns-in-Ok-clause-memory c =
     let s = c.args.nodes.now in
     let p = c.args.path.now in
     let walked = ap (walk (graph s)) (sym (take_whole p c.len.result c.len.ensures.len)) ∙ c.in-Ok.ensures in
-    OnErr-map c.truncate_node.result (λ needs. truncate_needs c.args.most s p c.args.size c.in-Ok.at c.index_mut.result.now c.requires walked c.index_mut.ensures.value needs.0 needs.1) c.truncate_node.ensures.memory
+    OnErr-map c.truncate_node.result (λ needs. truncate_needs c.args.limits s p c.args.size c.in-Ok.at c.index_mut.result.now c.requires walked c.index_mut.ensures.value needs.0 needs.1) c.truncate_node.ensures.memory
