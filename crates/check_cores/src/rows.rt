@@ -195,10 +195,11 @@ fn compare_shape(
 /// Rows at the limits, and beyond each, by both sets.
 fn compare_limits(alloc: Global, limits: Limits) -> Result<()> {
     let most = limits.entries();
+    let full = most.wrapping_add(1);
     let longer = limits.file().wrapping_add(1);
     for (shape, size, bad) in [
         (Shape::Wide, most, None),
-        (Shape::Wide, most + 1, Some(most + 2)),
+        (Shape::Wide, full, Some(full.wrapping_add(1))),
         (Shape::Long, limits.file(), None),
         (Shape::Long, longer, Some(2)),
         (Shape::Deep, PATH_LIMIT + 6, None),
