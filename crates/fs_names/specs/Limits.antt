@@ -1,5 +1,5 @@
 -- The two sets of limits.
-use Rattle.std.specs.Prelude.{ℕ}
+use Rattle.std.specs.Prelude.{ℕ, Bool, false}
 use Rattle.fs_names.specs.declared.limits.Limits.{Limits}
 use Rattle.fs_names.specs.declared.limits.Limits.TheVariants.{V1, V2}
 
@@ -17,3 +17,8 @@ entry_limit V2 = 256
 abbrev pub file_limit : Limits → ℕ
 file_limit V1 = 65536
 file_limit V2 = 1048576
+
+-- whether files are in blocks
+abbrev pub in_blocks : Limits → Bool
+in_blocks V1 = false
+in_blocks V2 = false

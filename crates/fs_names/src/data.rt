@@ -1,6 +1,7 @@
 //! The bytes that calls write.
 
 ghost use Rattle.std.specs.Prelude.{◌≡◌, ◌≢◌, IfOk, OnOk, OnErr};
+ghost use Rattle.std.specs.Arc.{arc_value};
 ghost use Rattle.fs_names.specs.Names.{same_bytes};
 
 use fs_memory::Memory;
@@ -48,6 +49,13 @@ impl Data {
         ensures { result.now ≡ self.now }
     {
         self.bytes.as_slice()
+    }
+
+    /// The vector that copies share, so that a file can share it too.
+    pub fn shared(&self) -> &Arc<Vec<u8>>
+        ensures { (arc_value result.now).items ≡ self.now }
+    {
+        &self.bytes
     }
 
     /// Whether the other bytes are the same.

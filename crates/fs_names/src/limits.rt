@@ -1,7 +1,7 @@
 //! The limits of names, paths, directories, files and trees, each named in this one place.
 
 ghost use Rattle.std.specs.Prelude.{◌≡◌};
-ghost use Rattle.fs_names.specs.Limits.{name_limit, entry_limit, file_limit};
+ghost use Rattle.fs_names.specs.Limits.{name_limit, entry_limit, file_limit, in_blocks};
 
 /// The most names that a path has.
 pub const PATH_LIMIT: usize = 64;
@@ -50,6 +50,16 @@ impl Limits {
         match self {
             Limits::V1 => 65_536,
             Limits::V2 => 1_048_576,
+        }
+    }
+
+    /// Whether files are in blocks, which their copies share; else each file is one vector.
+    #[inline]
+    pub fn in_blocks(self) -> bool
+        ensures { result ≡ in_blocks self }
+    {
+        match self {
+            Limits::V1 | Limits::V2 => false,
         }
     }
 }
