@@ -185,6 +185,17 @@ impl File {
         }
     }
 
+    /// A file without bytes, in blocks or in one vector.
+    pub fn empty(alloc: Global, in_blocks: bool) -> File
+        ensures { result ≡ record { bytes = []; in_blocks = in_blocks } }
+    {
+        if in_blocks {
+            File::in_blocks()
+        } else {
+            File::plain(Vec::new(alloc))
+        }
+    }
+
     /// Whether its bytes are in blocks.
     pub fn is_in_blocks(&self) -> bool
         ensures { result ≡ self.now.in_blocks }
@@ -217,14 +228,14 @@ impl File {
         }
     }
 
-    /// A file in one vector takes these bytes, and hands the old ones out.
-    pub fn swap(&mut self, bytes: Vec<u8>) -> Vec<u8>
-        requires { IsFalse self.old.in_blocks }
-        ensures new { self.new ≡ record self.old { bytes = bytes.items } }
-        ensures old { result.items ≡ self.old.bytes }
+    /// The vector of a file in one.
+    pub fn into_vec(self) -> Vec<u8>
+        requires { IsFalse self.in_blocks }
+        ensures { result.items ≡ self.bytes }
     {
-        match mem::replace(&mut self.form, Form::Plain(bytes)) {
-            Form::Plain(old) => old,
+        let File { form } = self;
+        match form {
+            Form::Plain(bytes) => bytes,
             _ => unreachable!(),
         }
     }
