@@ -44,6 +44,17 @@ impl Model for File {
     ghost view = { λ f. value_of f.form };
 }
 
+/// The same bytes again. They go over at once, where a clone goes byte by byte.
+fn copy_of(bytes: &Vec<u8>, memory: &mut Memory) -> Result<Vec<u8>, AllocError>
+    ensures copy { IfOk result (λ copy. copy.items ≡ bytes.now.items) }
+    ensures granted { OnOk result (memory.new ≡ memory.old) }
+    ensures refused { OnErr result (memory.new ≢ memory.old) }
+{
+    let mut copy = memory.with_room(*bytes.allocator(), bytes.len())?;
+    let _room_was_made = copy.extend_from_slice(bytes);
+    Ok(copy)
+}
+
 /// A long file of the bytes of a block, in this room.
 fn started(alloc: Global, first: Block, room: Box<Long>) -> Box<Long>
     ensures { result.value ≡ first }
@@ -314,19 +325,27 @@ impl File {
     }
 
     /// The same file again. Blocks that are shared already get one owner more, and others are copied.
-    pub fn copy(&self, alloc: Global, memory: &mut Memory) -> Result<File, AllocError>
+    pub fn copy(&self, memory: &mut Memory) -> Result<File, AllocError>
         ensures ok { IfOk result (λ file. file ≡ self.now) }
         ensures granted { OnOk result (memory.new ≡ memory.old) }
         ensures refused { OnErr result (memory.new ≢ memory.old) }
     {
         let form = match &self.form {
-            Form::Plain(bytes) => Form::Plain(memory.copy_of(bytes)?),
+            Form::Plain(bytes) => Form::Plain(copy_of(bytes, memory)?),
             Form::Short(first) => Form::Short(first.copy(memory)?),
             Form::Long(long) => {
                 let copy = long.copy(memory)?;
-                Form::Long(memory.boxed(alloc, copy)?)
+                Form::Long(memory.boxed(*Box::allocator(long), copy)?)
             }
         };
         Ok(File { form })
+    }
+}
+
+impl Clone for File {
+    ghost is_clone = { λ file copy. copy ≡ file };
+
+    fn clone(&self) -> Result<File, AllocError> {
+        self.copy(&mut Memory::new())
     }
 }
