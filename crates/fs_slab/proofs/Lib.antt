@@ -6,3 +6,4 @@ pub mod NodeLemmas
 pub mod Parents
 pub mod SlabLemmas
 pub mod Copied
+pub mod FormLemmas

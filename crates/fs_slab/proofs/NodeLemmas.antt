@@ -3,6 +3,7 @@ use Rattle.std.proofs.Common.{◌≡◌, ℕ, zero, suc, ◌+◌, ◌<◌, ◌�
 use Rattle.std.specs.FinMap.{find, is_sorted}
 use Rattle.std.proofs.lemmas.Bool.Decides.{nat_tests}
 use Rattle.slab.specs.Slab.{Slab, get}
+use Rattle.fs_blocks.specs.Files.{FileValue}
 use Rattle.fs_names.specs.Names.{Name, name_cmp}
 use Rattle.fs_names.specs.Keys.{Key, parent_of, last_of}
 use Rattle.fs_names.specs.Shapes.{has_any}
@@ -42,7 +43,7 @@ has_key s n e = some_slot (get s n) (ap is_some (sym (place_of_slot s.slots n)) 
 slot_used : (o : Option Node) → IsSome o → is_some (slot_place o) ≡ true
 slot_used None h = absurd (cc)
 slot_used (Some (nodes.Dir links)) h = refl
-slot_used (Some (nodes.File bytes)) h = refl
+slot_used (Some (nodes.File file)) h = refl
 
 -- a key of the slab is a number with a place
 pub key_there : (s : Slab Node) (n : ℕ) → IsSome (get s n) → is_some (place_at (graph s) n) ≡ true
@@ -87,8 +88,8 @@ pub step_missing : (g : Slots) (n : ℕ) (x : Name) (links : List (Name × ℕ))
 step_missing g n x links i at belongs = (child_got g n x _ at ∙ belongs.absent, ap (λ o. verdict (node_of o)) at)
 
 -- a step from a file
-pub step_file : (g : Slots) (n : ℕ) (x : Name) (bytes : List ℕ) → place_at g n ≡ Some (File bytes) → (child g n x ≡ None) × (verdict (node_at g n) ≡ Some Enotdir)
-step_file g n x bytes at = (child_got g n x _ at, ap (λ o. verdict (node_of o)) at)
+pub step_file : (g : Slots) (n : ℕ) (x : Name) (file : FileValue) → place_at g n ≡ Some (File file) → (child g n x ≡ None) × (verdict (node_at g n) ≡ Some Enotdir)
+step_file g n x file at = (child_got g n x _ at, ap (λ o. verdict (node_of o)) at)
 
 -- ---- paths by their parent and their last name
 

@@ -25,7 +25,7 @@ parents_found g p dir at forest w is = (λ i. as_dir (resolution_walked g (paren
   where
     by_place : (at : Place) → as_dir None (shape_of (Some at)) ≡ check (is_file (shape_of (Some at))) Enotdir
     by_place (Dir links) = refl
-    by_place (File bytes) = refl
+    by_place (File file) = refl
 
 -- a name that was found in the parent
 pub is_taken : (g : Slots) (p : Key) (n dir i : ℕ) (x : Name) (links : List Link) (l : Link) → n + 1 ≡ length p → slice_get p n ≡ Some x → walk g (take n p) ≡ Some dir → place_at g dir ≡ Some (Dir (pairs links)) → IsNameAt (pairs links) x i → l ≡ get_or links i l

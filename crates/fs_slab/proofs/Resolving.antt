@@ -38,7 +38,7 @@ walk_off g d n x w e = walk-snoc g 0 d x ∙ ap (on_from g x) w ∙ on_missing g
 some_node : (o : Option Place) → is_some o ≡ true → is_some (node_of o) ≡ true
 some_node None e = e
 some_node (Some (Dir links)) e = refl
-some_node (Some (File bytes)) e = refl
+some_node (Some (File file)) e = refl
 
 -- what stands at a key that leads to a number
 pub look_at : (g : Slots) (p : Key) (n : ℕ) → IsForest g → walk g p ≡ Some n → look (tree_of g) p ≡ node_at g n
@@ -69,7 +69,7 @@ names_at g p n forest w = names_in-links (tree_of g) p (links_at g n) (sorted-tr
 shape_by : (t : Tree) (p : Key) (o : Option Place) → names_in t p ≡ map (λ l. l.0) (links_of o) → shapes.shape_of t p (node_of o) ≡ shape_of o
 shape_by t p None names = refl
 shape_by t p (Some (Dir links)) names = ap (λ ns. Some (shapes.Dir ns)) names
-shape_by t p (Some (File bytes)) names = refl
+shape_by t p (Some (File file)) names = refl
 
 -- what is seen at a key that leads to a number, and at one that leads nowhere
 pub seen_at : (g : Slots) (p : Key) (n : ℕ) → IsForest g → walk g p ≡ Some n → tree_shapes (tree_of g) p ≡ shape_at g n
@@ -96,18 +96,18 @@ next_on (Some (shapes.File bytes)) b rest h f = absurd (cc)
 next_off : (o : Option Place) (rest : Option Errno) (e : Errno) → verdict (node_of o) ≡ Some e → resolve_next (shape_of o) None rest ≡ Some e
 next_off None rest e h = absurd (cc)
 next_off (Some (Dir links)) rest e h = h
-next_off (Some (File bytes)) rest e h = h
+next_off (Some (File file)) rest e h = h
 
 -- what has a child is a directory
 parent_dir : (o : Option Place) (x : Name) (m : ℕ) → find name_cmp x (links_of o) ≡ Some m → is_dir (shape_of o) ≡ true
 parent_dir None x m e = absurd (cc)
 parent_dir (Some (Dir links)) x m e = refl
-parent_dir (Some (File bytes)) x m e = absurd (cc)
+parent_dir (Some (File file)) x m e = absurd (cc)
 
 some_shape : (o : Option Place) → is_some o ≡ true → is_some (shape_of o) ≡ true
 some_shape None e = e
 some_shape (Some (Dir links)) e = refl
-some_shape (Some (File bytes)) e = refl
+some_shape (Some (File file)) e = refl
 
 module _ (g : Slots) (forest : IsForest g) where
   -- what is seen from a front on

@@ -2,6 +2,7 @@
 use Rattle.std.proofs.Common.{◌≡◌, ◌≢◌, ℕ, zero, suc, List, [], ◌∷◌, map, get_or, Some, None, Option, refl, sym, ap, ◌∙◌}
 use Rattle.std.specs.Prelude.{insert, remove, slice_set}
 use Rattle.slab.specs.Slab.{Slab, get, with_value, Updates}
+use Rattle.fs_blocks.specs.Files.{FileValue}
 use Rattle.fs_names.specs.Names.{Name}
 use Rattle.fs_slab.specs.declared.nodes.Link.{Link}
 use Rattle.fs_slab.specs.declared.nodes.Node.{Node}
@@ -72,6 +73,6 @@ pub links_read : (s : Slab Node) (n : ℕ) (node : Node) (links : List Link) →
 links_read s n node links e f = links_got (graph s) n _ (place_got s n node e ∙ ap (λ z. Some z) f)
 
 -- a directory is no file
-pub dir_not_file : (s : Slab Node) (n : ℕ) (node : Node) (links : List (Name × ℕ)) (bytes : List ℕ) → place_at (graph s) n ≡ Some (Dir links) → get s n ≡ Some node → place node ≡ File bytes → ⊥
-dir_not_file s n node links bytes at e f =
-    let other : Some (Dir links) ≡ Some (File bytes) = sym at ∙ place_got s n node e ∙ ap (λ z. Some z) f in cc
+pub dir_not_file : (s : Slab Node) (n : ℕ) (node : Node) (links : List (Name × ℕ)) (file : FileValue) → place_at (graph s) n ≡ Some (Dir links) → get s n ≡ Some node → place node ≡ File file → ⊥
+dir_not_file s n node links file at e f =
+    let other : Some (Dir links) ≡ Some (File file) = sym at ∙ place_got s n node e ∙ ap (λ z. Some z) f in cc

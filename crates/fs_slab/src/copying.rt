@@ -1,4 +1,4 @@
-//! The same nodes again, in memory of their own.
+//! The same nodes again, in memory of their own; blocks of files that are shared get one owner more.
 
 ghost use Rattle.std.specs.Prelude.{◌≡◌, ◌≢◌, IfOk, OnOk, OnErr};
 ghost use Rattle.fs_slab.specs.code.Nodes.{graph};
@@ -27,18 +27,9 @@ impl Clone for Node {
     fn clone(&self) -> Result<Node, AllocError> {
         match self {
             Node::Dir(links) => Ok(Node::Dir(links.clone()?)),
-            Node::File(bytes) => Ok(Node::File(copied_bytes(bytes)?)),
+            Node::File(file) => Ok(Node::File(file.clone()?)),
         }
     }
-}
-
-/// The same bytes again. They go over at once, where a clone goes byte by byte.
-pub fn copied_bytes(bytes: &Vec<u8>) -> Result<Vec<u8>, AllocError>
-    ensures { IfOk result (λ copy. copy.items ≡ bytes.now.items) }
-{
-    let mut copy = Vec::with_capacity(*bytes.allocator(), bytes.len())?;
-    copy.extend_from_slice(bytes)?;
-    Ok(copy)
 }
 
 /// The same nodes under the same numbers.

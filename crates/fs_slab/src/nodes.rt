@@ -1,6 +1,6 @@
 //! Nodes in a slab, walks along names, and the entries of directories.
 
-ghost use Rattle.std.specs.Prelude.{◌≡◌, ◌≢◌, ◌<◌, ◌≤◌, Some, IfSome, IsTrue, OnOk, OnErr, length, take, insert, remove, vec_len};
+ghost use Rattle.std.specs.Prelude.{◌≡◌, ◌≢◌, ◌<◌, ◌≤◌, ◌+◌, ◌++◌, Some, IfSome, IsTrue, OnOk, OnErr, length, take, drop, insert, remove, vec_len, vec_capacity};
 ghost use Rattle.std.specs.FinMap.{is_sorted};
 ghost use Rattle.slab.specs.Slab.{ContainsKey, HasRoomFor};
 ghost use Rattle.fs_names.specs.Names.{name_cmp};
@@ -10,6 +10,7 @@ ghost use Rattle.fs_slab.specs.code.Nodes.{pair, pairs, place, graph, Searches, 
 ghost use Rattle.fs_slab.specs.code.Slots.{IsForest, Sets, place_at, links_at, links_of, shape_at, shape_of, Dir as IsDir};
 
 use crate::held_name::HeldName;
+use fs_blocks::File;
 use fs_calls::ranges::is_full;
 use fs_calls::rows::step_error;
 use fs_calls::{Errno, Sight};
@@ -37,7 +38,7 @@ pub struct Entry {
 #[derive(Drop)]
 pub enum Node {
     Dir(Vec<Link>),
-    File(Vec<u8>),
+    File(File),
 }
 
 /// Where the last name of a path stands, or where it belongs: the number of the directory and the place among
@@ -75,13 +76,23 @@ impl Node {
         }
     }
 
-    /// The bytes of a file; a directory has none.
-    pub fn bytes(&self) -> &[u8]
-        ensures { result.now ≡ bytes_of (shape_of (Some (place self.now))) }
+    /// How many bytes a file has; a directory has none.
+    pub fn len(&self) -> usize
+        ensures { result ≡ length (bytes_of (shape_of (Some (place self.now)))) }
     {
         match self {
-            Node::File(bytes) => bytes,
-            Node::Dir(_) => &[],
+            Node::File(file) => file.len(),
+            Node::Dir(_) => 0,
+        }
+    }
+
+    /// Appends the bytes of a file from an offset on, and no more than a count, to a vector that has room for them.
+    pub fn read(&self, off: u64, count: u64, into: &mut Vec<u8>)
+        requires { vec_len into.old + length (take count (drop off (bytes_of (shape_of (Some (place self.now)))))) ≤ vec_capacity into.old }
+        ensures { into.new.items ≡ into.old.items ++ take count (drop off (bytes_of (shape_of (Some (place self.now))))) }
+    {
+        if let Node::File(file) = self {
+            file.read(off, count, into);
         }
     }
 }

@@ -30,7 +30,7 @@ pairs links = map pair links
 -- the place that a node is
 abbrev pub place : Node → Place
 place (Dir links) = places.Dir (pairs links.items)
-place (File bytes) = places.File bytes.items
+place (File file) = places.File file
 
 -- the place of a slot
 abbrev pub slot_place : Option Node → Option Place

@@ -1,7 +1,8 @@
 -- Places under numbers, and the tree that they spell.
-use Rattle.std.specs.Prelude.{◌≡◌, ◌≢◌, ℕ, zero, suc, true, List, [], ◌∷◌, length, map, Option, Some, None, is_some, slice_index_or, option_and_then, IsTrue}
+use Rattle.std.specs.Prelude.{◌≡◌, ◌≢◌, ℕ, zero, suc, Bool, true, List, [], ◌∷◌, length, map, Option, Some, None, is_some, slice_index_or, option_and_then, IsTrue}
 use Rattle.std.specs.List.{flat_map}
 use Rattle.std.specs.FinMap.{find, is_sorted}
+use Rattle.fs_blocks.specs.Files.{FileValue}
 use Rattle.fs_names.specs.Names.{Name, name_cmp}
 use Rattle.fs_names.specs.Keys.{Key}
 use Rattle.fs_calls.specs.Tree.{Node, Dir as IsDir, File as IsFile, Tree, from_list}
@@ -11,7 +12,7 @@ use Rattle.fs_calls.specs.Sights as shapes
 -- a directory, by the names of its entries and their numbers, or a file
 pub data Place : Type 0 where
   Dir : List (Name × ℕ) → Place
-  File : List ℕ → Place
+  File : FileValue → Place
 
 -- a place or none under each number from 0 on
 abbrev pub Slots : Type 0
@@ -25,19 +26,19 @@ place_at g n = slice_index_or g n None
 abbrev pub links_of : Option Place → List (Name × ℕ)
 links_of None = []
 links_of (Some (Dir links)) = links
-links_of (Some (File bytes)) = []
+links_of (Some (File file)) = []
 
 -- what a place is in a tree
 abbrev pub node_of : Option Place → Option Node
 node_of None = None
 node_of (Some (Dir links)) = Some IsDir
-node_of (Some (File bytes)) = Some (IsFile bytes)
+node_of (Some (File file)) = Some (IsFile file.bytes)
 
 -- what a call sees of a place
 abbrev pub shape_of : Option Place → Option Shape
 shape_of None = None
 shape_of (Some (Dir links)) = Some (shapes.Dir (map (λ l. l.0) links))
-shape_of (Some (File bytes)) = Some (shapes.File bytes)
+shape_of (Some (File file)) = Some (shapes.File file.bytes)
 
 -- the links under a number
 abbrev pub links_at : Slots → ℕ → List (Name × ℕ)
@@ -101,3 +102,13 @@ pub record IsForest (g : Slots) : Type 0 where
 pub record Sets (g g' : Slots) (n : ℕ) (o : Option Place) : Type 0 where
   pub here : place_at g' n ≡ o
   pub elsewhere : (j : ℕ) → j ≢ n → place_at g' j ≡ place_at g j
+
+-- a file is in blocks, or it is not; of a directory and of no place that says nothing
+abbrev pub HasForm : Bool → Option Place → Type 0
+HasForm in_blocks None = Unit
+HasForm in_blocks (Some (Dir links)) = Unit
+HasForm in_blocks (Some (File file)) = file.in_blocks ≡ in_blocks
+
+-- so are all files of a graph
+pub record HaveForm (in_blocks : Bool) (g : Slots) : Type 0 where
+  pub each : (n : ℕ) → HasForm in_blocks (place_at g n)
