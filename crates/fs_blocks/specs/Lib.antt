@@ -1,3 +1,4 @@
 pub mod Files
 pub mod Spares
+pub mod Vectors
 pub mod code

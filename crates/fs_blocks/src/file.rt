@@ -28,6 +28,26 @@ enum Form {
     Long(Box<Long>),
 }
 
+impl Form {
+    ghost use Rattle.std.specs.Borrow.{LendsIf, sem};
+    ghost use Rattle.std.specs.Prelude.{option_map};
+    ghost use Rattle.fs_blocks.specs.contracts.file.Form.{the_row};
+    ghost use Rattle.fs_blocks.specs.Vectors.{bytes_row};
+    ghost use Rattle.fs_blocks.specs.Files.{vector_of};
+
+    /// The vector of a file in one.
+    fn vector_mut(&mut self) -> Option<&mut Vec<u8>>
+        ensures* writes_back { sem 𝓛 (LendsIf the_row bytes_row self.entry result Form.Plain self.old) }
+        ensures value { option_map (λ v. v.now.items) result ≡ vector_of (value_of self.old) }
+    {
+        if let Form::Plain(bytes) = self {
+            Some(bytes)
+        } else {
+            None
+        }
+    }
+}
+
 /// A file, seen as its bytes and whether they are in blocks.
 #[derive(Drop)]
 pub struct File {
@@ -178,6 +198,12 @@ fn resize_long(long: Box<Long>, size: usize, spare: Spare) -> Form
 }
 
 impl File {
+    ghost use Rattle.std.specs.Borrow.{LendsIf, sem};
+    ghost use Rattle.std.specs.Prelude.{option_map};
+    ghost use Rattle.fs_blocks.specs.contracts.file.File.{the_row};
+    ghost use Rattle.fs_blocks.specs.Vectors.{bytes_row};
+    ghost use Rattle.fs_blocks.specs.Files.{vector_of};
+
     /// A file in one vector, of these bytes.
     pub fn plain(bytes: Vec<u8>) -> File
         ensures { result ≡ record { bytes = bytes.items; in_blocks = false } }
@@ -237,6 +263,14 @@ impl File {
             Form::Plain(bytes) => bytes.as_slice(),
             _ => unreachable!(),
         }
+    }
+
+    /// The vector of a file in one, to be changed where it is.
+    pub fn vector_mut(&mut self) -> Option<&mut Vec<u8>>
+        ensures* writes_back { sem 𝓛 (LendsIf the_row bytes_row self.entry result (λ v. record { bytes = v.items; in_blocks = false }) self.old) }
+        ensures value { option_map (λ v. v.now.items) result ≡ vector_of self.old }
+    {
+        self.form.vector_mut()
     }
 
     /// The vector of a file in one.
