@@ -6,6 +6,7 @@ use Rattle.std.specs.Ordering.{is_eq, is_lt, ordering_index, ordering_reverse}
 use Rattle.std.specs.FinMap.{find, put, is_sorted}
 use Rattle.std.specs.FinMap.Entries.{by_order}
 use Rattle.std.proofs.lemmas.List.{length-map}
+use Rattle.fs_blocks.specs.Files.{FileValue}
 use Rattle.fs_names.specs.Limits.{entry_limit}
 use Rattle.fs_names.specs.Names.{Name, name_cmp}
 use Rattle.fs_names.specs.Keys.{Key, key_cmp, parent_of}
@@ -116,8 +117,8 @@ module _ (limits : Limits) (g : Slots) (forest : IsForest g) (row : Row) where
       seen_parent at e = ap (tree_shapes (tree_of g)) parent_is ∙ seen_at g d dir forest w ∙ ap shape_of e
 
       -- a row in a file
-      pub fails_in_file : (bytes : List ℕ) → place_at g dir ≡ Some (File bytes) → fits limits (tree_of g) row ≡ false
-      fails_in_file bytes e = first_fails _ _ (first_fails _ _ (second_fails _ _ (ap is_dir (seen_parent (File bytes) e))))
+      pub fails_in_file : (file : FileValue) → place_at g dir ≡ Some (File file) → fits limits (tree_of g) row ≡ false
+      fails_in_file file e = first_fails _ _ (first_fails _ _ (second_fails _ _ (ap is_dir (seen_parent (File file) e))))
 
       -- whether the parent is full
       full_by : (links : List (Name × ℕ)) → place_at g dir ≡ Some (Dir links) → is_full (entry_limit limits) (tree_shapes (tree_of g) (parent_of (key_of row))) ≡ nat_le (entry_limit limits) (length links)

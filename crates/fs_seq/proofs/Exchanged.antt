@@ -8,6 +8,7 @@ use Rattle.std.proofs.lemmas.Float.{T_from_true}
 use Rattle.fs_names.specs.Names.{Name, name_cmp, same_name}
 use Rattle.fs_names.specs.Keys.{Key, after_prefix, parent_of, last_of}
 use Rattle.fs_names.proofs.Lemmas.{same_name_refl}
+use Rattle.fs_names.specs.declared.limits.Limits.{Limits}
 use Rattle.fs_names.specs.declared.limits.Limits.TheVariants.{V1}
 use Rattle.fs_calls.specs.Tree.{Tree, exchanged, Dir as IsDir}
 use Rattle.fs_calls.specs.Sights.{is_same}
@@ -20,13 +21,14 @@ use Rattle.fs_calls.proofs.FaultLemmas.{Exchanges, by_text_none, exchange_exchan
 use Rattle.fs_slab.specs.declared.nodes.Entry.{Entry}
 use Rattle.fs_slab.specs.code.Slots.{Dir, Slots, place_at, node_of, links_of, links_at, child, walk, node_at, tree_of, IsForest, Sets}
 use Rattle.fs_slab.specs.code.Nodes.{name_of, IsNameAt, IsAt}
-use Rattle.fs_seq.specs.code.Effects.{Answers, HasFault}
+use Rattle.fs_seq.specs.code.Effects.{Answers, HasFault, KeepsForm}
 use Rattle.fs_seq.specs.code.Exchanging.{Swaps}
 use Rattle.fs_slab.proofs.Edits.{Links}
 use Rattle.fs_seq.proofs.ForestTrees.{forest_tree}
 use Rattle.fs_seq.proofs.LinkEdits.{set_rising, named_elsewhere, other_place}
 use Rattle.fs_seq.proofs.ExchangeFaults.{named, other_named}
 use Rattle.fs_seq.proofs.Spots.{taken_walk}
+use Rattle.fs_seq.proofs.KeptForms.{form_edit}
 use Rattle.fs_seq.proofs.Replies.{at_each, works, answers}
 use Rattle.fs_slab.proofs.Resolving.{child-find}
 use Rattle.fs_seq.proofs.Rewiring.{which, other_name, other_last, find-put_link, rising-put, child_of, same_child}
@@ -118,9 +120,9 @@ still_within g between n1 i l n2 j edit within = which n2 n1 (j < length (links_
 -- ---- replies
 
 -- an exchange without an error, which leaves the tree of its change
-done : (g g' : Slots) (p q : Key) → HasFault (tree_of g) (Exchange p q) None → IsForest g' → tree_of g' ≡ change V1 (tree_of g) (Exchange p q) → Answers g g' (Exchange p q) Done
-done g g' p q sound forest made =
-    at_each g g' (Exchange p q) Done (λ limits. answers limits g g' (Exchange p q) None Done (change limits (tree_of g) (Exchange p q)) Done (sound limits) refl refl (works g g' None Done (change limits (tree_of g) (Exchange p q)) refl made forest))
+done : (g g' : Slots) (p q : Key) → HasFault (tree_of g) (Exchange p q) None → ((limits : Limits) → KeepsForm limits g g') → IsForest g' → tree_of g' ≡ change V1 (tree_of g) (Exchange p q) → Answers g g' (Exchange p q) Done
+done g g' p q sound form forest made =
+    at_each g g' (Exchange p q) Done (λ limits. answers limits g g' (Exchange p q) None Done (change limits (tree_of g) (Exchange p q)) Done (sound limits) refl refl (form limits) (works g g' None Done (change limits (tree_of g) (Exchange p q)) refl made forest))
 
 module _ (g : Slots) (forest : IsForest g) (p q : Key) (sound : HasFault (tree_of g) (Exchange p q) None) (one two : Entry) (at : IsAt g p one) (to : IsAt g q two) where
   -- the first path leads to the first node
@@ -135,11 +137,11 @@ module _ (g : Slots) (forest : IsForest g) (p q : Key) (sound : HasFault (tree_o
   pub stayed : one.node ≡ two.node → Answers g g (Exchange p q) Done
   stayed same =
       let paths : p ≡ q = forest.once p q two.node (to_one ∙ ap Some same) to_two in
-      done g g p q sound forest (sym (ap (λ b. cond {A = Tree} b (tree_of g) (exchanged (tree_of g) p q)) (ap (is_same p) (sym paths) ∙ is_same_refl p)))
+      done g g p q sound (λ limits have. have) forest (sym (ap (λ b. cond {A = Tree} b (tree_of g) (exchanged (tree_of g) p q)) (ap (is_same p) (sym paths) ∙ is_same_refl p)))
 
   -- two nodes, which change places
   pub swapped : one.node ≢ two.node → (g' : Slots) → Swaps g g' one two → Answers g g' (Exchange p q) Done
-  swapped other g' edit = done g g' p q sound whole made
+  swapped other g' edit = done g g' p q sound form whole made
     where
       differ : p ≢ q
       differ e = let both : Some one.node ≡ Some two.node = sym to_one ∙ ap (walk g) e ∙ to_two in other (let same : one.node ≡ two.node = cc in same)
@@ -179,6 +181,9 @@ module _ (g : Slots) (forest : IsForest g) (p q : Key) (sound : HasFault (tree_o
 
       other_link : Relinked edit.between g' two.dir (last_of q) one.node
       other_link = relinked edit.between g' one_link.rising two.dir two.place (last_of q) one.node (one_link.kept two.dir ∙ ap node_of to.directory) there (edit.second (last_of q) there)
+
+      form : (limits : Limits) → KeepsForm limits g g'
+      form limits = λ have. form_edit limits edit.between g' two.dir _ (edit.second (last_of q) there) (form_edit limits g edit.between one.dir _ first have)
 
       turned : Turned g g' one.dir (last_of p) one.node two.dir (last_of q) two.node
       turned = both_relinked g edit.between g' one.dir (last_of p) one.node two.dir (last_of q) two.node apart one_link other_link

@@ -18,7 +18,7 @@ true_from_T false h = absurd h
 parent_is_dir : (g : Slots) (n : ℕ) (x : Name) (m : ℕ) (o : Option Place) → place_at g n ≡ o → child g n x ≡ Some m → node_of o ≡ Some IsDir
 parent_is_dir g n x m None e h = let none = child_of g n x None e in absurd (cc)
 parent_is_dir g n x m (Some (Dir links)) e h = refl
-parent_is_dir g n x m (Some (File bytes)) e h = let none = child_of g n x (Some (File bytes)) e in absurd (cc)
+parent_is_dir g n x m (Some (File file)) e h = let none = child_of g n x (Some (File file)) e in absurd (cc)
 
 -- what stands above a key, by the child that leads to it
 by_child : (g : Slots) (d : Key) (x : Name) (node : Node) (n : ℕ) (o : Option ℕ) → walk g d ≡ Some n → child g n x ≡ o → spelled g (d ++ x ∷ []) ≡ Some node → spelled g d ≡ Some IsDir

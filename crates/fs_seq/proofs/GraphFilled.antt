@@ -1,6 +1,7 @@
 -- A file whose bytes are written.
-use Rattle.std.proofs.Common.{◌≡◌, ◌≢◌, ℕ, Bool, true, false, cond, List, [], ◌∷◌, Some, None, Option, is_some, option_and_then, refl, sym, ap, subst, ◌∙◌, nat_eq, IsTrue}
+use Rattle.std.proofs.Common.{◌≡◌, ◌≢◌, ℕ, Bool, true, false, cond, [], ◌∷◌, Some, None, Option, is_some, option_and_then, refl, sym, ap, subst, ◌∙◌, nat_eq, IsTrue}
 use Rattle.std.specs.FinMap.{is_sorted}
+use Rattle.fs_blocks.specs.Files.{FileValue}
 use Rattle.fs_names.specs.Names.{Name, name_cmp}
 use Rattle.fs_names.specs.Keys.{Key, same_key}
 use Rattle.fs_calls.specs.Tree.{Node, Tree, look, inserted}
@@ -24,7 +25,7 @@ never : (b : Bool) → (b ≡ true → ⊥) → b ≡ false
 never true h = absurd (h refl)
 never false h = refl
 
-module _ (g g' : Slots) (forest : IsForest g) (p : Key) (n : ℕ) (walked : walk g p ≡ Some n) (old new : List ℕ) (file : place_at g n ≡ Some (File old)) (filling : Sets g g' n (Some (File new))) where
+module _ (g g' : Slots) (forest : IsForest g) (p : Key) (n : ℕ) (walked : walk g p ≡ Some n) (old new : FileValue) (file : place_at g n ≡ Some (File old)) (filling : Sets g g' n (Some (File new))) where
   -- all children stay
   same_child : (j : ℕ) (y : Name) → child g' j y ≡ child g j y
   same_child j y =
@@ -55,7 +56,7 @@ module _ (g g' : Slots) (forest : IsForest g) (p : Key) (n : ℕ) (walked : walk
 
   -- the root is no file
   not_root : 0 ≢ n
-  not_root e = let wrong : Some tree.Dir ≡ Some (tree.File old) = sym forest.root ∙ ap (node_at g) e ∙ ap node_of file in cc
+  not_root e = let wrong : Some tree.Dir ≡ Some (tree.File old.bytes) = sym forest.root ∙ ap (node_at g) e ∙ ap node_of file in cc
 
   -- the graph is a forest again
   pub forest_filled : IsForest g'
@@ -74,14 +75,14 @@ module _ (g g' : Slots) (forest : IsForest g) (p : Key) (n : ℕ) (walked : walk
       ∙ sym (spelled_at g' k j (walk-filled k ∙ w) ∙ ap node_of (filling.elsewhere j (λ e. ne (forest.once k p n (w ∙ ap (λ z. Some z) e) walked))))
 
   -- what the new tree has at each key
-  look_filled : (k : Key) (b : Bool) → same_key k p ≡ b → look (inserted (tree_of g) p (tree.File new)) k ≡ spelled g' k
+  look_filled : (k : Key) (b : Bool) → same_key k p ≡ b → look (inserted (tree_of g) p (tree.File new.bytes)) k ≡ spelled g' k
   look_filled k true same =
-      look-inserted (tree_of g) p (tree.File new) k ∙ ap (λ b. cond {A = Option Node} b (Some (tree.File new)) (look (tree_of g) k)) same
+      look-inserted (tree_of g) p (tree.File new.bytes) k ∙ ap (λ b. cond {A = Option Node} b (Some (tree.File new.bytes)) (look (tree_of g) k)) same
       ∙ sym (spelled_at g' k n (walk-filled k ∙ ap (walk g) (same_key_exact k p same) ∙ walked) ∙ ap node_of filling.here)
   look_filled k false other =
-      look-inserted (tree_of g) p (tree.File new) k ∙ ap (λ b. cond {A = Option Node} b (Some (tree.File new)) (look (tree_of g) k)) other
+      look-inserted (tree_of g) p (tree.File new.bytes) k ∙ ap (λ b. cond {A = Option Node} b (Some (tree.File new.bytes)) (look (tree_of g) k)) other
       ∙ look-tree_of g forest k ∙ same_spelled k (λ e. let wrong : true ≡ false = sym (ap (λ z. same_key z p) e ∙ same_key_refl p) ∙ other in cc) (walk g k) refl
 
   -- the new tree
-  pub tree_filled : tree_of g' ≡ inserted (tree_of g) p (tree.File new)
-  tree_filled = is_tree_of g' (inserted (tree_of g) p (tree.File new)) forest_filled (sorted-inserted (tree_of g) p (tree.File new) (sorted-tree_of g)) (λ k. look_filled k (same_key k p) refl)
+  pub tree_filled : tree_of g' ≡ inserted (tree_of g) p (tree.File new.bytes)
+  tree_filled = is_tree_of g' (inserted (tree_of g) p (tree.File new.bytes)) forest_filled (sorted-inserted (tree_of g) p (tree.File new.bytes) (sorted-tree_of g)) (λ k. look_filled k (same_key k p) refl)

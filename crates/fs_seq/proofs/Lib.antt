@@ -22,3 +22,4 @@ pub mod Removed
 pub mod Looked
 pub mod Written
 pub mod Root
+pub mod KeptForms

@@ -48,7 +48,7 @@ module _ (limits : Limits) (call : Call) (c : NodeCall) (p : Key) (on_node : for
 -- the names of the links of a place are those that are seen
 pub link_names : (at : Place) → map (λ l. l.0) (links_of (Some at)) ≡ names_of (shape_of (Some at))
 link_names (Dir links) = refl
-link_names (File bytes) = refl
+link_names (File file) = refl
 
 -- ---- names of links, one by one
 

@@ -24,7 +24,7 @@ use Rattle.fs_seq.proofs.Replies.{works}
 -- what a node is in a tree is what its place is
 pub node_place : (node : nodes.the_data) → node_of (Some (place node)) ≡ Some (tree_node node)
 node_place (nodes.Dir links) = refl
-node_place (nodes.File bytes) = refl
+node_place (nodes.File file) = refl
 
 -- the errors of both calls are those of making a node
 pub mkdir_fault : (limits : Limits) (t : Tree) (p : Key) → fault limits t (Mkdir p) ≡ making_fault limits t p

@@ -30,7 +30,7 @@ same_walks g h n j (y ∷ k) same never =
 pub placed : (o : Option Place) → is_some (node_of o) ≡ is_some o
 placed None = refl
 placed (Some (Dir links)) = refl
-placed (Some (File bytes)) = refl
+placed (Some (File file)) = refl
 
 -- h is g without the name x1 of n1, and then g' is h with the name x2 of n2, which leads where the old one led
 pub record Relinks (g h g' : Slots) (d1 : Key) (n1 : ℕ) (x1 : Name) (s : ℕ) (d2 : Key) (n2 : ℕ) (x2 : Name) : Type 0 where

@@ -32,6 +32,7 @@ use Rattle.fs_slab.proofs.NodeLemmas.{parent_and_last, child_got}
 use Rattle.fs_slab.proofs.SlabLemmas.{sets_slot}
 use Rattle.fs_seq.proofs.Spots.{not_root, root, spot_parents, spot_seen}
 use Rattle.fs_seq.proofs.GraphCut.{forest_cut, tree_cut}
+use Rattle.fs_seq.proofs.KeptForms.{form_detached}
 use Rattle.fs_seq.proofs.Replies.{works, fails, answers, at_each}
 
 -- a call on a path that is not the root, by its parent's error and what is there
@@ -63,7 +64,7 @@ pub entry_leaf : (c : EntryCall) (o : Option Place) → new_shape (entry_call V1
 entry_leaf Mkdir o h e = absurd (cc)
 entry_leaf Mknod o h e = absurd (cc)
 entry_leaf c None h e = refl
-entry_leaf c (Some (File bytes)) h e = refl
+entry_leaf c (Some (File file)) h e = refl
 entry_leaf c (Some (Dir [])) h e = refl
 entry_leaf entries.Unlink (Some (Dir (l ∷ links))) h e = absurd (cc)
 entry_leaf entries.Rmdir (Some (Dir (l ∷ links))) h e = absurd (cc)
@@ -96,7 +97,7 @@ module _ (call : Call) (p : Key) (at_root : Errno) (rest : Option Errno → Opti
 
   -- a call that fails changes nothing
   pub refused : (g : Slots) (e : Errno) → IsForest g → HasFault (tree_of g) call (Some e) → Answers g g call (Failed e)
-  refused g e forest found = at_each g g call (Failed e) (λ limits. answers limits g g call (Some e) Done (removed (tree_of g) p) _ (found limits) (by.well limits (tree_of g)) (by.makes limits (tree_of g)) (fails g (Some e) Done (removed (tree_of g) p) e refl forest))
+  refused g e forest found = at_each g g call (Failed e) (λ limits. answers limits g g call (Some e) Done (removed (tree_of g) p) _ (found limits) (by.well limits (tree_of g)) (by.makes limits (tree_of g)) (λ have. have) (fails g (Some e) Done (removed (tree_of g) p) e refl forest))
 
   -- one that does not removes what it found
   pub is_removed : (g g' : Slots) (dir i n : ℕ) → IsForest g → IsVictim g call p dir i n → Detaches g g' dir i n → Answers g g' call Done
@@ -105,7 +106,7 @@ module _ (call : Call) (p : Key) (at_root : Errno) (rest : Option Errno → Opti
       let leaf : (y : Name) → child g n y ≡ None = λ y. nothing y in
       let there : find name_cmp (last_of p) (links_at g dir) ≡ Some n = sym (child_got g dir (last_of p) _ spot.directory) ∙ spot.leads in
       let unlinking' : Sets g detached.between dir (Some (Dir (without (last_of p) (links_at g dir)))) = subst (λ ls. Sets g detached.between dir (Some (Dir ls))) spot.stands.others detached.unlinking in
-      at_each g g' call Done (λ limits. answers limits g g' call None Done (removed (tree_of g) p) Done (victim.sound limits) (by.well limits (tree_of g)) (by.makes limits (tree_of g))
+      at_each g g' call Done (λ limits. answers limits g g' call None Done (removed (tree_of g) p) Done (victim.sound limits) (by.well limits (tree_of g)) (by.makes limits (tree_of g)) (form_detached limits g g' dir i n detached)
       (works g g' None Done (removed (tree_of g) p) refl
       (tree_cut g detached.between g' forest (parent_of p) dir spot.parent (links_at g dir) spot.directory (last_of p) n there leaf unlinking' detached.removing ∙ ap (removed (tree_of g)) (sym (parent_and_last p victim.named)))
       (forest_cut g detached.between g' forest (parent_of p) dir spot.parent (links_at g dir) spot.directory (last_of p) n there leaf unlinking' detached.removing)))

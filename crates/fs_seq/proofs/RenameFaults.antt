@@ -96,7 +96,7 @@ length_names (l ∷ links) = ap suc (length_names links)
 pub there_not_missing : (o : Option Place) → is_some o ≡ true → is_missing (shape_of o) ≡ false
 there_not_missing None e = absurd (cc)
 there_not_missing (Some (Dir links)) e = refl
-there_not_missing (Some (File bytes)) e = refl
+there_not_missing (Some (File file)) e = refl
 
 module _ (limits : Limits) (g : Slots) (forest : IsForest g) (p q : Key) (text : by_text (AtPair (pairs.Rename (entry_limit limits)) p q) ≡ None) where
   -- neither path is the root

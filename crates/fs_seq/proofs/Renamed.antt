@@ -14,7 +14,7 @@ use Rattle.fs_calls.specs.Outcomes.{change}
 use Rattle.fs_seq.specs.Memory.{needs_memory}
 use Rattle.fs_slab.specs.code.Slots.{Dir, Slots, place_at, node_of, links_of, links_at, walk, node_at, tree_of, IsForest, Sets}
 use Rattle.fs_slab.specs.code.Nodes.{without, IsNameAt, IsTaken, IsFree, IsAt}
-use Rattle.fs_seq.specs.code.Effects.{AnswersWithin, HasFaultBy}
+use Rattle.fs_seq.specs.code.Effects.{AnswersWithin, HasFaultBy, KeepsForm}
 use Rattle.fs_seq.specs.code.Renaming.{Moves, Plans, Displaces, Transfers}
 use Rattle.fs_slab.specs.declared.nodes.Entry.{Entry}
 use Rattle.fs_seq.specs.declared.rename.Plan.{Plan}
@@ -31,6 +31,7 @@ use Rattle.fs_seq.proofs.Rewiring.{Crosses, Turns, Rewires, which, crossed, turn
 use Rattle.fs_seq.proofs.LinkEdits.{set_in_place, set_then_removed}
 use Rattle.fs_seq.proofs.RenameFaults.{new_named, taken_walk, free_walk}
 use Rattle.fs_seq.proofs.Spots.{has_names}
+use Rattle.fs_seq.proofs.KeptForms.{form_edit, form_displaced, form_transferred}
 use Rattle.fs_seq.proofs.Replies.{works, fails, answers, needs}
 
 -- ---- replies
@@ -38,23 +39,23 @@ use Rattle.fs_seq.proofs.Replies.{works, fails, answers, needs}
 -- a rename with an error leaves all as it was
 pub failed : (limits : Limits) (g : Slots) (p q : Key) (e : Errno) → IsForest g → HasFaultBy limits (tree_of g) (Rename p q) (Some e) → AnswersWithin limits g g (Rename p q) (Failed e)
 failed limits g p q e forest h =
-    answers limits g g (Rename p q) (Some e) Done (change limits (tree_of g) (Rename p q)) (Failed e) h refl refl (fails g (Some e) Done (change limits (tree_of g) (Rename p q)) e refl forest)
+    answers limits g g (Rename p q) (Some e) Done (change limits (tree_of g) (Rename p q)) (Failed e) h refl refl (λ have. have) (fails g (Some e) Done (change limits (tree_of g) (Rename p q)) e refl forest)
 
 -- a rename without an error, which leaves the tree of its change
-done : (limits : Limits) (g g' : Slots) (p q : Key) → HasFaultBy limits (tree_of g) (Rename p q) None → IsForest g' → tree_of g' ≡ change limits (tree_of g) (Rename p q) → AnswersWithin limits g g' (Rename p q) Done
-done limits g g' p q h forest made =
-    answers limits g g' (Rename p q) None Done (change limits (tree_of g) (Rename p q)) Done h refl refl (works g g' None Done (change limits (tree_of g) (Rename p q)) refl made forest)
+done : (limits : Limits) (g g' : Slots) (p q : Key) → HasFaultBy limits (tree_of g) (Rename p q) None → KeepsForm limits g g' → IsForest g' → tree_of g' ≡ change limits (tree_of g) (Rename p q) → AnswersWithin limits g g' (Rename p q) Done
+done limits g g' p q h form forest made =
+    answers limits g g' (Rename p q) None Done (change limits (tree_of g) (Rename p q)) Done h refl refl form (works g g' None Done (change limits (tree_of g) (Rename p q)) refl made forest)
 
 -- and so does one of a path onto itself
 pub stayed : (limits : Limits) (g : Slots) (p q : Key) → IsForest g → HasFaultBy limits (tree_of g) (Rename p q) None → p ≡ q → AnswersWithin limits g g (Rename p q) Done
-stayed limits g p q forest h same = done limits g g p q h forest (sym (same_after (tree_of g) p q same))
+stayed limits g p q forest h same = done limits g g p q h (λ have. have) forest (sym (same_after (tree_of g) p q same))
   where
     same_after : (t : Tree) (p q : Key) → p ≡ q → change limits t (Rename p q) ≡ t
     same_after t p q e = ap (λ b. cond {A = Tree} b t (renamed t p q)) (ap (is_same p) (sym e) ∙ is_same_refl p)
 
 -- a rename that is done, by the tree that it leaves
-moved : (limits : Limits) (g g' : Slots) (p q : Key) → Moves limits g p q → IsForest g' × (tree_of g' ≡ renamed (tree_of g) p q) → AnswersWithin limits g g' (Rename p q) Done
-moved limits g g' p q may made = done limits g g' p q may.allowed made.0 (made.1 ∙ sym (ap (λ b. cond {A = Tree} b (tree_of g) (renamed (tree_of g) p q)) (never_same p q may.differ)))
+moved : (limits : Limits) (g g' : Slots) (p q : Key) → Moves limits g p q → KeepsForm limits g g' → IsForest g' × (tree_of g' ≡ renamed (tree_of g) p q) → AnswersWithin limits g g' (Rename p q) Done
+moved limits g g' p q may form made = done limits g g' p q may.allowed form made.0 (made.1 ∙ sym (ap (λ b. cond {A = Tree} b (tree_of g) (renamed (tree_of g) p q)) (never_same p q may.differ)))
 
 -- ---- edits
 
@@ -127,7 +128,7 @@ module _ (limits : Limits) (g : Slots) (forest : IsForest g) (p q : Key) (may : 
     moved_within g' x i entries to last edit =
         let links : put name_cmp x entry.node (remove (links_at g entry.dir) entry.place) ≡ put name_cmp (last_of q) entry.node (without (last_of p) (links_at g entry.dir)) = (λ j. put name_cmp (sym last j) entry.node (at.stands.others j)) in
         let turns : Turns g g' entry.dir (last_of p) (last_of q) entry.node = subst (λ ls. Sets g g' entry.dir (Some (Dir ls))) links edit in
-        moved limits g g' p q may (renamed_free g forest p q entry.dir entry.node entry.dir renames at.parent at.leads to.parent g'
+        moved limits g g' p q may (form_edit limits g g' entry.dir _ edit) (renamed_free g forest p q entry.dir entry.node entry.dir renames at.parent at.leads to.parent g'
         (turned_in g g' forest.rising entry.dir (last_of p) (last_of q) entry.node dir_node dir_placed turns))
 
     -- ---- onto another entry
@@ -156,7 +157,7 @@ module _ (limits : Limits) (g : Slots) (forest : IsForest g) (p q : Key) (may : 
           which victim.dir entry.dir (Rewires g edit.unlinked entry.dir (last_of p) victim.dir (last_of q) entry.node)
           (λ same. rewired_within edit.between edit.unlinked same leading edit.unlinking)
           (λ other. rewired_across edit.between edit.unlinked (λ e. other (sym e)) leading edit.unlinking) in
-          moved limits g g' p q may (renamed_onto g forest p q entry.dir entry.node victim.dir renames at.parent at.leads to.parent edit.unlinked g' victim.node to.leads rewires edit.removing)
+          moved limits g g' p q may (form_displaced limits g g' entry victim x edit) (renamed_onto g forest p q entry.dir entry.node victim.dir renames at.parent at.leads to.parent edit.unlinked g' victim.node to.leads rewires edit.removing)
 
     -- ---- to another directory
 
@@ -164,7 +165,7 @@ module _ (limits : Limits) (g : Slots) (forest : IsForest g) (p q : Key) (may : 
       pub moved_across : (g' : Slots) (x : Name) → last_of q ≡ x → Transfers g g' entry dir i x → AnswersWithin limits g g' (Rename p q) Done
       moved_across g' x last edit =
           let put_in : insert (links_at g dir) i (x, entry.node) ≡ put name_cmp (last_of q) entry.node (links_at g dir) = ap (λ y. insert (links_at g dir) i (y, entry.node)) (sym last) ∙ sym (to.belongs.placed entry.node) in
-          moved limits g g' p q may (renamed_free g forest p q entry.dir entry.node dir renames at.parent at.leads to.parent g'
+          moved limits g g' p q may (form_transferred limits g g' entry dir i x edit) (renamed_free g forest p q entry.dir entry.node dir renames at.parent at.leads to.parent g'
           (crossed g g' forest.rising entry.dir (last_of p) dir (last_of q) entry.node dir_node dir_placed (ap node_of to.directory)
           (crosses g edit.between g' entry.dir dir entry.place (last_of p) (last_of q) entry.node (insert (links_at g dir) i (x, entry.node)) apart edit.linking put_in edit.unlinking at.stands)))
 

@@ -8,7 +8,7 @@ use Rattle.fs_calls.specs.Forms.{form, by_text}
 use Rattle.fs_calls.specs.Outcomes.{row, fault, success, change, reply, after, replied, if_sound}
 use Rattle.fs_seq.specs.Memory.{takes_memory, needs_memory}
 use Rattle.fs_slab.specs.code.Slots.{Slots, tree_of, IsForest}
-use Rattle.fs_seq.specs.code.Effects.{Gives, AnswersWithin, Answers}
+use Rattle.fs_seq.specs.code.Effects.{Gives, AnswersWithin, Answers, KeepsForm}
 use Rattle.fs_calls.specs.declared.call.Call.{Call}
 use Rattle.fs_calls.specs.declared.reply.Reply.{Reply}
 use Rattle.fs_calls.specs.declared.reply.Reply.TheVariants.{Failed}
@@ -33,17 +33,18 @@ pub fails : (g : Slots) (found : Option Errno) (well : Reply) (new : Tree) (e : 
 fails g found well new e some forest = record { reply = ap (λ f. replied f well) (sym some); tree = ap (λ f. if_sound f (tree_of g) new) (sym some); forest = forest }
 
 -- an answer by the errors of a call is one to the call
-pub answers : (limits : Limits) (g g' : Slots) (call : Call) (found : Option Errno) (well : Reply) (new : Tree) (r : Reply) → fault limits (tree_of g) call ≡ found → success limits (tree_of g) call ≡ well → change limits (tree_of g) call ≡ new → Gives g g' found well new r → AnswersWithin limits g g' call r
+pub answers : (limits : Limits) (g g' : Slots) (call : Call) (found : Option Errno) (well : Reply) (new : Tree) (r : Reply) → fault limits (tree_of g) call ≡ found → success limits (tree_of g) call ≡ well → change limits (tree_of g) call ≡ new → KeepsForm limits g g' → Gives g g' found well new r → AnswersWithin limits g g' call r
 unfolding reply after
-answers limits g g' call found well new r e f h given = record {
+answers limits g g' call found well new r e f h form given = record {
   reply = given.reply ∙ (λ i. replied (sym e i) (sym f i));
   tree = given.tree ∙ (λ i. if_sound (sym e i) (tree_of g) (sym h i));
   forest = given.forest;
+  form = form;
 }
 
 -- an answer that holds by all limits
 pub at_each : (g g' : Slots) (call : Call) (r : Reply) → ((limits : Limits) → AnswersWithin limits g g' call r) → Answers g g' call r
-at_each g g' call r h = record { reply = λ limits. (h limits).reply; tree = λ limits. (h limits).tree; forest = (h V1).forest }
+at_each g g' call r h = record { reply = λ limits. (h limits).reply; tree = λ limits. (h limits).tree; forest = (h V1).forest; form = λ limits. (h limits).form }
 
 -- what follows of a value
 pub IfOk-map : {A E : Type 0} {P Q : A → Type 0} (r : Result A E) → ((a : A) → P a → Q a) → IfOk r P → IfOk r Q
@@ -56,7 +57,7 @@ OnErr-map (Ok a) f h = h
 OnErr-map (Err e) f h = f h
 
 -- a call without an error that takes memory needs it
-pub needs : (limits : Limits) (t : Tree) (call : Call) → fault limits t call ≡ None → takes_memory t call ≡ true → IsTrue (needs_memory limits t call)
+pub needs : (limits : Limits) (t : Tree) (call : Call) → fault limits t call ≡ None → takes_memory limits t call ≡ true → IsTrue (needs_memory limits t call)
 unfolding needs_memory
 needs limits t call none takes = λ i. not (is_some (none i)) && takes i
 
@@ -68,7 +69,7 @@ on_err (Err e) h = h
 -- a call that fails, and leaves the graph as it was
 pub refused : (limits : Limits) (g g' : Slots) (call : Call) (e : Errno) → g' ≡ g → IsForest g → fault limits (tree_of g) call ≡ Some e → AnswersWithin limits g g' call (Failed e)
 refused limits g g' call e same forest found =
-    subst (λ h. AnswersWithin limits g h call (Failed e)) (sym same) (answers limits g g call (Some e) (success limits (tree_of g) call) (change limits (tree_of g) call) (Failed e) found refl refl (fails g (Some e) (success limits (tree_of g) call) (change limits (tree_of g) call) e refl forest))
+    subst (λ h. AnswersWithin limits g h call (Failed e)) (sym same) (answers limits g g call (Some e) (success limits (tree_of g) call) (change limits (tree_of g) call) (Failed e) found refl refl (λ have. have) (fails g (Some e) (success limits (tree_of g) call) (change limits (tree_of g) call) e refl forest))
 
 -- a fact is one of a success
 pub on_ok : {A E P : Type 0} (r : Result A E) → P → OnOk r P

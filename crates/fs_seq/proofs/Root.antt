@@ -1,10 +1,10 @@
 -- The graph of the root alone.
-use Rattle.std.proofs.Common.{◌≡◌, ◌≢◌, ℕ, zero, suc, true, false, [], ◌∷◌, Some, None, is_some, option_and_then, map, subst, Vec, Global, refl, sym, ap, ◌∙◌, nat_eq}
+use Rattle.std.proofs.Common.{◌≡◌, ◌≢◌, ℕ, zero, suc, Bool, true, false, [], ◌∷◌, Some, None, is_some, option_and_then, map, subst, Vec, Global, refl, sym, ap, ◌∙◌, nat_eq}
 use Rattle.std.specs.FinMap.{find, is_sorted}
 use Rattle.fs_names.specs.Names.{Name, name_cmp}
 use Rattle.fs_names.specs.Keys.{Key}
 use Rattle.fs_calls.specs.Tree.{look, root_tree}
-use Rattle.fs_slab.specs.code.Slots.{Dir, Slots, place_at, node_of, links_at, child, walk_from, walk, spelled, tree_of, IsForest}
+use Rattle.fs_slab.specs.code.Slots.{Dir, Slots, place_at, node_of, links_at, child, walk_from, walk, spelled, tree_of, IsForest, HasForm, HaveForm}
 use Rattle.fs_slab.proofs.GraphLemmas.{is_tree_of}
 use Rattle.fs_slab.proofs.Edits.{nat_same, nat_differ}
 use Rattle.fs_slab.proofs.Resolving.{spelled_at, spelled_none}
@@ -41,6 +41,16 @@ module _ (g : Slots) (root : place_at g 0 ≡ Some (Dir [])) (others : (j : ℕ)
     root = ap node_of root;
     rising = λ j. ap (is_sorted name_cmp) (no_links j);
   }
+
+  -- there are no files
+  pub form_root : (in_blocks : Bool) → HaveForm in_blocks g
+  form_root in_blocks = record { each = λ j. at j }
+    where
+      at : (j : ℕ) → HasForm in_blocks (place_at g j)
+      at j = elim (nat_eq j 0) as (λ b. nat_eq j 0 ≡ b → HasForm in_blocks (place_at g j)) [
+        | true ↦ λ e. subst (HasForm in_blocks) (sym (ap (place_at g) (nat_same j 0 e) ∙ root)) tt
+        | false ↦ λ e. subst (HasForm in_blocks) (sym (others j (nat_differ j 0 e))) tt
+      ] refl
 
   -- it spells the root alone
   look_root : (k : Key) → look root_tree k ≡ spelled g k

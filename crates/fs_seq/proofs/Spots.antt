@@ -1,5 +1,5 @@
 -- What a call sees of a path whose last name was looked up, and the errors that follow.
-use Rattle.std.proofs.Common.{◌≡◌, ℕ, Ok, ◌<◌, Bool, true, false, [], ◌∷◌, length, map, Some, None, Option, is_some, refl, sym, ap, ◌∙◌, arith}
+use Rattle.std.proofs.Common.{◌≡◌, ℕ, Ok, ◌<◌, Bool, true, false, [], ◌∷◌, length, Some, None, Option, is_some, refl, sym, ap, ◌∙◌, arith}
 use Rattle.std.specs.Prelude.{nat_le, IfSome}
 use Rattle.std.proofs.lemmas.List.{length-map}
 use Rattle.fs_names.specs.Limits.{entry_limit}
@@ -110,7 +110,7 @@ there_is (Some s) e = refl
 some_shape : (o : Option Place) → is_some o ≡ true → is_some (shape_of o) ≡ true
 some_shape None e = e
 some_shape (Some (Dir links)) e = refl
-some_shape (Some (File bytes)) e = refl
+some_shape (Some (File file)) e = refl
 
 -- the error of a name that is there
 pub making_taken : (limits : Limits) (g : Slots) (p : Key) (dir i n : ℕ) → IsForest g → 0 < length p → IsTaken g p dir i n → making_fault limits (tree_of g) p ≡ Some Eexist

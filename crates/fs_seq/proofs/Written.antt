@@ -1,8 +1,8 @@
 -- What the calls that change the bytes of a file answer and leave.
-use Rattle.std.proofs.Common.{◌≡◌, ℕ, ◌+◌, ◌&&◌, List, length, Some, None, Option, IsTrue, refl, sym, ap, subst, ◌∙◌}
+use Rattle.std.proofs.Common.{◌≡◌, ℕ, ◌+◌, ◌&&◌, ◌||◌, List, length, Some, None, Option, IsTrue, refl, sym, ap, subst, ◌∙◌}
 use Rattle.std.specs.Prelude.{nat_lt}
 use Rattle.slab.specs.Slab.{Slab, get, with_value}
-use Rattle.fs_names.specs.Limits.{file_limit}
+use Rattle.fs_names.specs.Limits.{file_limit, in_blocks}
 use Rattle.fs_names.specs.Keys.{Key}
 use Rattle.fs_names.specs.Names.{Name}
 use Rattle.fs_names.specs.declared.limits.Limits.{Limits}
@@ -19,11 +19,13 @@ use Rattle.fs_calls.specs.Rows.{node_fault, node_reply, new_bytes, node_row, ans
 use Rattle.fs_calls.proofs.RowNames.{on_dir}
 use Rattle.fs_seq.specs.Memory.{needs_memory}
 use Rattle.fs_slab.specs.declared.nodes.Node.{Node}
-use Rattle.fs_slab.specs.code.Slots.{Place, Dir, File, shape_of, walk, tree_of, IsForest}
+use Rattle.fs_slab.specs.code.Slots.{Place, Dir, File, shape_of, walk, tree_of, IsForest, HasForm}
 use Rattle.fs_slab.specs.code.Nodes.{place, graph}
-use Rattle.fs_seq.specs.code.Effects.{AnswersWithin, Rewrites, refilled}
+use Rattle.fs_seq.specs.code.Effects.{AnswersWithin, KeepsForm, Rewrites, refilled}
 use Rattle.fs_slab.proofs.NodeLemmas.{place_got}
 use Rattle.fs_slab.proofs.SlabLemmas.{sets_value, same_graph}
+use Rattle.fs_slab.proofs.FormLemmas.{form_set}
+use Rattle.fs_seq.proofs.KeptForms.{form_same}
 use Rattle.fs_seq.proofs.GraphFilled.{forest_filled, tree_filled}
 use Rattle.fs_seq.proofs.Looked.{error_there, looking_fault}
 use Rattle.fs_seq.proofs.Replies.{needs}
@@ -50,14 +52,18 @@ module _ (limits : Limits) (s : Slab Node) (call : Call) (c : NodeCall) (p : Key
 
   -- the tree with the new bytes of a file
   refills : (node' : Node) (at : Place) (o : Option (List ℕ)) → place node ≡ at → place node' ≡ refilled o at → ((links : List (Name × ℕ)) → at ≡ Dir links → o ≡ None)
-      → (tree_of (graph (with_value s n node')) ≡ filled (tree_of (graph s)) p o) × IsForest (graph (with_value s n node'))
+      → (tree_of (graph (with_value s n node')) ≡ filled (tree_of (graph s)) p o) × IsForest (graph (with_value s n node')) × KeepsForm limits (graph s) (graph (with_value s n node'))
   refills node' at None was is files =
-      let same = same_graph s n node node' got (is ∙ sym was) in (ap tree_of same, subst IsForest (sym same) forest)
+      let same = same_graph s n node node' got (is ∙ sym was) in (ap tree_of same, subst IsForest (sym same) forest, form_same limits (graph s) (graph (with_value s n node')) same)
   refills node' (Dir links) (Some new) was is files = let none = files links refl in absurd (cc)
   refills node' (File old) (Some new) was is files =
       let file = place_got s n node got ∙ ap (λ z. Some z) was in
-      let sets = sets_value s n node node' (File new) got is in
-      (tree_filled (graph s) (graph (with_value s n node')) forest p n walked old new file sets, forest_filled (graph s) (graph (with_value s n node')) forest p n walked old new file sets)
+      let now = record old { bytes = new } in
+      let sets = sets_value s n node node' (File now) got is in (
+        tree_filled (graph s) (graph (with_value s n node')) forest p n walked old now file sets,
+        forest_filled (graph s) (graph (with_value s n node')) forest p n walked old now file sets,
+        λ have. form_set (in_blocks limits) (graph s) (graph (with_value s n node')) n (Some (File now)) (subst (HasForm (in_blocks limits)) file (have.each n)) sets have,
+      )
 
   -- what a call on a node answers and leaves
   pub is_rewritten : (node' : Node) (r : Reply) → Rewrites (place node) (place node') c r → AnswersWithin limits (graph s) (graph (with_value s n node')) call r
@@ -70,18 +76,19 @@ module _ (limits : Limits) (s : Slab Node) (call : Call) (c : NodeCall) (p : Key
         reply = rewrites.reply ∙ row_reply (node_fault c None there) (node_reply c there) (new_bytes c there) ∙ (λ i. replied (sym node_found i) ((ap (node_reply c) (sym seen) ∙ sym (ap (reply_of t) on_node)) i));
         tree = made.0 ∙ row_change t p (node_fault c None there) (node_reply c there) (new_bytes c there) ∙ (λ i. if_sound (sym node_found i) t ((ap (λ z. filled t p (new_bytes c z)) (sym seen) ∙ sym (ap (change_of t) on_node)) i));
         forest = made.1;
+        form = made.2;
       }
 
 -- a write that needs memory
 pub write_needs : (limits : Limits) (s : Slab Node) (p : Key) (off : ℕ) (bytes : List ℕ) (n : ℕ) (node : Node) → IsForest (graph s) → walk (graph s) p ≡ Some n → get s n ≡ Some node → node_fault (forms.Write (file_limit limits) off bytes) None (shape_of (Some (place node))) ≡ None
-    → IsTrue (has_any bytes && nat_lt (length (bytes_of (shape_of (Some (place node))))) (off + length bytes)) → IsTrue (needs_memory limits (tree_of (graph s)) (Write p off bytes))
+    → IsTrue (has_any bytes && (in_blocks limits || nat_lt (length (bytes_of (shape_of (Some (place node))))) (off + length bytes))) → IsTrue (needs_memory limits (tree_of (graph s)) (Write p off bytes))
 write_needs limits s p off bytes n node forest walked got sound longer =
     needs limits (tree_of (graph s)) (Write p off bytes) (node_found limits s (Write p off bytes) (forms.Write (file_limit limits) off bytes) p refl n node forest walked got ∙ sound)
-    (ap (λ z. has_any bytes && nat_lt (length (bytes_of z)) (off + length bytes)) (seen limits s (Write p off bytes) (forms.Write (file_limit limits) off bytes) p refl n node forest walked got) ∙ longer)
+    (ap (λ z. has_any bytes && (in_blocks limits || nat_lt (length (bytes_of z)) (off + length bytes))) (seen limits s (Write p off bytes) (forms.Write (file_limit limits) off bytes) p refl n node forest walked got) ∙ longer)
 
 -- a truncate that needs memory
 pub truncate_needs : (limits : Limits) (s : Slab Node) (p : Key) (size : ℕ) (n : ℕ) (node : Node) → IsForest (graph s) → walk (graph s) p ≡ Some n → get s n ≡ Some node → node_fault (forms.Truncate (file_limit limits) size) None (shape_of (Some (place node))) ≡ None
-    → IsTrue (nat_lt (length (bytes_of (shape_of (Some (place node))))) size) → IsTrue (needs_memory limits (tree_of (graph s)) (Truncate p size))
+    → IsTrue (in_blocks limits || nat_lt (length (bytes_of (shape_of (Some (place node))))) size) → IsTrue (needs_memory limits (tree_of (graph s)) (Truncate p size))
 truncate_needs limits s p size n node forest walked got sound longer =
     needs limits (tree_of (graph s)) (Truncate p size) (node_found limits s (Truncate p size) (forms.Truncate (file_limit limits) size) p refl n node forest walked got ∙ sound)
-    (ap (λ z. nat_lt (length (bytes_of z)) size) (seen limits s (Truncate p size) (forms.Truncate (file_limit limits) size) p refl n node forest walked got) ∙ longer)
+    (ap (λ z. in_blocks limits || nat_lt (length (bytes_of z)) size) (seen limits s (Truncate p size) (forms.Truncate (file_limit limits) size) p refl n node forest walked got) ∙ longer)

@@ -1,12 +1,14 @@
 //! The calls that make a node.
 
 ghost use Rattle.std.specs.Prelude.{◌≡◌, ◌≢◌, ◌≤◌, Some, None, [], length, IfOk, OnOk, OnErr, IsTrue};
+ghost use Rattle.fs_names.specs.Limits.{in_blocks};
 ghost use Rattle.fs_calls.specs.Tree.{inserted};
 ghost use Rattle.fs_slab.specs.code.Nodes.{graph, place};
-ghost use Rattle.fs_slab.specs.code.Slots.{IsForest, place_at, links_at, links_of, tree_of, Dir as IsDir};
+ghost use Rattle.fs_slab.specs.code.Slots.{IsForest, HasForm, place_at, links_at, links_of, tree_of, Dir as IsDir};
 ghost use Rattle.fs_seq.specs.Memory.{needs_memory};
-ghost use Rattle.fs_seq.specs.code.Effects.{AnswersWithin, Attaches, FindsGap, Gives, making_fault, tree_node};
+ghost use Rattle.fs_seq.specs.code.Effects.{AnswersWithin, Attaches, FindsGap, Gives, KeepsForm, making_fault, tree_node};
 
+use fs_blocks::File;
 use fs_calls::path_errors::root_error;
 use fs_calls::{Call, EntryCall, Errno, Reply};
 use fs_memory::Memory;
@@ -76,8 +78,10 @@ fn make(
 ) -> Result<Reply, AllocError>
     requires forest { IsForest (graph nodes.old) }
     requires bare { links_of (Some (place node)) ≡ [] }
+    requires form { HasForm (in_blocks limits) (Some (place node)) }
     ensures given { IfOk result (Gives (graph nodes.old) (graph nodes.new) (making_fault limits (tree_of (graph nodes.old)) path.now) Reply.Done (inserted (tree_of (graph nodes.old)) path.now (tree_node node))) }
     ensures err { OnErr result (graph nodes.new ≡ graph nodes.old) }
+    ensures form { KeepsForm limits (graph nodes.old) (graph nodes.new) }
     ensures memory { OnErr result (making_fault limits (tree_of (graph nodes.old)) path.now ≡ None) }
     ensures granted { OnOk result (memory.new ≡ memory.old) }
     ensures refused { OnErr result (memory.new ≢ memory.old) }
@@ -145,6 +149,6 @@ pub fn mknod(
         nodes,
         path,
         limits,
-        Node::File(Vec::new(alloc)),
+        Node::File(File::empty(alloc, limits.in_blocks())),
     )
 }

@@ -1,20 +1,21 @@
 //! The nodes of a tree, made of its entries.
 
 ghost use Rattle.std.specs.Prelude.{◌≡◌, ℕ, ◌++◌, ◌∷◌, [], Some, None, Ok, Err, true, false, IfOk, OnOk, MatchOption, map};
+ghost use Rattle.fs_names.specs.Limits.{in_blocks};
 ghost use Rattle.fs_calls.specs.Tree.{root_tree};
 ghost use Rattle.fs_seq.specs.Rows.{fits, is_first, key_of, last_key, may_have, misfit, node_of_kind, row_of};
 ghost use Rattle.fs_seq.specs.code.Added.{IsPlaceOf};
-ghost use Rattle.fs_seq.specs.code.Effects.{tree_node};
+ghost use Rattle.fs_seq.specs.code.Effects.{KeepsForm, tree_node};
 ghost use Rattle.fs_slab.specs.code.Nodes.{graph, place};
-ghost use Rattle.fs_slab.specs.code.Slots.{IsForest, links_of, tree_of, walk};
+ghost use Rattle.fs_slab.specs.code.Slots.{IsForest, HasForm, links_of, tree_of, walk};
 
 use crate::create::attach;
 use crate::rows::Row;
+use fs_blocks::{File, Spare};
 use fs_calls::ranges::{fits_size, is_full};
 use fs_memory::Memory;
 use fs_names::{Kind, Limits, Name};
 use fs_slab::Node;
-use fs_slab::copying::copied_bytes;
 use fs_slab::nodes::{search, step};
 use slab::Slab;
 use std::alloc::{AllocError, Global};
@@ -97,14 +98,32 @@ fn place_of<'a>(
     }
 }
 
+/// A file of these bytes, in the form of these limits.
+fn file_of(alloc: Global, bytes: &[u8], limits: Limits) -> Result<File, AllocError>
+    ensures { IfOk result (λ file. file ≡ record { bytes = bytes.now; in_blocks = in_blocks limits }) }
+{
+    if !limits.in_blocks() {
+        return Ok(File::plain(Vec::from_slice(alloc, bytes)?));
+    }
+    let mut file = File::in_blocks();
+    if bytes.is_empty() {
+        return Ok(file);
+    }
+    let spare = Spare::for_write(alloc, &mut Memory::new(), 0, bytes.len())?;
+    file.write(0, bytes, spare);
+    file.share(alloc, 0, bytes.len());
+    Ok(file)
+}
+
 /// The node of a row, which has no entries.
-fn bare_node(alloc: Global, row: &Row) -> Result<Node, AllocError>
+fn bare_node(alloc: Global, row: &Row, limits: Limits) -> Result<Node, AllocError>
     ensures node { IfOk result (λ node. tree_node node ≡ node_of_kind row.now.kind row.now.bytes.items) }
     ensures bare { IfOk result (λ node. links_of (Some (place node)) ≡ []) }
+    ensures form { IfOk result (λ node. HasForm (in_blocks limits) (Some (place node))) }
 {
     match row.kind {
         Kind::Dir => Ok(Node::Dir(Vec::new(alloc))),
-        Kind::File => Ok(Node::File(copied_bytes(&row.bytes)?)),
+        Kind::File => Ok(Node::File(file_of(alloc, &row.bytes, limits)?)),
     }
 }
 
@@ -119,13 +138,14 @@ fn add_row(
     requires forest { IsForest (graph nodes.old) }
     requires last { last_key (tree_of (graph nodes.old)) ≡ key_of before.now }
     ensures forest { IsForest (graph nodes.new) }
+    ensures form { KeepsForm limits (graph nodes.old) (graph nodes.new) }
     ensures fits { IfOk result (λ fit. fit ≡ fits limits (tree_of (graph nodes.old)) row.now) }
     ensures tree { result ≡ Ok true → tree_of (graph nodes.new) ≡ tree_of (graph nodes.old) ++ row_of row.now ∷ [] }
 {
     let Some((dir, i, name)) = place_of(nodes, before, row, limits) else {
         return Ok(false);
     };
-    let node = bare_node(alloc, row)?;
+    let node = bare_node(alloc, row, limits)?;
     attach(alloc, &mut Memory::new(), nodes, dir, i, name, node)?;
     Ok(true)
 }
@@ -140,6 +160,7 @@ pub fn add_rows(
     requires forest { IsForest (graph nodes.old) }
     requires root { tree_of (graph nodes.old) ≡ root_tree }
     ensures forest { IsForest (graph nodes.new) }
+    ensures form { KeepsForm limits (graph nodes.old) (graph nodes.new) }
     ensures tree { OnOk result (tree_of (graph nodes.new) ≡ map row_of rows.now) }
     ensures fits { OnOk result (misfit limits rows.now ≡ None) }
     ensures bad { (place : ℕ) → result ≡ Err (NotTree.Bad place) → misfit limits rows.now ≡ Some place }

@@ -5,7 +5,8 @@
 //! `copy_counted` fail exactly where a `Memory` counts a refusal.
 //!
 //! `SeqTree::copy` makes the same tree again, `SeqTree::rows` tells its entries, and `SeqTree::from_rows` makes a tree of
-//! entries or tells the first that no tree within the limits has there (`specs/Rows.antt`, with a law in `laws`).
+//! entries or tells the first that no tree within the limits has there (`specs/Rows.antt`, with a law in `laws`). Its limits
+//! say whether files are in blocks, which copies of a tree share, or in one vector each.
 //!
 //! Enter at `SeqTree::new`, or at `SeqTree::with_limits` for either set of limits, and at `SeqTree::apply`. What a call
 //! replies and leaves is defined in `fs_calls`, whose types are handed on here. The modules are by calls: `queries` (stat,

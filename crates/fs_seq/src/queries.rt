@@ -1,16 +1,15 @@
 //! The calls that change nothing: what stands at a path.
 
-ghost use Rattle.std.specs.Prelude.{◌≡◌, ◌≢◌, Some, MatchResult, IfOk, OnOk, OnErr, IsTrue, map};
+ghost use Rattle.std.specs.Prelude.{◌≡◌, ◌≢◌, Some, MatchResult, IfOk, OnOk, OnErr, IsTrue, map, take, drop};
 ghost use Rattle.fs_names.specs.declared.limits.Limits.{Limits};
 ghost use Rattle.fs_names.specs.declared.limits.Limits.TheVariants.{V1};
 ghost use Rattle.fs_calls.specs.Outcomes.{reply};
-ghost use Rattle.fs_calls.specs.Sights.{has_any};
+ghost use Rattle.fs_calls.specs.Sights.{has_any, bytes_of};
 ghost use Rattle.fs_calls.specs.code.Targets.{node_call};
 ghost use Rattle.fs_slab.specs.code.Nodes.{graph, pairs, place};
-ghost use Rattle.fs_slab.specs.code.Slots.{IsForest, tree_of};
+ghost use Rattle.fs_slab.specs.code.Slots.{IsForest, shape_of, tree_of};
 ghost use Rattle.fs_seq.specs.code.Effects.{IsFound, NeedsMemory, node_error};
 
-use fs_calls::ranges::part;
 use fs_calls::{Bytes, Call, Errno, NameList, NodeCall, Reply};
 use fs_memory::Memory;
 use fs_names::{Kind, Limits, Path};
@@ -45,7 +44,7 @@ pub fn stat(nodes: &Slab<Node>, path: &Path) -> Reply
     match find(nodes, path, NodeCall::Stat) {
         Err(errno) => Reply::Failed(errno),
         Ok(Node::Dir(links)) => Reply::Stat(Kind::Dir, links.len() as u64),
-        Ok(Node::File(bytes)) => Reply::Stat(Kind::File, bytes.len() as u64),
+        Ok(Node::File(file)) => Reply::Stat(Kind::File, file.len() as u64),
     }
 }
 
@@ -85,15 +84,22 @@ pub fn readdir(
     }
 }
 
-/// The same bytes again, in exactly as much memory.
-fn copied(alloc: Global, memory: &mut Memory, bytes: &[u8]) -> Result<Bytes, AllocError>
-    ensures ok { IfOk result (λ copy. copy ≡ bytes.now) }
-    ensures memory { OnErr result (IsTrue (has_any bytes.now)) }
+/// The bytes of a node from an offset on, and no more than a count, in exactly as much memory.
+fn copied(
+    alloc: Global,
+    memory: &mut Memory,
+    node: &Node,
+    off: u64,
+    count: u64,
+) -> Result<Bytes, AllocError>
+    ensures ok { IfOk result (λ copy. copy ≡ take count (drop off (bytes_of (shape_of (Some (place node.now)))))) }
+    ensures memory { OnErr result (IsTrue (has_any (take count (drop off (bytes_of (shape_of (Some (place node.now)))))))) }
     ensures granted { OnOk result (memory.new ≡ memory.old) }
     ensures refused { OnErr result (memory.new ≢ memory.old) }
 {
-    let mut copy = memory.with_room(alloc, bytes.len())?;
-    let _room_was_made = copy.extend_from_slice(bytes);
+    let behind = (node.len() as u64).saturating_sub(off);
+    let mut copy = memory.with_room(alloc, behind.min(count) as usize)?;
+    node.read(off, count, &mut copy);
     Ok(Bytes::new(copy))
 }
 
@@ -115,7 +121,7 @@ pub fn read(
     match find(nodes, path, NodeCall::Read(off, count)) {
         Err(errno) => Ok(Reply::Failed(errno)),
         Ok(node) => {
-            let copy = copied(alloc, memory, part(node.bytes(), off, count))?;
+            let copy = copied(alloc, memory, node, off, count)?;
             Ok(Reply::Bytes(copy))
         }
     }

@@ -8,8 +8,8 @@ ghost use Rattle.fs_slab.specs.code.Nodes.{graph, pairs, place};
 ghost use Rattle.fs_slab.specs.code.Slots.{IsForest, node_at, node_of, with_node, links_at, tree_of};
 ghost use Rattle.fs_seq.specs.code.Walks.{entries_below};
 
+use fs_blocks::File;
 use fs_names::{Kind, Name};
-use fs_slab::copying::copied_bytes;
 use fs_slab::{Link, Node};
 use slab::Slab;
 use std::alloc::{AllocError, Global};
@@ -73,6 +73,16 @@ fn push_entries(
     Ok(())
 }
 
+/// The bytes of a file, in a vector.
+fn bytes_of(alloc: Global, file: &File) -> Result<Vec<u8>, AllocError>
+    ensures { IfOk result (λ bytes. bytes.items ≡ file.now.bytes) }
+{
+    let len = file.len();
+    let mut bytes = Vec::with_capacity(alloc, len)?;
+    file.read(0, len as u64, &mut bytes);
+    Ok(bytes)
+}
+
 /// The row of a node.
 fn row_at(alloc: Global, key: Vec<Name>, node: &Node) -> Result<Row, AllocError>
     ensures row { IfOk result (λ row. with_node key.items (node_of (Some (place node.now))) [] ≡ row_of row ∷ []) }
@@ -84,10 +94,10 @@ fn row_at(alloc: Global, key: Vec<Name>, node: &Node) -> Result<Row, AllocError>
             kind: Kind::Dir,
             bytes: Vec::new(alloc),
         }),
-        Node::File(bytes) => Ok(Row {
+        Node::File(file) => Ok(Row {
             key,
             kind: Kind::File,
-            bytes: copied_bytes(bytes)?,
+            bytes: bytes_of(alloc, file)?,
         }),
     }
 }

@@ -33,11 +33,12 @@ impl Model for SeqTree {
     ghost Value = { Start };
 
     ghost use Rattle.fs_slab.specs.code.Nodes.{graph};
-    ghost use Rattle.fs_slab.specs.code.Slots.{tree_of, IsForest};
+    ghost use Rattle.fs_slab.specs.code.Slots.{tree_of, IsForest, HaveForm};
+    ghost use Rattle.fs_names.specs.Limits.{in_blocks};
 
     ghost view = { λ s. record { limits = s.limits; tree = tree_of (graph s.nodes) } };
 
-    ghost invariant = { λ s. IsForest (graph s.nodes) };
+    ghost invariant = { λ s. IsForest (graph s.nodes) × HaveForm (in_blocks s.limits) (graph s.nodes) };
 }
 
 impl SeqTree {
@@ -74,8 +75,8 @@ impl SeqTree {
         self.limits
     }
 
-    /// The same tree again, of the same limits, in memory of its own. Its nodes have the numbers that they have here, so that it has as many
-    /// places for nodes as this one.
+    /// The same tree again, of the same limits, in memory of its own; blocks of files are shared. Its nodes have the numbers
+    /// that they have here, so that it has as many places for nodes as this one.
     pub fn copy(&self) -> Result<SeqTree, AllocError>
         ensures { IfOk result (λ tree. tree ≡ self.now) }
     {
@@ -155,8 +156,8 @@ impl SeqTree {
             Call::Stat(_) | Call::Readdir(_) | Call::Read(_, _, _) => {
                 self.look_counted(alloc, memory, call)
             }
-            Call::Write(path, off, bytes) => self.write(memory, path, *off, bytes),
-            Call::Truncate(path, size) => self.truncate(memory, path, *size),
+            Call::Write(path, off, bytes) => self.write(alloc, memory, path, *off, bytes),
+            Call::Truncate(path, size) => self.truncate(alloc, memory, path, *size),
         }
     }
 
@@ -296,6 +297,7 @@ impl SeqTree {
 
     fn write(
         &mut self,
+        alloc: Global,
         memory: &mut Memory,
         path: &Path,
         off: u64,
@@ -308,10 +310,24 @@ impl SeqTree {
         ensures granted { OnOk result (memory.new ≡ memory.old) }
         ensures refused { OnErr result (memory.new ≢ memory.old) }
     {
-        write::write(memory, &mut self.nodes, path, off, bytes, self.limits)
+        write::write(
+            alloc,
+            memory,
+            &mut self.nodes,
+            path,
+            off,
+            bytes,
+            self.limits,
+        )
     }
 
-    fn truncate(&mut self, memory: &mut Memory, path: &Path, size: u64) -> Result<Reply, AllocError>
+    fn truncate(
+        &mut self,
+        alloc: Global,
+        memory: &mut Memory,
+        path: &Path,
+        size: u64,
+    ) -> Result<Reply, AllocError>
         ensures reply { IfOk result (λ r. r ≡ reply_at self.old (Call.Truncate path.now size)) }
         ensures tree { OnOk result (self.new ≡ called self.old (Call.Truncate path.now size)) }
         ensures err { OnErr result (self.new ≡ self.old) }
@@ -319,6 +335,6 @@ impl SeqTree {
         ensures granted { OnOk result (memory.new ≡ memory.old) }
         ensures refused { OnErr result (memory.new ≢ memory.old) }
     {
-        write::truncate(memory, &mut self.nodes, path, size, self.limits)
+        write::truncate(alloc, memory, &mut self.nodes, path, size, self.limits)
     }
 }

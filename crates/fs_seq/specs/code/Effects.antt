@@ -2,7 +2,7 @@
 use Rattle.std.specs.Prelude.{◌≡◌, ℕ, length, List, [], insert, remove, ◌<◌, Option, Some, None, Result, Ok, Err, if◌then◌else◌, IsTrue}
 use Rattle.fs_names.specs.Names.{Name}
 use Rattle.fs_names.specs.Keys.{Key, is_root, parent_of, last_of}
-use Rattle.fs_names.specs.Limits.{entry_limit}
+use Rattle.fs_names.specs.Limits.{entry_limit, in_blocks}
 use Rattle.fs_names.specs.Failures.{check, or_else}
 use Rattle.fs_names.specs.declared.limits.Limits.{Limits}
 use Rattle.fs_calls.specs.Tree as tree
@@ -15,7 +15,7 @@ use Rattle.fs_calls.specs.declared.target.EntryCall.{EntryCall}
 use Rattle.fs_calls.specs.declared.target.EntryCall.TheVariants.{Mkdir, Mknod, Unlink, Rmdir}
 use Rattle.fs_calls.specs.Rows.{entry_fault, node_fault, node_row, written}
 use Rattle.fs_seq.specs.Memory.{needs_memory}
-use Rattle.fs_slab.specs.code.Slots.{Place, Dir, File, Slots, place_at, links_at, shape_of, walk, tree_of, IsForest, Sets}
+use Rattle.fs_slab.specs.code.Slots.{Place, Dir, File, Slots, place_at, links_at, shape_of, walk, tree_of, IsForest, HaveForm, Sets}
 use Rattle.fs_slab.specs.code.Nodes.{BelongsAt, IsTaken}
 use Rattle.fs_slab.specs.declared.nodes.Node.{Node}
 use Rattle.fs_slab.specs.declared.nodes.Node.TheVariants as nodes
@@ -24,6 +24,10 @@ use Rattle.fs_calls.specs.declared.call.Call.TheVariants as calls
 use Rattle.fs_calls.specs.declared.reply.Reply.{Reply}
 use Rattle.fs_calls.specs.declared.errno.Errno.{Errno}
 use Rattle.fs_calls.specs.declared.errno.Errno.TheVariants.{Eexist}
+
+-- files stay in the form of these limits
+abbrev pub KeepsForm : Limits → Slots → Slots → Type 0
+KeepsForm limits g g' = HaveForm (in_blocks limits) g → HaveForm (in_blocks limits) g'
 
 -- a call's reply, and the graph that it leaves, by its errors, its reply without one and the tree that it then makes
 pub record Gives (g g' : Slots) (found : Option Errno) (well : Reply) (new : Tree) (r : Reply) : Type 0 where
@@ -36,12 +40,14 @@ pub record AnswersWithin (limits : Limits) (g g' : Slots) (call : Call) (r : Rep
   pub reply : r ≡ reply limits (tree_of g) call
   pub tree : tree_of g' ≡ after limits (tree_of g) call
   pub forest : IsForest g'
+  pub form : KeepsForm limits g g'
 
 -- the same, of a call that no limit decides
 pub record Answers (g g' : Slots) (call : Call) (r : Reply) : Type 0 where
   pub reply : (limits : Limits) → r ≡ reply limits (tree_of g) call
   pub tree : (limits : Limits) → tree_of g' ≡ after limits (tree_of g) call
   pub forest : IsForest g'
+  pub form : (limits : Limits) → KeepsForm limits g g'
 
 -- the first error of such a call, or that it has none
 abbrev pub HasFault : Tree → Call → Option Errno → Type 0
@@ -58,7 +64,7 @@ NeedsMemory t call = (limits : Limits) → IsTrue (needs_memory limits t call)
 -- what a node is in a tree
 abbrev pub tree_node : Node → tree.Node
 tree_node (nodes.Dir links) = tree.Dir
-tree_node (nodes.File bytes) = tree.File bytes.items
+tree_node (nodes.File file) = tree.File file.bytes
 
 -- the call that does this to the entry at a path
 abbrev pub call_on : EntryCall → Key → Call
@@ -118,11 +124,11 @@ pub record IsFound (t : Tree) (c : NodeCall) (p : Key) (at : Place) : Type 0 whe
 abbrev pub written_if_any : List ℕ → ℕ → List ℕ → List ℕ
 written_if_any old off bytes = if has_any bytes then written old off bytes else old
 
--- the place of a file with these bytes from now on; None: it stays
+-- the place of a file with these bytes from now on, in its form; None: it stays
 abbrev pub refilled : Option (List ℕ) → Place → Place
 refilled None at = at
 refilled (Some bytes) (Dir links) = Dir links
-refilled (Some bytes) (File old) = File bytes
+refilled (Some bytes) (File old) = File (record old { bytes = bytes })
 
 -- the reply of a call on a node, and the place that it leaves there
 pub record Rewrites (at at' : Place) (c : NodeCall) (r : Reply) : Type 0 where

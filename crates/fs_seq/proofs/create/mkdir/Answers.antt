@@ -11,7 +11,7 @@ pub returns-clause-given : goal.returns-clause-given
 returns-clause-given c =
     let g = graph c.args.nodes.now in
     let p = c.args.path.now in
-    IfOk-map c.make.result (λ r given. answers c.args.limits g (graph c.make.new.nodes) (Mkdir p) (making_fault c.args.limits (tree_of g) p) _ _ r (mkdir_fault c.args.limits (tree_of g) p) refl refl given) c.make.ensures.given
+    IfOk-map c.make.result (λ r given. answers c.args.limits g (graph c.make.new.nodes) (Mkdir p) (making_fault c.args.limits (tree_of g) p) _ _ r (mkdir_fault c.args.limits (tree_of g) p) refl refl c.make.ensures.form given) c.make.ensures.given
 
 pub returns-clause-memory : goal.returns-clause-memory
 returns-clause-memory c =

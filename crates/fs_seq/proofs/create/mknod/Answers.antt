@@ -1,4 +1,5 @@
 use Rattle.std.proofs.Common.{◌∙◌, refl, sym, ap}
+use Rattle.fs_blocks.specs.Files.{FileValue}
 use Rattle.fs_calls.specs.Tree.{inserted, File}
 use Rattle.fs_slab.specs.code.Nodes.{graph}
 use Rattle.fs_slab.specs.code.Slots.{tree_of}
@@ -12,7 +13,7 @@ pub returns-clause-given : goal.returns-clause-given
 returns-clause-given c =
     let g = graph c.args.nodes.now in
     let p = c.args.path.now in
-    IfOk-map c.make.result (λ r given. answers c.args.limits g (graph c.make.new.nodes) (Mknod p) (making_fault c.args.limits (tree_of g) p) _ _ r (mknod_fault c.args.limits (tree_of g) p) refl (ap (λ z. inserted (tree_of g) p (File z)) (sym c.new.ensures.items)) given) c.make.ensures.given
+    IfOk-map c.make.result (λ r given. answers c.args.limits g (graph c.make.new.nodes) (Mknod p) (making_fault c.args.limits (tree_of g) p) _ _ r (mknod_fault c.args.limits (tree_of g) p) refl (ap (λ (z : FileValue). inserted (tree_of g) p (File z.bytes)) (sym c.empty.ensures)) c.make.ensures.form given) c.make.ensures.given
 
 pub returns-clause-memory : goal.returns-clause-memory
 returns-clause-memory c =

@@ -1,5 +1,6 @@
 use Rattle.std.proofs.Common.{◌≡◌, ◌+◌, map, take, drop}
 use Rattle.fs_seq.specs.Rows.{row_of, misfit_from, misfit}
+use Rattle.fs_seq.specs.code.Effects.{KeepsForm}
 use Rattle.fs_slab.specs.code.Nodes.{graph}
 use Rattle.fs_slab.specs.code.Slots.{tree_of, IsForest}
 use Rattle.fs_seq.proofs.from_rows.add_rows.Given as goal
@@ -8,6 +9,7 @@ use Rattle.fs_seq.proofs.from_rows.add_rows.Given as goal
 abbrev pub invariant-loop-i : goal.invariant-loop-i
 invariant-loop-i l = record {
   forest : IsForest (graph l.nodes);
+  form : KeepsForm l.limits (graph l.fn.nodes) (graph l.nodes);
   tree : tree_of (graph l.nodes) ≡ map row_of (take l.i l.rows);
   rest : misfit_from l.limits (map row_of (take l.i l.rows)) (l.i + 1) (drop l.i l.rows) ≡ misfit l.limits l.rows;
 }

@@ -1,4 +1,4 @@
-use Rattle.std.proofs.Common.{refl, ap, sym, ◌∙◌, take, drop}
+use Rattle.std.proofs.Common.{refl, ap, ◌∙◌, take, drop}
 use Rattle.fs_names.specs.Limits.{file_limit}
 use Rattle.fs_calls.specs.Forms as forms
 use Rattle.fs_calls.specs.Sights.{bytes_of, has_any}
@@ -18,7 +18,7 @@ returns-in-Err-clause-reply c limits =
 pub returns-in_ok-copy-in-Ok-clause-reply : goal.returns-in_ok-copy-in-Ok-clause-reply
 returns-in_ok-copy-in-Ok-clause-reply c limits =
     let p = c.args.path.now in
-    ap replies.Bytes (c.in_ok-copy-in-Ok.ensures.ok ∙ c.part.ensures ∙ ap (λ z. take c.args.count (drop c.args.off z)) c.bytes.ensures)
+    ap replies.Bytes c.in_ok-copy-in-Ok.ensures.ok
     ∙ found_reply limits (Read p c.args.off c.args.count) (forms.Read (file_limit limits) c.args.off c.args.count) p refl (tree_of (graph c.args.nodes.now)) _ (record { sound = c.in-Ok.ensures.sound; shape = c.in-Ok.ensures.shape })
 
 pub returns-in_err-copy-in-Ok-clause-memory : goal.returns-in_err-copy-in-Ok-clause-memory
@@ -27,4 +27,4 @@ returns-in_err-copy-in-Ok-clause-memory c =
     let t = tree_of (graph c.args.nodes.now) in
     on_err c.from_residual.result (λ limits. needs limits t (Read p c.args.off c.args.count)
     (looking_fault limits (Read p c.args.off c.args.count) (forms.Read (file_limit limits) c.args.off c.args.count) p refl t ∙ c.in-Ok.ensures.sound)
-    (ap (λ z. has_any (take c.args.count (drop c.args.off z))) (ap bytes_of c.in-Ok.ensures.shape ∙ sym c.bytes.ensures) ∙ ap has_any (sym c.part.ensures) ∙ c.in_err-copy-in-Ok.ensures.memory))
+    (ap (λ z. has_any (take c.args.count (drop c.args.off (bytes_of z)))) c.in-Ok.ensures.shape ∙ c.in_err-copy-in-Ok.ensures.memory))

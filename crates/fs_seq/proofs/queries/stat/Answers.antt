@@ -29,4 +29,4 @@ returns-in-Ok-File c limits =
     let p = c.args.path.now in
     let t = tree_of (graph c.args.nodes.now) in
     let found = subst (λ z. IsFound t forms.Stat p (place z)) c.in-Ok-File.field-0-is c.in-Ok-File.ensures in
-    ap (replies.Stat kind.File) (c.len-in-Ok-File.ensures ∙ c.in-Ok-File.bytes.ok.0) ∙ found_reply limits (Stat p) forms.Stat p refl t _ found
+    ap (replies.Stat kind.File) c.len-in-Ok-File.ensures ∙ found_reply limits (Stat p) forms.Stat p refl t _ found
