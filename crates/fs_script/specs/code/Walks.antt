@@ -28,11 +28,11 @@ abbrev pub links : Children → ℕ → List Name → List (Name × ℕ)
 links child n [] = []
 links child n (x ∷ names) = (x, number_or (child n x)) ∷ links child n names
 
--- what a number is, as a place with links
+-- what a number is, as a place with links; nothing here depends on the form of a file
 abbrev pub place_of : Children → ℕ → Option Shape → Option Place
 place_of child n None = None
 place_of child n (Some (shapes.Dir names)) = Some (forest.Dir (links child n names))
-place_of child n (Some (shapes.File bytes)) = Some (forest.File bytes)
+place_of child n (Some (shapes.File bytes)) = Some (forest.File (record { bytes = bytes; in_blocks = false }))
 
 -- so many places, of which the first has the number i
 abbrev pub places_from : Graph → ℕ → ℕ → forest.Slots
