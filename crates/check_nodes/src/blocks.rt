@@ -297,7 +297,7 @@ fn copy_of(alloc: Global, pair: &mut Pair, off: usize, count: usize) -> Result<P
     pair.file.share(alloc, off, count);
     let flat = pair.flat.clone()?;
     Ok(Pair {
-        file: pair.file.copy(alloc, &mut Memory::new())?,
+        file: pair.file.copy(&mut Memory::new())?,
         from: pair.from,
         flat,
     })
@@ -353,7 +353,7 @@ fn use_vector(alloc: Global, file: &mut File, copy: &File) -> Result<()> {
 /// A file in one vector, and its copy.
 fn one_vector(alloc: Global) -> Result<()> {
     let mut file = File::plain(bytes_of(alloc, 3, 1)?);
-    let copy = file.copy(alloc, &mut Memory::new())?;
+    let copy = file.copy(&mut Memory::new())?;
     use_vector(alloc, &mut file, &copy)
 }
 
@@ -382,7 +382,7 @@ fn drawn_deeds(alloc: Global, pair: &mut Pair) -> Result<()> {
             .wrapping_mul(6_364_136_223_846_793_005)
             .wrapping_add(1_442_695_040_888_963_407);
         change(alloc, pair, deed_of(drawn))?;
-        pair.file = pair.file.copy(alloc, &mut Memory::new())?;
+        pair.file = pair.file.copy(&mut Memory::new())?;
     }
     Ok(())
 }
