@@ -35,7 +35,7 @@ impl Form {
     ghost use Rattle.fs_blocks.specs.Vectors.{bytes_row};
     ghost use Rattle.fs_blocks.specs.Files.{vector_of};
 
-    /// The vector of a file in one.
+    /// The vector, where it is the form of the file.
     fn vector_mut(&mut self) -> Option<&mut Vec<u8>>
         ensures* writes_back { sem 𝓛 (LendsIf the_row bytes_row self.entry result Form.Plain self.old) }
         ensures value { option_map (λ v. v.now.items) result ≡ vector_of (value_of self.old) }
@@ -265,7 +265,7 @@ impl File {
         }
     }
 
-    /// The vector of a file in one, to be changed where it is.
+    /// The vector of a file in one, to be changed where it is; a file in blocks has none.
     pub fn vector_mut(&mut self) -> Option<&mut Vec<u8>>
         ensures* writes_back { sem 𝓛 (LendsIf the_row bytes_row self.entry result (λ v. record { bytes = v.items; in_blocks = false }) self.old) }
         ensures value { option_map (λ v. v.now.items) result ≡ vector_of self.old }
