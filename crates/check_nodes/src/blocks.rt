@@ -70,7 +70,7 @@ fn empty(alloc: Global, from: usize) -> Pair {
 }
 
 /// Bytes, of which neighbours differ.
-fn bytes_of(alloc: Global, count: usize, seed: usize) -> Result<Vec<u8>> {
+pub fn bytes_of(alloc: Global, count: usize, seed: usize) -> Result<Vec<u8>> {
     let mut bytes = Vec::new(alloc);
     for i in 0..count {
         bytes.push((i.wrapping_mul(31).wrapping_add(seed) % 251) as u8)?;
@@ -86,7 +86,7 @@ fn some(alloc: Global, file: &File, off: usize, count: usize) -> Result<Vec<u8>,
 }
 
 /// Puts bytes over those of a vector from a place on; a gap has zeros.
-fn put(flat: &mut Vec<u8>, at: usize, bytes: &[u8]) -> Result<()> {
+pub fn put(flat: &mut Vec<u8>, at: usize, bytes: &[u8]) -> Result<()> {
     let end = at.saturating_add(bytes.len());
     if flat.len() < end {
         flat.resize(end, 0)?;
@@ -326,12 +326,11 @@ fn sharing(alloc: Global) -> Result<()> {
     Ok(())
 }
 
-/// A file in one vector has these bytes, and hands them out for others.
-fn swap(file: &mut File, bytes: Vec<u8>, due: &[u8]) -> Result<()> {
+/// A file in one vector has these bytes, and hands them out.
+fn hand_out(file: File, due: &[u8]) -> Result<()> {
     ensure!(!file.is_in_blocks(), "no file in one vector");
     ensure!(file.as_slice() == due, "the bytes of a vector");
-    let old = file.swap(bytes);
-    ensure!(old.as_slice() == due, "the bytes handed out");
+    ensure!(file.into_vec().as_slice() == due, "the bytes handed out");
     Ok(())
 }
 
@@ -342,19 +341,13 @@ fn reads(alloc: Global, file: &File, off: usize, due: &[u8]) -> Result<()> {
     Ok(())
 }
 
-/// One vector goes in for another one, which a copy keeps.
-fn use_vector(alloc: Global, file: &mut File, copy: &File) -> Result<()> {
-    swap(file, bytes_of(alloc, 2, 9)?, &[1, 32, 63])?;
-    ensure!(file.len() == 2, "the size of a vector");
-    reads(alloc, file, 1, &[40])?;
-    reads(alloc, copy, 0, &[1, 32, 63])
-}
-
 /// A file in one vector, and its copy.
 fn one_vector(alloc: Global) -> Result<()> {
-    let mut file = File::plain(bytes_of(alloc, 3, 1)?);
+    let file = File::plain(bytes_of(alloc, 3, 1)?);
     let copy = file.copy(&mut Memory::new())?;
-    use_vector(alloc, &mut file, &copy)
+    ensure!(file.len() == 3, "the size of a vector");
+    hand_out(file, &[1, 32, 63])?;
+    reads(alloc, &copy, 1, &[32, 63])
 }
 
 /// What a drawn number says.

@@ -127,14 +127,22 @@ impl Linked {
         true
     }
 
-    /// A file gets a copy of these bytes, and its old ones are answered.
+    /// The bytes of a file in one vector.
+    pub fn content(&self, file: NodeNo) -> &[u8] {
+        if self.store.is_in_blocks() {
+            return &[];
+        }
+        self.store.content(file)
+    }
+
+    /// A file in one vector gets a copy of these bytes, and its old ones are answered.
     pub fn swap_content(
         &mut self,
         alloc: Global,
         file: NodeNo,
         bytes: &[u8],
     ) -> Result<Option<Vec<u8>>, AllocError> {
-        if !self.store.is_file(file) {
+        if self.store.is_in_blocks() || !self.store.is_file(file) {
             return Ok(None);
         }
         let mut copied = Vec::new(alloc);
@@ -244,14 +252,22 @@ impl Plain {
         true
     }
 
-    /// A file gets a copy of these bytes, and its old ones are answered.
+    /// The bytes of a file in one vector.
+    pub fn content(&self, file: NodeNo) -> &[u8] {
+        if self.store.is_in_blocks() {
+            return &[];
+        }
+        self.store.content(file)
+    }
+
+    /// A file in one vector gets a copy of these bytes, and its old ones are answered.
     pub fn swap_content(
         &mut self,
         alloc: Global,
         file: NodeNo,
         bytes: &[u8],
     ) -> Result<Option<Vec<u8>>, AllocError> {
-        if !self.store.is_file(file) {
+        if self.store.is_in_blocks() || !self.store.is_file(file) {
             return Ok(None);
         }
         let mut copied = Vec::new(alloc);

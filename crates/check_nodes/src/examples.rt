@@ -195,9 +195,9 @@ fn is_swapped(
     due: &[u8],
 ) -> Result<bool, AllocError> {
     Ok(
-        used.store.content(node(file)) == due
+        used.content(node(file)) == due
             && hands_out(alloc, used, file, bytes, due)?
-            && used.store.content(node(file)) == bytes,
+            && used.content(node(file)) == bytes,
     )
 }
 

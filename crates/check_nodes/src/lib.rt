@@ -5,7 +5,7 @@
 //! `large::run` has directories of far more entries than any limits allow.
 #![tactic(auto)]
 
-mod blocks;
+pub mod blocks;
 pub mod calls;
 mod examples;
 pub mod large;

@@ -97,7 +97,7 @@ fn agrees_at(
     if !store.is_used(at.node) {
         return Some(false);
     }
-    if store.is_file(at.node) {
+    if store.is_file(at.node) && !store.is_in_blocks() {
         return Some(is_content(reply(alloc, tree, at, true)?, store.content(at.node)));
     }
     if !store.is_dir(at.node) {

@@ -5,11 +5,13 @@
 //! A drawn call is made where its conditions hold, also of directories with entries; others are drawn in the place of those
 //! that cannot be made. It writes how many calls of each kind were made, and how many answers differed: none. Then calls are
 //! drawn on full directories, also with names that the index keeps apart badly, and at how many places look-ups look is
-//! written. Then entries change what they name, those of a small tree and drawn ones, beside calls of a stream of their own.
+//! written. Then entries change what they name, those of a small tree and drawn ones, beside calls of a stream of their own, and
+//! a file in blocks of each store has the bytes of a vector.
 #![tactic(auto)]
 
 mod crowded;
 mod drawing;
+mod files;
 mod swaps;
 mod tally;
 mod twins;
@@ -154,5 +156,6 @@ pub fn run(rt: &impl Print, alloc: Global) -> Result<()> {
     run_drawn(rt, alloc)?;
     crowded::run(rt, alloc)?;
     large::run(rt, alloc)?;
-    swaps::run(rt, alloc)
+    swaps::run(rt, alloc)?;
+    files::run(rt, alloc)
 }

@@ -262,7 +262,7 @@ impl Twins {
             && linked.is_dir(node.linked) == plain.is_dir(node.plain)
             && linked.is_file(node.linked) == plain.is_file(node.plain)
             && linked.entries(node.linked) == plain.entries(node.plain)
-            && linked.content(node.linked) == plain.content(node.plain)
+            && self.linked.content(node.linked) == self.plain.content(node.plain)
     }
 
     /// Looks at a node. It answers whether it has an entry.

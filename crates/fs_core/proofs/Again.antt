@@ -58,6 +58,7 @@ pub again_kept : (m : CoreValue) (b k p places : ℕ) (start : Start) → IsKept
 again_kept m b k p places start kept rest is = record {
   run = subst Run (sym (again_is m start kept.run rest is)) (timelines_begin_again (state_of m) kept.run (idle_at_rest m rest));
   limited = kept.limited;
+  plain = kept.plain;
   roomy = kept.roomy;
   begun_is = refl;
   few = omega arith;

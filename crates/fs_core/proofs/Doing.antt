@@ -115,12 +115,12 @@ let_go_spare m b k p seat call n kept x old read r e removed =
     spare_removed (state_of m) call (record_of seat x.running.place x.running.op) n kept.run (on_state m b k p seat call (Leaves n) kept x) (ap (λ (q : Running). is_removed q.op.removed n) (sym y) ∙ removed)
 
 pub left_kept : (m : CoreValue) (b k p seat call n : ℕ) → IsKept m b k p → (x : MovesOn m seat call (Leaves n))
-    → (st : Places) (hs : Holding) (old new : Option Running) → ((r : Running) → old ≡ Some r → graph_of st ≡ releasing (is_removed r.op.removed n) n (graph_of m.store)) → (seen st).limit ≡ (seen m.store).limit
+    → (st : Places) (hs : Holding) (old new : Option Running) → ((r : Running) → old ≡ Some r → graph_of st ≡ releasing (is_removed r.op.removed n) n (graph_of m.store)) → (seen st).limit ≡ (seen m.store).limit → (seen st).in_blocks ≡ (seen m.store).in_blocks
     → holder hs ≡ set_at n None (holder m.holding) → room hs ≡ room m.holding → old ≡ get_or m.seats seat old → Goes (λ a c. IsLetGo a n c) old new
     → Step (state_of m) seat (LetGo n) (state_of (record m { store = st; holding = hs; seats = slice_set m.seats seat new })) × IsKept (record m { store = st; holding = hs; seats = slice_set m.seats seat new }) b k p
-left_kept m b k p seat call n kept x st hs old new graph limit is_hs is_room read goes =
+left_kept m b k p seat call n kept x st hs old new graph limit blocks is_hs is_room read goes =
     let g : (w : OpValue) × IsLetGo x.running.op n w × (new ≡ Some (record x.running { op = w })) = goes_on (λ a c. IsLetGo a n c) m seat call (Leaves n) old new x read goes in
-    let_go_step m b k p seat x.running n kept x.on x.next st hs g.0 new (graph x.running (read_on m seat call (Leaves n) old x read)) limit is_hs is_room g.1 g.2
+    let_go_step m b k p seat x.running n kept x.on x.next st hs g.0 new (graph x.running (read_on m seat call (Leaves n) old x read)) limit blocks is_hs is_room g.1 g.2
 
 -- a finish
 pub finish_can : (m : CoreValue) (b k p seat call : ℕ) (s : Moved) → IsKept m b k p → (x : MovesOn m seat call (Finishes s)) → (old : Option Running) → old ≡ get_or m.seats seat old → (r : Running) → old ≡ Some r → CanFinish (graph_of m.store) r.op.reserved r.op.remaining r.op.holdings
@@ -159,19 +159,19 @@ commit_fits m b k p seat r kept on e f =
     let l : k + walking m.seats ≤ b = kept.within in omega (arith, o, w, l)
 
 pub committed_kept : (m : CoreValue) (b k p seat call : ℕ) (s : Moved) → IsKept m b k p → (x : MovesOn m seat call (Finishes s)) → PlacedOn m seat None → NoneBelow (state_of m) s
-    → (st : Places) (old new : Option Running) → ((r : Running) → old ≡ Some r → graph_of st ≡ graph_after (graph_of m.store) r.op) → (seen st).limit ≡ (seen m.store).limit → old ≡ get_or m.seats seat old → Goes (λ a c. IsFinished (graph_of m.store) a c) old new
+    → (st : Places) (old new : Option Running) → ((r : Running) → old ≡ Some r → graph_of st ≡ graph_after (graph_of m.store) r.op) → (seen st).limit ≡ (seen m.store).limit → (seen st).in_blocks ≡ (seen m.store).in_blocks → old ≡ get_or m.seats seat old → Goes (λ a c. IsFinished (graph_of m.store) a c) old new
     → Step (state_of m) seat Committed (state_of (record m { store = st; seats = slice_set m.seats seat new; timeline = m.timeline ++ Commit call ∷ [] })) × IsKept (record m { store = st; seats = slice_set m.seats seat new; timeline = m.timeline ++ Commit call ∷ [] }) b (k + 1) (p - 1)
-committed_kept m b k p seat call s kept x unplaced none st old new graph limit read goes =
+committed_kept m b k p seat call s kept x unplaced none st old new graph limit blocks read goes =
     let g : (w : OpValue) × IsFinished (graph_of m.store) x.running.op w × (new ≡ Some (record x.running { op = w })) = goes_on (λ a c. IsFinished (graph_of m.store) a c) m seat call (Finishes s) old new x read goes in
     subst (λ (c : ℕ). Step (state_of m) seat Committed (state_of (record m { store = st; seats = slice_set m.seats seat new; timeline = m.timeline ++ Commit c ∷ [] })) × IsKept (record m { store = st; seats = slice_set m.seats seat new; timeline = m.timeline ++ Commit c ∷ [] }) b (k + 1) (p - 1)) x.number
-    (committed_step m b k p seat x.running s kept x.on x.next (unplaced x.running x.on) none st g.0 new (graph x.running (read_on m seat call (Finishes s) old x read)) limit g.1 g.2)
+    (committed_step m b k p seat x.running s kept x.on x.next (unplaced x.running x.on) none st g.0 new (graph x.running (read_on m seat call (Finishes s) old x read)) limit blocks g.1 g.2)
 
 pub carried_kept : (m : CoreValue) (b k p seat call : ℕ) (s : Moved) (i : ℕ) → IsKept m b k p → (x : MovesOn m seat call (Finishes s)) → PlacedOn m seat (Some i)
-    → (st : Places) (old new : Option Running) → ((r : Running) → old ≡ Some r → graph_of st ≡ graph_after (graph_of m.store) r.op) → (seen st).limit ≡ (seen m.store).limit → old ≡ get_or m.seats seat old → Goes (λ a c. IsFinished (graph_of m.store) a c) old new
+    → (st : Places) (old new : Option Running) → ((r : Running) → old ≡ Some r → graph_of st ≡ graph_after (graph_of m.store) r.op) → (seen st).limit ≡ (seen m.store).limit → (seen st).in_blocks ≡ (seen m.store).in_blocks → old ≡ get_or m.seats seat old → Goes (λ a c. IsFinished (graph_of m.store) a c) old new
     → Step (state_of m) seat CarriedOut (state_of (record m { store = st; seats = slice_set m.seats seat new })) × IsKept (record m { store = st; seats = slice_set m.seats seat new }) b k p
-carried_kept m b k p seat call s i kept x is_placed st old new graph limit read goes =
+carried_kept m b k p seat call s i kept x is_placed st old new graph limit blocks read goes =
     let g : (w : OpValue) × IsFinished (graph_of m.store) x.running.op w × (new ≡ Some (record x.running { op = w })) = goes_on (λ a c. IsFinished (graph_of m.store) a c) m seat call (Finishes s) old new x read goes in
-    carried_step m b k p seat x.running s i kept x.on x.next (is_placed x.running x.on) st g.0 new (graph x.running (read_on m seat call (Finishes s) old x read)) limit g.1 g.2
+    carried_step m b k p seat x.running s i kept x.on x.next (is_placed x.running x.on) st g.0 new (graph x.running (read_on m seat call (Finishes s) old x read)) limit blocks g.1 g.2
 
 -- a commit's number fits, where the number of begins does
 pub finish_fits : (m : CoreValue) (b k p seat call : ℕ) (s : Moved) → IsKept m b k p → (x : MovesOn m seat call (Finishes s)) → PlacedOn m seat None → k + 1 ≤ b
@@ -225,9 +225,9 @@ end_spare m b k p seat call old r kept x read is =
     (spare_reserved (state_of m) call (record_of seat x.running.place x.running.op) kept.run (on_state m b k p seat call Ends kept x))
 
 pub returned_kept : (m : CoreValue) (b k p seat call : ℕ) → IsKept m b k p → (x : MovesOn m seat call Ends) → (st : Places) (old new : Option Running) (r : Running) (one two : Reply)
-    → old ≡ get_or m.seats seat old → old ≡ Some r → new ≡ None → graph_of st ≡ unreserved r.op.reserved (graph_of m.store) → (seen st).limit ≡ (seen m.store).limit → r.op.reply ≡ Some one → r.op.reply ≡ Some two
+    → old ≡ get_or m.seats seat old → old ≡ Some r → new ≡ None → graph_of st ≡ unreserved r.op.reserved (graph_of m.store) → (seen st).limit ≡ (seen m.store).limit → (seen st).in_blocks ≡ (seen m.store).in_blocks → r.op.reply ≡ Some one → r.op.reply ≡ Some two
     → Step (state_of m) seat (Returned two) (state_of (record m { store = st; seats = slice_set m.seats seat new; timeline = m.timeline ++ Return call one ∷ [] })) × IsKept (record m { store = st; seats = slice_set m.seats seat new; timeline = m.timeline ++ Return call one ∷ [] }) b k (p - 1)
-returned_kept m b k p seat call kept x st old new r one two read is is_new graph limit f g =
+returned_kept m b k p seat call kept x st old new r one two read is is_new graph limit blocks f g =
     let z : ◌≡◌ {A = Option Reply} (Some two) (Some one) = sym g ∙ f in
     let y : two ≡ one = cc in
     let e : r ≡ x.running = end_is m seat call Ends old r x read is in
@@ -236,7 +236,7 @@ returned_kept m b k p seat call kept x st old new r one two read is is_new graph
     let n : r.call ≡ call = ap (λ (q : Running). q.call) e ∙ x.number in
     subst (λ (c : ℕ). Step (state_of m) seat (Returned two) (state_of (record m { store = st; seats = slice_set m.seats seat new; timeline = m.timeline ++ Return c one ∷ [] })) × IsKept (record m { store = st; seats = slice_set m.seats seat new; timeline = m.timeline ++ Return c one ∷ [] }) b k (p - 1)) n
     (subst (λ (q : Reply). Step (state_of m) seat (Returned two) (state_of (record m { store = st; seats = slice_set m.seats seat new; timeline = m.timeline ++ Return r.call q ∷ [] })) × IsKept (record m { store = st; seats = slice_set m.seats seat new; timeline = m.timeline ++ Return r.call q ∷ [] }) b k (p - 1)) y
-    (returned_step m b k p seat r two kept on ends g st new graph limit is_new))
+    (returned_step m b k p seat r two kept on ends g st new graph limit blocks is_new))
 
 pub help_some : (m : CoreValue) (moved : Moved) (other : ℕ) (old : Option Running) → Helps m moved other → old ≡ get_or m.seats other old → IsSome old
 help_some m moved other old h read =

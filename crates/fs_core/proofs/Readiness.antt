@@ -1,5 +1,5 @@
 -- What a begin rests on and leaves.
-use Rattle.std.proofs.Common.{◌≡◌, ℕ, ◌+◌, ◌-◌, ◌^◌, ◌<◌, ◌≤◌, Bool, true, false, cond, eqb, List, [], ◌∷◌, ◌++◌, Option, Some, None, length, get_or, refl, sym, ap, ◌∙◌, arith, subst}
+use Rattle.std.proofs.Common.{◌≡◌, ℕ, ◌+◌, ◌-◌, ◌^◌, ◌<◌, ◌≤◌, Bool, IsFalse, true, false, cond, eqb, List, [], ◌∷◌, ◌++◌, Option, Some, None, length, get_or, refl, sym, ap, ◌∙◌, arith, subst}
 use Rattle.std.specs.Prelude.{slice_get, slice_set, IsSome, IfSome, is_some, Ok, Err}
 use mathlib.Core.Path.{fun_ext}
 use Rattle.std.proofs.lemmas.Option.{slice_get_within, slice_get_read}
@@ -120,6 +120,7 @@ pub counted : (m : CoreValue) (b k p refusals : ℕ) → IsKept m b k p → IsKe
 counted m b k p refusals kept = record {
   run = kept.run;
   limited = kept.limited;
+  plain = kept.plain;
   roomy = kept.roomy;
   begun_is = kept.begun_is;
   few = kept.few;
@@ -129,13 +130,14 @@ counted m b k p refusals kept = record {
 }
 
 -- a begin that is refused
-pub refused_same : (m : CoreValue) (b k p : ℕ) → IsKept m b k p → (st : Places) (hs : Holding) → graph_of st ≡ graph_of m.store → (seen st).limit ≡ (seen m.store).limit → holder hs ≡ holder m.holding → room m.holding ≤ room hs
+pub refused_same : (m : CoreValue) (b k p : ℕ) → IsKept m b k p → (st : Places) (hs : Holding) → graph_of st ≡ graph_of m.store → (seen st).limit ≡ (seen m.store).limit → (seen st).in_blocks ≡ (seen m.store).in_blocks → holder hs ≡ holder m.holding → room m.holding ≤ room hs
     → (state_of (record m { store = st; holding = hs }) ≡ state_of m) × IsKept (record m { store = st; holding = hs }) b k p
-refused_same m b k p kept st hs graph limit is_hs more = (
+refused_same m b k p kept st hs graph limit blocks is_hs more = (
   same,
   record {
     run = subst Run (sym same) kept.run;
     limited = omega (arith, limit, kept.limited);
+    plain = blocks ∙ kept.plain;
     roomy = λ n s e. (let less : n < room m.holding = kept.roomy n s (ap (λ (g : Graph). g.shape n) (sym graph) ∙ e) in omega (arith, less, more));
     begun_is = kept.begun_is;
     few = kept.few;
@@ -168,14 +170,15 @@ begun_roomy m b k p kept call st hs w (Some shape) (c, below, free, is_w, is_new
     go false f g = let less : n < room m.holding = kept.roomy n s g in omega (arith, less, more)
 
 pub begun_kept : (m : CoreValue) (b k p seat : ℕ) (call : Call) → IsKept m b k p → slice_get m.seats seat ≡ Some None
-    → (st : Places) (hs : Holding) (w : OpValue) (number : ℕ) (copy : Call) (slot : Option Running) → BegunAs (graph_of m.store) (seen m.store).limit m.start.limits call (reserved_by call) w (graph_of st) → (seen st).limit ≡ (seen m.store).limit
+    → (st : Places) (hs : Holding) (w : OpValue) (number : ℕ) (copy : Call) (slot : Option Running) → BegunAs (graph_of m.store) (seen m.store).limit m.start.limits call (reserved_by call) w (graph_of st) → (seen st).limit ≡ (seen m.store).limit → (seen st).in_blocks ≡ (seen m.store).in_blocks
     → holder hs ≡ holder m.holding → room m.holding ≤ room hs → HasRoom w.reserved hs → number ≡ b + 1 → number < CALL_LIMIT → copy ≡ call → slot ≡ Some (record { call = number; place = None; op = w })
     → Begins (state_of m) seat call (Ok number) (state_of (record m { store = st; holding = hs; seats = slice_set m.seats seat slot; timeline = m.timeline ++ Begin number seat copy ∷ [] })) × IsKept (record m { store = st; holding = hs; seats = slice_set m.seats seat slot; timeline = m.timeline ++ Begin number seat copy ∷ [] }) number k (p + 3 - 1)
-begun_kept m b k p seat call kept free st hs w number copy slot begun limit is_hs more has is_number few is_copy is = (
+begun_kept m b k p seat call kept free st hs w number copy slot begun limit blocks is_hs more has is_number few is_copy is = (
   step,
   record {
     run = Beginning seat call (Ok number) _ kept.run step;
     limited = omega (arith, limit, kept.limited);
+    plain = blocks ∙ kept.plain;
     roomy = begun_roomy m b k p kept call st hs w (reserved_by call) begun has more;
     begun_is = is_number ∙ ap (λ (n : ℕ). n + 1) kept.begun_is ∙ sym (begins_more m.timeline number seat copy);
     few = few;
@@ -225,6 +228,7 @@ seat_kept m b k p kept seats is = (
   record {
     run = subst Run (sym same) kept.run;
     limited = kept.limited;
+    plain = kept.plain;
     roomy = kept.roomy;
     begun_is = kept.begun_is;
     few = kept.few;
@@ -238,13 +242,14 @@ seat_kept m b k p kept seats is = (
     same = same_state _ _ _ _ _ _ _ _ _ _ _ _ refl refl refl (ap records is ∙ records_more m.seats) (ap number_on is ∙ numbers_more m.seats)
 
 -- a new core
-pub start_kept : (start : Start) (st : Places) (hs : Holding) → IsStart (seen st).limit start (graph_of st) → (seen st).limit ≤ NODE_LIMIT → holder hs ≡ (λ n. None) → AreBelow (graph_of st) (room hs)
+pub start_kept : (start : Start) (st : Places) (hs : Holding) → IsStart (seen st).limit start (graph_of st) → (seen st).limit ≤ NODE_LIMIT → IsFalse (seen st).in_blocks → holder hs ≡ (λ n. None) → AreBelow (graph_of st) (room hs)
     → (state_of (record { start = start; store = st; holding = hs; seats = []; timeline = []; refusals = 0 }) ≡ fresh (seen st).limit start (graph_of st)) × IsKept (record { start = start; store = st; holding = hs; seats = []; timeline = []; refusals = 0 }) 0 0 0
-start_kept start st hs is most is_hs below = (
+start_kept start st hs is most plain is_hs below = (
   same,
   record {
     run = subst Run (sym same) (Starting (seen st).limit start (graph_of st) is);
     limited = most;
+    plain = plain;
     roomy = below;
     begun_is = refl;
     few = omega arith;
@@ -259,13 +264,13 @@ start_kept start st hs is most is_hs below = (
 
 -- the same by the seat's number, and by the counter
 pub begun_by : (m : CoreValue) (b k p at seat : ℕ) (call : Call) → IsKept m b k p → at ≡ seat → (old : Option Running) → seat < length m.seats → old ≡ get_or m.seats at old → old ≡ None
-    → (st : Places) (hs : Holding) (w : OpValue) (number last : ℕ) (copy : Call) (slot : Option Running) → BegunAs (graph_of m.store) (seen m.store).limit m.start.limits call (reserved_by call) w (graph_of st) → (seen st).limit ≡ (seen m.store).limit
+    → (st : Places) (hs : Holding) (w : OpValue) (number last : ℕ) (copy : Call) (slot : Option Running) → BegunAs (graph_of m.store) (seen m.store).limit m.start.limits call (reserved_by call) w (graph_of st) → (seen st).limit ≡ (seen m.store).limit → (seen st).in_blocks ≡ (seen m.store).in_blocks
     → holder hs ≡ holder m.holding → room m.holding ≤ room hs → HasRoom w.reserved hs → number ≡ last → last ≡ b + 1 → last < CALL_LIMIT → copy ≡ call → slot ≡ Some (record { call = number; place = None; op = w })
     → Begins (state_of m) seat call (Ok number) (state_of (record m { store = st; holding = hs; seats = slice_set m.seats at slot; timeline = m.timeline ++ Begin number seat copy ∷ [] })) × IsKept (record m { store = st; holding = hs; seats = slice_set m.seats at slot; timeline = m.timeline ++ Begin number seat copy ∷ [] }) last k (p + 3 - 1)
-begun_by m b k p at seat call kept e old within read is_free st hs w number last copy slot begun limit is_hs more has is_last is_number few is_copy is =
+begun_by m b k p at seat call kept e old within read is_free st hs w number last copy slot begun limit blocks is_hs more has is_last is_number few is_copy is =
     subst (λ (s : ℕ). Begins (state_of m) s call (Ok number) (state_of (record m { store = st; holding = hs; seats = slice_set m.seats at slot; timeline = m.timeline ++ Begin number s copy ∷ [] })) × IsKept (record m { store = st; holding = hs; seats = slice_set m.seats at slot; timeline = m.timeline ++ Begin number s copy ∷ [] }) last k (p + 3 - 1)) e
     (subst (λ (l : ℕ). Begins (state_of m) at call (Ok number) (state_of (record m { store = st; holding = hs; seats = slice_set m.seats at slot; timeline = m.timeline ++ Begin number at copy ∷ [] })) × IsKept (record m { store = st; holding = hs; seats = slice_set m.seats at slot; timeline = m.timeline ++ Begin number at copy ∷ [] }) l k (p + 3 - 1)) is_last
-    (begun_kept m b k p at call kept (free_seat m at old (subst (λ (s : ℕ). s < length m.seats) (sym e) within) read is_free) st hs w number copy slot begun limit is_hs more has (is_last ∙ is_number) (subst (λ (n : ℕ). n < CALL_LIMIT) (sym is_last) few) is_copy is))
+    (begun_kept m b k p at call kept (free_seat m at old (subst (λ (s : ℕ). s < length m.seats) (sym e) within) read is_free) st hs w number copy slot begun limit blocks is_hs more has (is_last ∙ is_number) (subst (λ (n : ℕ). n < CALL_LIMIT) (sym is_last) few) is_copy is))
 
 pub busy_by : (m : CoreValue) (begun commits places : ℕ) → IsKept m begun commits places → (at seat : ℕ) (call : Call) (slot : Option Running) (b : Bool) → at ≡ seat → seat < length m.seats → slot ≡ get_or m.seats at slot → b ≡ is_some slot → b ≡ true → Begins (state_of m) seat call (Err SeatBusy) (state_of m)
 busy_by m begun commits places kept at seat call slot b e within read some yes_some = subst (λ (s : ℕ). Begins (state_of m) s call (Err SeatBusy) (state_of m)) e (seat_busy_step m at call slot (subst (λ (s : ℕ). s < length m.seats) (sym e) within) read (sym some ∙ yes_some))

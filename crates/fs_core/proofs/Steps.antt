@@ -53,6 +53,7 @@ took_step m b k p seat r n kept on move free hs w v is_hs room took_it is = (
   record {
     run = Stepping seat (Took n) _ kept.run step;
     limited = kept.limited;
+    plain = kept.plain;
     roomy = rw room kept.roomy;
     begun_is = kept.begun_is;
     few = kept.few;
@@ -94,14 +95,15 @@ fewer_unreserved graph (Some n) q t e = fewer_released graph n q t e
 
 -- a let go
 pub let_go_step : (m : CoreValue) (b k p seat : ℕ) (r : Running) (n : ℕ) → IsKept m b k p → slice_get m.seats seat ≡ Some (Some r) → next_of (graph_of m.store) r.op ≡ Leaves n
-    → (st : Places) (hs : Holding) (w : OpValue) (v : Option Running) → graph_of st ≡ releasing (is_removed r.op.removed n) n (graph_of m.store) → (seen st).limit ≡ (seen m.store).limit
+    → (st : Places) (hs : Holding) (w : OpValue) (v : Option Running) → graph_of st ≡ releasing (is_removed r.op.removed n) n (graph_of m.store) → (seen st).limit ≡ (seen m.store).limit → (seen st).in_blocks ≡ (seen m.store).in_blocks
     → holder hs ≡ set_at n None (holder m.holding) → holders.room hs ≡ holders.room m.holding → IsLetGo r.op n w → v ≡ Some (record r { op = w })
     → Step (state_of m) seat (LetGo n) (state_of (record m { store = st; holding = hs; seats = slice_set m.seats seat v })) × IsKept (record m { store = st; holding = hs; seats = slice_set m.seats seat v }) b k p
-let_go_step m b k p seat r n kept on move st hs w v graph limit is_hs room left_it is = (
+let_go_step m b k p seat r n kept on move st hs w v graph limit blocks is_hs room left_it is = (
   step,
   record {
     run = Stepping seat (LetGo n) _ kept.run step;
     limited = omega (arith, limit, kept.limited);
+    plain = blocks ∙ kept.plain;
     roomy = λ q t e. rw room (let u : (u : Shape) × ((graph_of m.store).shape q ≡ Some u) = fewer_left (graph_of m.store) (is_removed r.op.removed n) n q t (ap (λ (g : Graph). g.shape q) (sym graph) ∙ e) in kept.roomy q u.0 u.1);
     begun_is = kept.begun_is;
     few = kept.few;
@@ -161,6 +163,7 @@ helped_step m b k p seat r s kept on move unplaced other q on_other q_unplaced q
   record {
     run = Stepping seat (Helped q.call) _ kept.run step;
     limited = kept.limited;
+    plain = kept.plain;
     roomy = kept.roomy;
     begun_is = kept.begun_is ∙ sym (begins_commit m.timeline q.call);
     few = kept.few;
@@ -211,13 +214,14 @@ fewer_made m seat r run on st graph q t e =
 
 -- a walking call that finishes
 pub committed_step : (m : CoreValue) (b k p seat : ℕ) (r : Running) (s : Moved) → IsKept m b k p → slice_get m.seats seat ≡ Some (Some r) → next_of (graph_of m.store) r.op ≡ Finishes s → r.place ≡ None → NoneBelow (state_of m) s
-    → (st : Places) (w : OpValue) (v : Option Running) → graph_of st ≡ graph_after (graph_of m.store) r.op → (seen st).limit ≡ (seen m.store).limit → IsFinished (graph_of m.store) r.op w → v ≡ Some (record r { op = w })
+    → (st : Places) (w : OpValue) (v : Option Running) → graph_of st ≡ graph_after (graph_of m.store) r.op → (seen st).limit ≡ (seen m.store).limit → (seen st).in_blocks ≡ (seen m.store).in_blocks → IsFinished (graph_of m.store) r.op w → v ≡ Some (record r { op = w })
     → Step (state_of m) seat Committed (state_of (record m { store = st; seats = slice_set m.seats seat v; timeline = m.timeline ++ Commit r.call ∷ [] })) × IsKept (record m { store = st; seats = slice_set m.seats seat v; timeline = m.timeline ++ Commit r.call ∷ [] }) b (k + 1) (p - 1)
-committed_step m b k p seat r s kept on move unplaced none st w v graph limit done is = (
+committed_step m b k p seat r s kept on move unplaced none st w v graph limit blocks done is = (
   step,
   record {
     run = Stepping seat Committed _ kept.run step;
     limited = omega (arith, limit, kept.limited);
+    plain = blocks ∙ kept.plain;
     roomy = λ q t e. (let u : (u : Shape) × ((graph_of m.store).shape q ≡ Some u) = fewer_made m seat r kept.run on st graph q t e in kept.roomy q u.0 u.1);
     begun_is = kept.begun_is ∙ sym (begins_commit m.timeline r.call);
     few = kept.few;
@@ -248,13 +252,14 @@ committed_step m b k p seat r s kept on move unplaced none st w v graph limit do
 
 -- a placed call that finishes
 pub carried_step : (m : CoreValue) (b k p seat : ℕ) (r : Running) (s : Moved) (i : ℕ) → IsKept m b k p → slice_get m.seats seat ≡ Some (Some r) → next_of (graph_of m.store) r.op ≡ Finishes s → r.place ≡ Some i
-    → (st : Places) (w : OpValue) (v : Option Running) → graph_of st ≡ graph_after (graph_of m.store) r.op → (seen st).limit ≡ (seen m.store).limit → IsFinished (graph_of m.store) r.op w → v ≡ Some (record r { op = w })
+    → (st : Places) (w : OpValue) (v : Option Running) → graph_of st ≡ graph_after (graph_of m.store) r.op → (seen st).limit ≡ (seen m.store).limit → (seen st).in_blocks ≡ (seen m.store).in_blocks → IsFinished (graph_of m.store) r.op w → v ≡ Some (record r { op = w })
     → Step (state_of m) seat CarriedOut (state_of (record m { store = st; seats = slice_set m.seats seat v })) × IsKept (record m { store = st; seats = slice_set m.seats seat v }) b k p
-carried_step m b k p seat r s i kept on move is_placed st w v graph limit done is = (
+carried_step m b k p seat r s i kept on move is_placed st w v graph limit blocks done is = (
   step,
   record {
     run = Stepping seat CarriedOut _ kept.run step;
     limited = omega (arith, limit, kept.limited);
+    plain = blocks ∙ kept.plain;
     roomy = λ q t e. (let u : (u : Shape) × ((graph_of m.store).shape q ≡ Some u) = fewer_made m seat r kept.run on st graph q t e in kept.roomy q u.0 u.1);
     begun_is = kept.begun_is;
     few = kept.few;
@@ -285,13 +290,14 @@ carried_step m b k p seat r s i kept on move is_placed st w v graph limit done i
 
 -- a return
 pub returned_step : (m : CoreValue) (b k p seat : ℕ) (r : Running) (reply : Reply) → IsKept m b k p → slice_get m.seats seat ≡ Some (Some r) → next_of (graph_of m.store) r.op ≡ Ends → r.op.reply ≡ Some reply
-    → (st : Places) (v : Option Running) → graph_of st ≡ unreserved r.op.reserved (graph_of m.store) → (seen st).limit ≡ (seen m.store).limit → v ≡ None
+    → (st : Places) (v : Option Running) → graph_of st ≡ unreserved r.op.reserved (graph_of m.store) → (seen st).limit ≡ (seen m.store).limit → (seen st).in_blocks ≡ (seen m.store).in_blocks → v ≡ None
     → Step (state_of m) seat (Returned reply) (state_of (record m { store = st; seats = slice_set m.seats seat v; timeline = m.timeline ++ Return r.call reply ∷ [] })) × IsKept (record m { store = st; seats = slice_set m.seats seat v; timeline = m.timeline ++ Return r.call reply ∷ [] }) b k (p - 1)
-returned_step m b k p seat r reply kept on move replied st v graph limit is = (
+returned_step m b k p seat r reply kept on move replied st v graph limit blocks is = (
   step,
   record {
     run = Stepping seat (Returned reply) _ kept.run step;
     limited = omega (arith, limit, kept.limited);
+    plain = blocks ∙ kept.plain;
     roomy = λ q t e. (let u : (u : Shape) × ((graph_of m.store).shape q ≡ Some u) = fewer_unreserved (graph_of m.store) r.op.reserved q t (ap (λ (g : Graph). g.shape q) (sym graph) ∙ e) in kept.roomy q u.0 u.1);
     begun_is = kept.begun_is ∙ sym (begins_return m.timeline r.call reply);
     few = kept.few;

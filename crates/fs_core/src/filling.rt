@@ -1,6 +1,6 @@
 //! A store that is filled from the rows of a tree.
 
-ghost use Rattle.std.specs.Prelude.{◌≡◌, ◌≢◌, ◌≤◌, ◌<◌, ◌+◌, ℕ, None, length, IfOk, OnOk, Err};
+ghost use Rattle.std.specs.Prelude.{◌≡◌, ◌≢◌, ◌≤◌, ◌<◌, ◌+◌, ℕ, None, length, IsFalse, IfOk, OnOk, Err};
 ghost use Rattle.fs_nodes.specs.Graphs.{numbers, reserved_in};
 ghost use Rattle.fs_nodes.specs.Seen.{seen};
 ghost use Rattle.fs_nodes.specs.Stores.{graph_of, child, shape, in_use, IsUnlinked};
@@ -34,12 +34,14 @@ fn reached(store: &Store, names: &[Name]) -> Option<NodeNo>
 
 /// A new file with these bytes, which no entry names.
 fn new_file(store: &mut Store, bytes: &Vec<u8>) -> Result<NodeNo, NoNode>
+    requires form { IsFalse (seen store.old).in_blocks }
     ensures free { IfOk result (λ node. shape store.old node ≡ None) }
     ensures unlinked { IfOk result (λ node. IsUnlinked (child store.old) node) }
     ensures within { IfOk result (λ node. node < (seen store.old).limit) }
     ensures not_root { IfOk result (λ node. node ≢ 0) }
     ensures graph { IfOk result (λ node. graph_of store.new ≡ reserved_in node (File bytes.now.items) (graph_of store.old)) }
     ensures limit { OnOk result ((seen store.new).limit ≡ (seen store.old).limit) }
+    ensures form { OnOk result (IsFalse (seen store.new).in_blocks) }
     ensures full { result ≡ Err NoNode.Full → in_use store.old ≡ (seen store.old).limit }
 {
     let Ok(copy) = Vec::from_slice(*bytes.allocator(), bytes) else {
@@ -52,12 +54,14 @@ fn new_file(store: &mut Store, bytes: &Vec<u8>) -> Result<NodeNo, NoNode>
 
 /// The node of a row, which no entry names yet.
 fn new_node(store: &mut Store, row: &Row) -> Result<NodeNo, NoNode>
+    requires form { IsFalse (seen store.old).in_blocks }
     ensures free { IfOk result (λ node. shape store.old node ≡ None) }
     ensures unlinked { IfOk result (λ node. IsUnlinked (child store.old) node) }
     ensures within { IfOk result (λ node. node < (seen store.old).limit) }
     ensures not_root { IfOk result (λ node. node ≢ 0) }
     ensures graph { IfOk result (λ node. graph_of store.new ≡ reserved_in node (shape_of_row row.now) (graph_of store.old)) }
     ensures limit { OnOk result ((seen store.new).limit ≡ (seen store.old).limit) }
+    ensures form { OnOk result (IsFalse (seen store.new).in_blocks) }
     ensures full { result ≡ Err NoNode.Full → in_use store.old ≡ (seen store.old).limit }
 {
     match row.kind {
@@ -68,9 +72,11 @@ fn new_node(store: &mut Store, row: &Row) -> Result<NodeNo, NoNode>
 
 /// Adds the node of a row, with its entry.
 fn add_node(store: &mut Store, row: &Row) -> Result<NodeNo, NoNode>
-    requires { CanAdd (graph_of store.old) row.now }
+    requires form { IsFalse (seen store.old).in_blocks }
+    requires can { CanAdd (graph_of store.old) row.now }
     ensures added { IfOk result (λ node. IsAdded (seen store.old).limit (graph_of store.old) (graph_of store.new) row.now node) }
     ensures limit { OnOk result ((seen store.new).limit ≡ (seen store.old).limit) }
+    ensures form { OnOk result (IsFalse (seen store.new).in_blocks) }
     ensures full { result ≡ Err NoNode.Full → in_use store.old ≡ (seen store.old).limit }
 {
     let Some((name, above)) = row.key.split_last() else {
@@ -84,12 +90,14 @@ fn add_node(store: &mut Store, row: &Row) -> Result<NodeNo, NoNode>
 
 /// Adds the node of a row, with its entry and room for who holds it.
 fn add_row(store: &mut Store, holders: &mut Holders, row: &Row) -> Result<(), NoNode>
+    requires form { IsFalse (seen store.old).in_blocks }
     requires can { CanAdd (graph_of store.old) row.now }
     requires limit { (seen store.old).limit ≤ NODE_LIMIT }
     ensures added { OnOk result ((node : ℕ) × IsAdded (seen store.old).limit (graph_of store.old) (graph_of store.new) row.now node × (node < room holders.new)) }
     ensures more { OnOk result (room holders.old ≤ room holders.new) }
     ensures holders { OnOk result (holder holders.new ≡ holder holders.old) }
     ensures limit { OnOk result ((seen store.new).limit ≡ (seen store.old).limit) }
+    ensures form { OnOk result (IsFalse (seen store.new).in_blocks) }
     ensures full { result ≡ Err NoNode.Full → in_use store.old ≡ (seen store.old).limit }
 {
     let node = add_node(store, row)?;
@@ -106,6 +114,7 @@ pub fn filled(alloc: Global, start: &SeqTree, limit: usize) -> Result<(Store, Ho
     requires within { IsWithinLimits start.now.limits start.now.tree }
     ensures start { IfOk result (λ made. IsStart limit start.now (graph_of made.0)) }
     ensures limit { IfOk result (λ made. (seen made.0).limit ≡ limit) }
+    ensures form { IfOk result (λ made. IsFalse (seen made.0).in_blocks) }
     ensures holders { IfOk result (λ made. holder made.1 ≡ λ n. None) }
     ensures room { IfOk result (λ made. AreBelow (graph_of made.0) (room made.1)) }
     ensures few { OnOk result (length start.now.tree ≤ limit) }

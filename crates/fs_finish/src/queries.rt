@@ -13,7 +13,6 @@ ghost use Rattle.fs_finish.specs.Rooms.{SufficesFor};
 use crate::replies::Replies;
 use crate::room::{NameRoom, Room};
 use crate::sights::sight_of;
-use fs_calls::ranges::part;
 use fs_calls::rows::step_error;
 use fs_calls::{Errno, NameList, NodeCall, Reply};
 use fs_names::{Kind, Limits, Name};
@@ -51,7 +50,7 @@ pub fn stat(store: &Store, node: NodeNo, limits: Limits) -> Replies
     match NodeCall::Stat.error(limits, sight_of(store, node)) {
         Some(errno) => Replies::failed(errno),
         None if store.is_dir(node) => told(Kind::Dir, store.entries(node)),
-        None => told(Kind::File, store.content(node).len()),
+        None => told(Kind::File, store.len(node)),
     }
 }
 
@@ -114,9 +113,7 @@ pub fn read(
     if let Some(errno) = NodeCall::Read(off, count).error(limits, sight_of(store, node)) {
         return Replies::failed(errno);
     }
-    let asked = part(store.content(node), off, count);
-    Replies::new(
-        Reply::Bytes(one.copy_of(asked)),
-        Reply::Bytes(other.copy_of(asked)),
-    )
+    let asked = one.read(store, node, off, count);
+    let again = other.copy_of(asked.as_slice());
+    Replies::new(Reply::Bytes(asked), Reply::Bytes(again))
 }

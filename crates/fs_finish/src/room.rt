@@ -1,6 +1,8 @@
 //! The buffers that a call allocates when it begins, so that its finish needs no memory.
 
-ghost use Rattle.std.specs.Prelude.{◌≡◌, ◌≢◌, ◌≤◌, ◌+◌, [], IfOk, OnOk, OnErr, length, min, vec_capacity};
+ghost use Rattle.std.specs.Prelude.{◌≡◌, ◌≢◌, ◌≤◌, ◌+◌, [], IfOk, OnOk, OnErr, length, take, drop, min, vec_capacity};
+ghost use Rattle.fs_names.specs.Shapes.{bytes_of};
+ghost use Rattle.fs_nodes.specs.Stores.{shape};
 ghost use Rattle.fs_calls.specs.Forms.{form};
 ghost use Rattle.fs_calls.specs.code.Targets.{form_of, node_call};
 ghost use Rattle.fs_finish.specs.Rooms.{Suffices, SufficesFor, FitsContent, FitsCopies, FitsLists};
@@ -9,6 +11,7 @@ use fs_calls::ranges::fits;
 use fs_calls::{Bytes, Call, NodeCall, Target};
 use fs_memory::Memory;
 use fs_names::{Limits, Name};
+use fs_nodes::{NodeNo, Store};
 use std::alloc::{AllocError, Global};
 use std::marker::Model;
 
@@ -46,6 +49,17 @@ impl ByteRoom {
     {
         let ByteRoom { items } = self;
         items
+    }
+
+    /// The bytes of a file from an offset on, and no more than a count, in the room that was made.
+    pub fn read(self, store: &Store, file: NodeNo, off: u64, count: u64) -> Bytes
+        requires { length (take count (drop off (bytes_of (shape store.now file)))) ≤ self }
+        ensures { result ≡ take count (drop off (bytes_of (shape store.now file))) }
+    {
+        let mut items = self.into_vec();
+        store.read(file, off, count, &mut items);
+        items.shrink_to_fit();
+        Bytes::new(items)
     }
 
     /// The bytes again, in the room that was made. The capacity that they leave is given back to the allocator, which keeps

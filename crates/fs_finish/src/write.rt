@@ -1,6 +1,6 @@
 //! How the calls that change the bytes of a file finish at their node.
 
-ghost use Rattle.std.specs.Prelude.{◌≡◌, ◌≤◌, ◌+◌, ℕ, List, [], None, length, IsTrue, vec_capacity};
+ghost use Rattle.std.specs.Prelude.{◌≡◌, ◌≤◌, ◌+◌, ℕ, List, [], None, length, IsTrue, IsFalse, vec_capacity};
 ghost use Rattle.fs_names.specs.Shapes.{bytes_of, is_file};
 ghost use Rattle.fs_names.specs.Limits.{file_limit};
 ghost use Rattle.fs_nodes.specs.Graphs.{content_in};
@@ -39,6 +39,7 @@ fn with_room(bytes: Vec<u8>, len: usize, buffer: Vec<u8>) -> Vec<u8>
 /// The bytes of a file, taken out into a vector that has room for so many.
 fn taken_out(store: &mut Store, file: NodeNo, len: usize, buffer: ByteRoom) -> Vec<u8>
     requires file { IsTrue (is_file (shape store.old file)) }
+    requires form { IsFalse (seen store.old).in_blocks }
     requires room { len ≤ buffer }
     ensures bytes { result.items ≡ bytes_of (shape store.old file) }
     ensures room { len ≤ vec_capacity result }
@@ -69,6 +70,7 @@ fn put_over(content: &mut Vec<u8>, off: usize, bytes: &[u8])
 /// Puts bytes over those of a file from an offset on; a gap is filled with zeros.
 fn put_into(store: &mut Store, file: NodeNo, off: usize, bytes: &[u8], buffer: ByteRoom)
     requires file { IsTrue (is_file (shape store.old file)) }
+    requires form { IsFalse (seen store.old).in_blocks }
     requires room { off + length bytes.now ≤ buffer }
     ensures { seen store.new ≡ record (seen store.old) { graph = content_in file (written (bytes_of (shape store.old file)) off bytes.now) (graph_of store.old) } }
 {
@@ -80,6 +82,7 @@ fn put_into(store: &mut Store, file: NodeNo, off: usize, bytes: &[u8], buffer: B
 /// Cuts the bytes of a file to a size, or adds zeros up to it.
 fn resize(store: &mut Store, file: NodeNo, size: usize, buffer: ByteRoom)
     requires file { IsTrue (is_file (shape store.old file)) }
+    requires form { IsFalse (seen store.old).in_blocks }
     requires room { size ≤ buffer }
     ensures { seen store.new ≡ record (seen store.old) { graph = content_in file (resized (bytes_of (shape store.old file)) size) (graph_of store.old) } }
 {
@@ -98,6 +101,7 @@ pub fn write(
     limits: Limits,
     prepared: Room,
 ) -> Replies
+    requires form { IsFalse (seen store.old).in_blocks }
     requires room { SufficesFor (calls.Write (file_limit limits) off bytes.now) prepared }
     ensures reply { result ≡ (node_row (calls.Write (file_limit limits) off bytes.now) None (shape store.old node)).0 }
     ensures change { seen store.new ≡ record (seen store.old) { graph = refilled node (node_row (calls.Write (file_limit limits) off bytes.now) None (shape store.old node)).1 (graph_of store.old) } }
@@ -124,6 +128,7 @@ pub fn truncate(
     limits: Limits,
     prepared: Room,
 ) -> Replies
+    requires form { IsFalse (seen store.old).in_blocks }
     requires room { SufficesFor (calls.Truncate (file_limit limits) size) prepared }
     ensures reply { result ≡ (node_row (calls.Truncate (file_limit limits) size) None (shape store.old node)).0 }
     ensures change { seen store.new ≡ record (seen store.old) { graph = refilled node (node_row (calls.Truncate (file_limit limits) size) None (shape store.old node)).1 (graph_of store.old) } }

@@ -3,6 +3,7 @@ use Rattle.std.proofs.Common.{◌≡◌, ℕ, zero, suc, ◌<◌, ◌≤◌, Lis
 use Rattle.std.specs.Prelude.{slice_get, IsTrue}
 use Rattle.std.proofs.lemmas.List.{length-map, map-set, map_push, set-get_or}
 use Rattle.std.proofs.lemmas.Option.{slice_get_within}
+use Rattle.fs_blocks.specs.Files.{FileValue}
 use Rattle.fs_names.specs.Names.{Name}
 use Rattle.fs_names.specs.Shapes.{Shape, is_there, is_dir, is_file}
 use Rattle.fs_names.specs.declared.limits.TheConstants.{NODE_LIMIT}
@@ -172,10 +173,10 @@ vacated_link ps n p next places u e = sym (sym (link_of_place ps n p e) ∙ unli
 pub filled_link : (ps : List Place) (n : ℕ) (p : Place) (content : Content) → slice_get ps n ≡ Some p → slice_get (plains ps) n ≡ Some None → link_of (plain (filled content p)) ≡ link_of (plain p)
 filled_link ps n p content e f = sym (sym (link_of_place ps n p e) ∙ ap (λ (o : Option (Option Node)). then_at o link_of) f)
 
-pub bytes_link : (p : Place) (bytes : List ℕ) → link_of (plain (with_content bytes p)) ≡ link_of (plain p)
-bytes_link p bytes = go p.content
+pub file_link : (p : Place) (file : FileValue) → link_of (plain (with_content file p)) ≡ link_of (plain p)
+file_link p file = go p.content
   where
-    go : (c : Option Content) → link_of (plain_with (content_with bytes c) (link_with p.parent p.name)) ≡ link_of (plain_with c (link_with p.parent p.name))
+    go : (c : Option Content) → link_of (plain_with (content_with file c) (link_with p.parent p.name)) ≡ link_of (plain_with c (link_with p.parent p.name))
     go None = refl
     go (Some c) = refl
 
@@ -198,10 +199,10 @@ index_filled slots n content ps qs free e s =
     let r : (p : Place) × (slice_get ps n ≡ Some p) = get_some ps n (let w : n < length (plains ps) = slice_get_within (plains ps) n None free in let l : length (plains ps) ≡ length ps = length-map ps plain in omega arith) in
     index_kept slots n (filled content) ps qs r.0 r.1 (filled_link ps n r.0 content r.1 free) e s
 
-pub index_swapped : (slots : List Slot) (n : ℕ) (bytes : List ℕ) (ps qs : List Place) → IsTrue (is_file ((graph_of_places ps).shape n)) → qs ≡ edited n (with_content bytes) ps → IsIndex slots (keys_of (plains ps)) → IsIndex slots (keys_of (plains qs))
-index_swapped slots n bytes ps qs file e s =
-    let r : (p : Place) × (slice_get ps n ≡ Some p) = used_place ps n (there ((graph_of_places ps).shape n) file) in
-    index_kept slots n (with_content bytes) ps qs r.0 r.1 (bytes_link r.0 bytes) e s
+pub index_swapped : (slots : List Slot) (n : ℕ) (file : FileValue) (ps qs : List Place) → IsTrue (is_file ((graph_of_places ps).shape n)) → qs ≡ edited n (with_content file) ps → IsIndex slots (keys_of (plains ps)) → IsIndex slots (keys_of (plains qs))
+index_swapped slots n file ps qs at_file e s =
+    let r : (p : Place) × (slice_get ps n ≡ Some p) = used_place ps n (there ((graph_of_places ps).shape n) at_file) in
+    index_kept slots n (with_content file) ps qs r.0 r.1 (file_link r.0 file) e s
   where
     there : (o : Option Shape) → IsTrue (is_file o) → IsTrue (is_there o)
     there None h = cc

@@ -14,3 +14,4 @@ pub mod HintLemmas
 pub mod IndexLemmas
 pub mod KeyLemmas
 pub mod WalkLemmas
+pub mod FormLemmas

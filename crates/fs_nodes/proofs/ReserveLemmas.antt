@@ -202,15 +202,15 @@ new_names kinds.Dir = refl
 new_names kinds.File = refl
 
 -- a reservation from the list, whole
-pub linked_reserve : (limit : ℕ) (ps qs : List Place) (free : Option ℕ) (n : ℕ) (p : Place) (kind : Kind) (next : Option ℕ) → IsLinked limit ps free → free ≡ Some n → slice_get ps n ≡ Some p → next ≡ p.next → qs ≡ edited n (filled (new_content kind)) ps
+pub linked_reserve : (b : Bool) (limit : ℕ) (ps qs : List Place) (free : Option ℕ) (n : ℕ) (p : Place) (kind : Kind) (next : Option ℕ) → IsLinked limit ps free → free ≡ Some n → slice_get ps n ≡ Some p → next ≡ p.next → qs ≡ edited n (filled (new_content b kind)) ps
     → (graph_of_places qs ≡ reserved_in n (new_shape kind) (graph_of_places ps)) × IsLinked limit qs next
-linked_reserve limit ps qs free n p kind next s first there e f =
+linked_reserve b limit ps qs free n p kind next s first there e f =
     let list : IsFreeList ps (Some n) = subst (IsFreeList ps) first s.list in
     let at : slice_get (plains ps) n ≡ Some None = first_is_free ps n list in
-    let made : Makes NODE_LIMIT (set (plains ps) n (Some (new_node kind))) (reserved_in n (new_shape kind) (graph_of_places ps)) = reserve_makes NODE_LIMIT (plains ps) n (Some (new_node kind)) kind s.places.store at refl in
-    let here : set (plains ps) n (Some (new_node kind)) ≡ plains (edited n (filled (new_content kind)) ps) = sym (plains_set n (filled (new_content kind)) ps p there) in
-    let graph : graph_of_places (edited n (filled (new_content kind)) ps) ≡ reserved_in n (new_shape kind) (graph_of_places ps) = subst (λ (l : List (Option Node)). graph_in l ≡ reserved_in n (new_shape kind) (graph_of_places ps)) here made.0 in
-    let l : length (edited n (filled (new_content kind)) ps) ≡ length ps = length_edited n (filled (new_content kind)) ps in
+    let made : Makes NODE_LIMIT (set (plains ps) n (Some (new_node b kind))) (reserved_in n (new_shape kind) (graph_of_places ps)) = reserve_makes b NODE_LIMIT (plains ps) n (Some (new_node b kind)) kind s.places.store at refl in
+    let here : set (plains ps) n (Some (new_node b kind)) ≡ plains (edited n (filled (new_content b kind)) ps) = sym (plains_set n (filled (new_content b kind)) ps p there) in
+    let graph : graph_of_places (edited n (filled (new_content b kind)) ps) ≡ reserved_in n (new_shape kind) (graph_of_places ps) = subst (λ (l : List (Option Node)). graph_in l ≡ reserved_in n (new_shape kind) (graph_of_places ps)) here made.0 in
+    let l : length (edited n (filled (new_content b kind)) ps) ≡ length ps = length_edited n (filled (new_content b kind)) ps in
     let gone : names_of ((graph_of_places ps).shape n) ≡ [] = ap (λ (o : Option (Option Node)). names_of (option_map (shape_with (names_in (plains ps) n)) (then_at o content_of))) at in
     subst (λ (z : List Place). (graph_of_places z ≡ reserved_in n (new_shape kind) (graph_of_places ps)) × IsLinked limit z next) (sym f) (
       graph,
@@ -219,9 +219,9 @@ linked_reserve limit ps qs free n p kind next s first there e f =
         within = (let h : length ps ≤ limit = s.within in omega arith);
         places = record {
           store = subst (IsStore NODE_LIMIT) here made.1;
-          each = λ m q g. subst (λ (z : Graph). IsIndexed z m q) (sym graph) (one_indexed ps n (filled (new_content kind)) (Some (new_shape kind)) s.places (new_names kind ∙ sym gone) (λ p. (refl, refl, refl)) m q g);
+          each = λ m q g. subst (λ (z : Graph). IsIndexed z m q) (sym graph) (one_indexed ps n (filled (new_content b kind)) (Some (new_shape kind)) s.places (new_names kind ∙ sym gone) (λ p. (refl, refl, refl)) m q g);
         };
-        list = subst (IsFreeList (edited n (filled (new_content kind)) ps)) (sym e) (filled_list ps n p (new_content kind) there list);
+        list = subst (IsFreeList (edited n (filled (new_content b kind)) ps)) (sym e) (filled_list ps n p (new_content b kind) there list);
       },
     )
 
@@ -285,13 +285,13 @@ free_within ps k h =
     go (Some q) f g = slice_get_within (plains ps) k q f
 
 -- a new place, whole
-pub linked_push : (limit : ℕ) (ps qs : List Place) (free : Option ℕ) (p : Place) (kind : Kind) → IsLinked limit ps free → length ps < limit → p.content ≡ Some (new_content kind) → p.parent ≡ None → p.first ≡ None → p.entries ≡ 0 → qs ≡ ps ++ p ∷ []
+pub linked_push : (b : Bool) (limit : ℕ) (ps qs : List Place) (free : Option ℕ) (p : Place) (kind : Kind) → IsLinked limit ps free → length ps < limit → p.content ≡ Some (new_content b kind) → p.parent ≡ None → p.first ≡ None → p.entries ≡ 0 → qs ≡ ps ++ p ∷ []
     → (graph_of_places qs ≡ reserved_in (length ps) (new_shape kind) (graph_of_places ps)) × IsLinked limit qs free
-linked_push limit ps qs free p kind s room content parent first entries e =
+linked_push b limit ps qs free p kind s room content parent first entries e =
     let l : length (plains ps) ≡ length ps = length-map ps plain in
     let w : length ps < NODE_LIMIT = (let h : limit ≤ NODE_LIMIT = s.most in omega arith) in
-    let node : plain p ≡ Some (new_node kind) = ap₂ (λ (c : Option Content) (o : Option ℕ). plain_with c (link_with o p.name)) content parent in
-    let made : Makes NODE_LIMIT (plains ps ++ plain p ∷ []) (reserved_in (length (plains ps)) (new_shape kind) (graph_of_places ps)) = push_makes NODE_LIMIT (plains ps) (plain p) kind s.places.store (omega arith) node in
+    let node : plain p ≡ Some (new_node b kind) = ap₂ (λ (c : Option Content) (o : Option ℕ). plain_with c (link_with o p.name)) content parent in
+    let made : Makes NODE_LIMIT (plains ps ++ plain p ∷ []) (reserved_in (length (plains ps)) (new_shape kind) (graph_of_places ps)) = push_makes b NODE_LIMIT (plains ps) (plain p) kind s.places.store (omega arith) node in
     let here : plains ps ++ plain p ∷ [] ≡ plains (ps ++ p ∷ []) = sym (plains_push ps p) in
     let graph : graph_of_places (ps ++ p ∷ []) ≡ reserved_in (length ps) (new_shape kind) (graph_of_places ps) = ap graph_in (sym here) ∙ made.0 ∙ ap (λ (n : ℕ). reserved_in n (new_shape kind) (graph_of_places ps)) l in
     let last : length (ps ++ p ∷ []) ≡ suc (length ps) = long ps in
@@ -308,7 +308,7 @@ linked_push limit ps qs free p kind s room content parent first entries e =
           frees = s.list.frees;
           chain = chain_kept ps (ps ++ p ∷ []) free s.list.frees (λ k h. push_next ps p k (free_within ps k (sym (s.list.all k) ∙ h))) s.list.chain;
           apart = s.list.apart;
-          all = λ k. s.list.all k ∙ sym (ap (λ (z : List (Option Node)). is_free (slice_get z k)) (plains_push ps p ∙ ap (λ (o : Option Node). plains ps ++ o ∷ []) node) ∙ push_free (plains ps) (new_node kind) k);
+          all = λ k. s.list.all k ∙ sym (ap (λ (z : List (Option Node)). is_free (slice_get z k)) (plains_push ps p ∙ ap (λ (o : Option Node). plains ps ++ o ∷ []) node) ∙ push_free (plains ps) (new_node b kind) k);
         };
       },
     )
@@ -340,15 +340,15 @@ linked_push limit ps qs free p kind s room content parent first entries e =
         alone q i = subst (λ (z : Place). IsBeside (graph_of_places ps) m z.next z.prev (link_of (plain z))) (sym i) (subst (IsBeside (graph_of_places ps) m p.next p.prev) (sym (ap₂ (λ (c : Option Content) (o : Option ℕ). link_of (plain_with c (link_with o p.name))) content parent)) tt)
 
 -- a reservation from the list, as the code makes it
-pub reserve_read : (limit : ℕ) (ps qs : List Place) (free : Option ℕ) (n : ℕ) (kind : Kind) (next : Option ℕ) → IsLinked limit ps free → free ≡ Some n → IfSome (slice_get ps n) (λ p. next ≡ p.next) → qs ≡ edited n (filled (new_content kind)) ps
+pub reserve_read : (b : Bool) (limit : ℕ) (ps qs : List Place) (free : Option ℕ) (n : ℕ) (kind : Kind) (next : Option ℕ) → IsLinked limit ps free → free ≡ Some n → IfSome (slice_get ps n) (λ p. next ≡ p.next) → qs ≡ edited n (filled (new_content b kind)) ps
     → (graph_of_places qs ≡ reserved_in n (new_shape kind) (graph_of_places ps)) × IsLinked limit qs next
-reserve_read limit ps qs free n kind next s first both f = go (slice_get ps n) refl both
+reserve_read b limit ps qs free n kind next s first both f = go (slice_get ps n) refl both
   where
     go : (o : Option Place) → slice_get ps n ≡ o → IfSome o (λ p. next ≡ p.next) → (graph_of_places qs ≡ reserved_in n (new_shape kind) (graph_of_places ps)) × IsLinked limit qs next
     go None e h =
         let at : slice_get (plains ps) n ≡ Some None = first_is_free ps n (subst (IsFreeList ps) first s.list) in
         let w : ◌≡◌ {A = Option (Option Node)} None (Some None) = sym (slice_get-map plain ps n ∙ ap (option_map plain) e) ∙ at in absurd (cc)
-    go (Some p) e h = linked_reserve limit ps qs free n p kind next s first e h f
+    go (Some p) e h = linked_reserve b limit ps qs free n p kind next s first e h f
 
 -- the first free place, among the places
 pub free_plain : (limit : ℕ) (ps : List Place) (free : Option ℕ) (n : ℕ) → IsLinked limit ps free → free ≡ Some n → slice_get (plains ps) n ≡ Some None

@@ -2,3 +2,4 @@
 pub mod Linked
 pub mod Frees
 pub mod Indexes
+pub mod Forms

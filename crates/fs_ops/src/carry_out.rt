@@ -1,6 +1,6 @@
 //! A call is carried out.
 
-ghost use Rattle.std.specs.Prelude.{◌≡◌, None};
+ghost use Rattle.std.specs.Prelude.{◌≡◌, None, IsFalse};
 ghost use Rattle.fs_nodes.specs.Seen.{seen};
 ghost use Rattle.fs_nodes.specs.Stores.{graph_of};
 ghost use Rattle.fs_machine.specs.OpValues.{CanFinish, IsFinished, graph_after};
@@ -27,6 +27,7 @@ impl Op {
     /// Does what the call's finish is in this store, as `next` found it, and fixes its reply; an error changes nothing. The buffers
     /// that it needs were allocated by `begin`.
     pub fn carry_out(&mut self, plan: Plan, store: &mut Store)
+        requires form { IsFalse (seen store.old).in_blocks }
         requires unfinished { self.old.reply ≡ None }
         requires can { CanFinish (graph_of store.old) self.old.reserved self.old.remaining self.old.holdings }
         requires plan { IsPlan (seen store.old) self.old plan }

@@ -11,10 +11,12 @@ ghost use Rattle.fs_places.specs.code.Edits.{edited, filled, vacated, content_wi
 use crate::key::Key;
 use crate::label::Label;
 use crate::spot::Spot;
+use fs_blocks::File;
 use fs_memory::Memory;
 use fs_names::{Kind, NODE_LIMIT, Name};
 use fs_plain::node::Content;
 use std::alloc::{AllocError, Global};
+use std::mem;
 
 /// What is kept for a number: what its node is, the entry that names it, and the way to the entries beside and below.
 /// A free place has no content; its `next` is the free place after it.
@@ -35,9 +37,9 @@ pub struct Place {
 }
 
 impl Place {
-    /// The place of a new node, which no entry names: its name says nothing.
-    pub fn new(alloc: Global, kind: Kind) -> Place
-        ensures content { result.content ≡ Some (new_content kind) }
+    /// The place of a new node, which no entry names: its name says nothing. A file is in blocks or in one vector.
+    pub fn new(alloc: Global, kind: Kind, in_blocks: bool) -> Place
+        ensures content { result.content ≡ Some (new_content in_blocks kind) }
         ensures parent { result.parent ≡ None }
         ensures first { result.first ≡ None }
         ensures next { result.next ≡ None }
@@ -48,7 +50,7 @@ impl Place {
         ensures right { result.right ≡ None }
     {
         Place {
-            content: Some(Content::new(alloc, kind)),
+            content: Some(Content::new(alloc, kind, in_blocks)),
             name: Label::new(Name::default()),
             parent: Spot::none(),
             first: Spot::none(),
@@ -144,24 +146,24 @@ pub fn dir_of(places: &[Place], node: usize) -> Option<usize>
     }
 }
 
-/// A file gets these bytes, and its old ones are handed out.
-fn swap_in(content: &mut Option<Content>, bytes: Vec<u8>) -> Vec<u8>
-    ensures new { content.new ≡ content_with bytes.items content.old }
-    ensures old { result.items ≡ content_old bytes.items content.old }
+/// Another file comes in the place of one, which is handed out.
+fn swap_in(content: &mut Option<Content>, file: File) -> File
+    ensures new { content.new ≡ content_with file content.old }
+    ensures old { result ≡ content_old file content.old }
 {
     match content {
-        Some(Content::File(old)) => old.swap(bytes),
-        _ => bytes,
+        Some(Content::File(old)) => mem::replace(old, file),
+        _ => file,
     }
 }
 
-/// The same of a place.
-pub fn swap_bytes(places: &mut [Place], file: usize, bytes: Vec<u8>) -> Vec<u8>
-    requires file { file < length places.old }
+/// The same at the place of a number.
+pub fn swap_file(places: &mut [Place], node: usize, file: File) -> File
+    requires node { node < length places.old }
     requires most { length places.old ≤ NODE_LIMIT }
-    ensures places { places.new ≡ edited file (with_content bytes.items) places.old }
-    ensures old { IfSome (slice_get places.old file) (λ p. result.items ≡ content_old bytes.items p.content) }
+    ensures places { places.new ≡ edited node (with_content file) places.old }
+    ensures old { IfSome (slice_get places.old node) (λ p. result ≡ content_old file p.content) }
 {
-    let place = &mut places[file];
-    swap_in(&mut place.content, bytes)
+    let place = &mut places[node];
+    swap_in(&mut place.content, file)
 }

@@ -1,8 +1,9 @@
 -- What each change of a store does to its graph, and that it keeps what a store keeps.
-use Rattle.std.proofs.Common.{◌≡◌, ℕ, ◌<◌, ◌≤◌, false, List, [], ◌∷◌, ◌++◌, Option, Some, None, IsTrue, option_map, IfSome, count_by, set, get_or, length, refl, sym, ap, ◌∙◌, arith, subst}
+use Rattle.std.proofs.Common.{◌≡◌, ℕ, ◌<◌, ◌≤◌, Bool, false, List, [], ◌∷◌, ◌++◌, Option, Some, None, IsTrue, option_map, IfSome, count_by, set, get_or, length, refl, sym, ap, ◌∙◌, arith, subst}
 use Rattle.std.specs.Prelude.{slice_get}
 use Rattle.std.specs.List.{find}
 use Rattle.std.proofs.lemmas.Option.{slice_get_within, slice_get_read}
+use Rattle.fs_blocks.specs.Files.{FileValue}
 use Rattle.fs_names.specs.Names.{Name}
 use Rattle.fs_names.specs.Shapes.{names_of, bytes_of, is_there, is_dir, is_file, has_entries}
 use Rattle.fs_names.specs.declared.kind.Kind.{Kind}
@@ -12,7 +13,7 @@ use Rattle.fs_plain.specs.declared.node.Link.{Link}
 use Rattle.fs_plain.specs.declared.node.Node.{Node}
 use Rattle.fs_graph.specs.Graphs.{Graph, then_at, linked_in, unlinked_in, moved_in, reserved_in, released_in, content_in, IsReached, IsUnlinked, IsParent}
 use Rattle.fs_plain.specs.Stores.{content_of, link_of, content_at, link_at, is_in, child_in, names_in, shape_with, shape_in, graph_in, new_shape, next_entry, with_child, is_above, IsNextName, IsStore}
-use Rattle.fs_plain.specs.code.Edits.{relinked, new_node, with_bytes, refilled, handed_out, given_back}
+use Rattle.fs_plain.specs.code.Edits.{relinked, new_node, with_file, refilled, handed_out, given_back}
 use Rattle.fs_plain.proofs.PlaceLemmas.{child_link, names_none, read_within, past_end}
 use Rattle.fs_plain.proofs.PickLemmas.{count_names}
 use Rattle.fs_plain.proofs.AscentLemmas.{names_ascend, next_names, no_names_above}
@@ -30,7 +31,7 @@ child_within ps n dir x e = let r : (p : Option Node) × (slice_get ps n ≡ Som
 -- the place of a file
 pub file_within : (ps : List (Option Node)) (n : ℕ) → IsTrue (is_file (shape_in ps n)) → n < length ps
 file_within ps n h =
-    let f : (bytes : List ℕ) × (content_at ps n ≡ Some (contents.File bytes)) = file_of_shape ps n h in
+    let f : (file : FileValue) × (content_at ps n ≡ Some (contents.File file)) = file_of_shape ps n h in
     let r : (p : Option Node) × (slice_get ps n ≡ Some p) × (content_of p ≡ Some (contents.File f.0)) = read_within content_of ps n (contents.File f.0) f.1 in slice_get_within ps n r.0 r.1
 
 -- a relinked place holds what it held
@@ -111,48 +112,48 @@ release_makes limit ps n p q store there unlinked other empty edit =
     subst (λ (r : Option Node). Makes limit (set ps n r) (released_in n (graph_in ps))) (sym edit) (released_graph ps n p there old, store_released limit ps n p store there old other empty)
 
 -- a number with a place comes into use
-pub reserve_makes : (limit : ℕ) (ps : List (Option Node)) (n : ℕ) (q : Option Node) (kind : Kind) → IsStore limit ps → slice_get ps n ≡ Some None → q ≡ Some (new_node kind) → Makes limit (set ps n q) (reserved_in n (new_shape kind) (graph_in ps))
-reserve_makes limit ps n q kind store there edit =
+pub reserve_makes : (f : Bool) (limit : ℕ) (ps : List (Option Node)) (n : ℕ) (q : Option Node) (kind : Kind) → IsStore limit ps → slice_get ps n ≡ Some None → q ≡ Some (new_node f kind) → Makes limit (set ps n q) (reserved_in n (new_shape kind) (graph_in ps))
+reserve_makes f limit ps n q kind store there edit =
     let free : content_at ps n ≡ None = ap (λ (o : Option (Option Node)). then_at o content_of) there in
-    subst (λ (r : Option Node). Makes limit (set ps n r) (reserved_in n (new_shape kind) (graph_in ps))) (sym edit) (reserved_graph ps n kind there (no_names limit ps n store free), store_reserved limit ps n kind store there)
+    subst (λ (r : Option Node). Makes limit (set ps n r) (reserved_in n (new_shape kind) (graph_in ps))) (sym edit) (reserved_graph f ps n kind there (no_names limit ps n store free), store_reserved f limit ps n kind store there)
 
 -- the next number gets a place and comes into use
-pub push_makes : (limit : ℕ) (ps : List (Option Node)) (q : Option Node) (kind : Kind) → IsStore limit ps → length ps < limit → q ≡ Some (new_node kind) → Makes limit (ps ++ q ∷ []) (reserved_in (length ps) (new_shape kind) (graph_in ps))
-push_makes limit ps q kind store h edit =
+pub push_makes : (f : Bool) (limit : ℕ) (ps : List (Option Node)) (q : Option Node) (kind : Kind) → IsStore limit ps → length ps < limit → q ≡ Some (new_node f kind) → Makes limit (ps ++ q ∷ []) (reserved_in (length ps) (new_shape kind) (graph_in ps))
+push_makes f limit ps q kind store h edit =
     let free : content_at ps (length ps) ≡ None = past_end content_of ps (length ps) (omega arith) in
-    subst (λ (r : Option Node). Makes limit (ps ++ r ∷ []) (reserved_in (length ps) (new_shape kind) (graph_in ps))) (sym edit) (pushed_graph ps kind (no_names limit ps (length ps) store free), store_pushed limit ps kind store h)
+    subst (λ (r : Option Node). Makes limit (ps ++ r ∷ []) (reserved_in (length ps) (new_shape kind) (graph_in ps))) (sym edit) (pushed_graph f ps kind (no_names limit ps (length ps) store free), store_pushed f limit ps kind store h)
 
--- a file's bytes
-bytes_link : (p : Option Node) (bytes : List ℕ) → link_of (with_bytes p bytes) ≡ link_of p
-bytes_link None bytes = refl
-bytes_link (Some node) bytes = refl
+-- another file in the place of one: no other entry names it
+file_link : (p : Option Node) (file : FileValue) → link_of (with_file p file) ≡ link_of p
+file_link None file = refl
+file_link (Some node) file = refl
 
--- a file has the new bytes
-bytes_content : (p : Option Node) (old bytes : List ℕ) → content_of p ≡ Some (contents.File old) → content_of (with_bytes p bytes) ≡ Some (contents.File bytes)
-bytes_content None old bytes e = absurd (cc)
-bytes_content (Some node) old bytes e = let f : node.content ≡ contents.File old = cc in ap (λ (c : Content). Some (refilled c bytes)) f
+-- the new file stands there
+file_content : (p : Option Node) (old file : FileValue) → content_of p ≡ Some (contents.File old) → content_of (with_file p file) ≡ Some (contents.File file)
+file_content None old file e = absurd (cc)
+file_content (Some node) old file e = let f : node.content ≡ contents.File old = cc in ap (λ (c : Content). Some (refilled c file)) f
 
--- and hands the old ones out
-bytes_old : (p : Option Node) (old bytes : List ℕ) → content_of p ≡ Some (contents.File old) → handed_out p bytes ≡ old
-bytes_old None old bytes e = absurd (cc)
-bytes_old (Some node) old bytes e = let f : node.content ≡ contents.File old = cc in ap (λ (c : Content). given_back c bytes) f
+-- and the old one comes back
+file_old : (p : Option Node) (old file : FileValue) → content_of p ≡ Some (contents.File old) → handed_out p file ≡ old
+file_old None old file e = absurd (cc)
+file_old (Some node) old file e = let f : node.content ≡ contents.File old = cc in ap (λ (c : Content). given_back c file) f
 
 -- the place of a file holds one
-file_place : (ps : List (Option Node)) (n : ℕ) (p : Option Node) → slice_get ps n ≡ Some p → IsTrue (is_file (shape_in ps n)) → (old : List ℕ) × (content_at ps n ≡ Some (contents.File old)) × (content_of p ≡ Some (contents.File old))
-file_place ps n p there h = let r : (old : List ℕ) × (content_at ps n ≡ Some (contents.File old)) = file_of_shape ps n h in (r.0, r.1, sym (ap (λ (o : Option (Option Node)). then_at o content_of) there) ∙ r.1)
+file_place : (ps : List (Option Node)) (n : ℕ) (p : Option Node) → slice_get ps n ≡ Some p → IsTrue (is_file (shape_in ps n)) → (old : FileValue) × (content_at ps n ≡ Some (contents.File old)) × (content_of p ≡ Some (contents.File old))
+file_place ps n p there h = let r : (old : FileValue) × (content_at ps n ≡ Some (contents.File old)) = file_of_shape ps n h in (r.0, r.1, sym (ap (λ (o : Option (Option Node)). then_at o content_of) there) ∙ r.1)
 
--- a file gets other bytes
-pub swap_makes : (limit : ℕ) (ps : List (Option Node)) (n : ℕ) (p q : Option Node) (bytes : List ℕ) → IsStore limit ps → slice_get ps n ≡ Some p → IsTrue (is_file (shape_in ps n)) → q ≡ with_bytes p bytes → Makes limit (set ps n q) (content_in n bytes (graph_in ps))
-swap_makes limit ps n p q bytes store there file edit =
-    let r : (old : List ℕ) × (content_at ps n ≡ Some (contents.File old)) × (content_of p ≡ Some (contents.File old)) = file_place ps n p there file in
-    let same : link_of q ≡ link_of p = ap link_of edit ∙ bytes_link p bytes in
-    (refilled_graph ps n p q bytes there same (ap content_of edit ∙ bytes_content p r.0 bytes r.2), store_refilled limit ps n p q r.0 store there r.2 same)
+-- another file comes in the place of one
+pub swap_makes : (limit : ℕ) (ps : List (Option Node)) (n : ℕ) (p q : Option Node) (file : FileValue) → IsStore limit ps → slice_get ps n ≡ Some p → IsTrue (is_file (shape_in ps n)) → q ≡ with_file p file → Makes limit (set ps n q) (content_in n file.bytes (graph_in ps))
+swap_makes limit ps n p q file store there at_file edit =
+    let r : (old : FileValue) × (content_at ps n ≡ Some (contents.File old)) × (content_of p ≡ Some (contents.File old)) = file_place ps n p there at_file in
+    let same : link_of q ≡ link_of p = ap link_of edit ∙ file_link p file in
+    (refilled_graph ps n p q file there same (ap content_of edit ∙ file_content p r.0 file r.2), store_refilled limit ps n p q r.0 store there r.2 same)
 
--- the bytes that come back are those that the file had
-pub swap_hands : (ps : List (Option Node)) (n : ℕ) (p : Option Node) (bytes : List ℕ) → slice_get ps n ≡ Some p → IsTrue (is_file (shape_in ps n)) → handed_out p bytes ≡ bytes_of (shape_in ps n)
-swap_hands ps n p bytes there file =
-    let r : (old : List ℕ) × (content_at ps n ≡ Some (contents.File old)) × (content_of p ≡ Some (contents.File old)) = file_place ps n p there file in
-    bytes_old p r.0 bytes r.2 ∙ sym (ap (λ (c : Option Content). bytes_of (option_map (shape_with (names_in ps n)) c)) r.1)
+-- the bytes of the file that comes back are those that were there
+pub swap_hands : (ps : List (Option Node)) (n : ℕ) (p : Option Node) (file : FileValue) → slice_get ps n ≡ Some p → IsTrue (is_file (shape_in ps n)) → (handed_out p file).bytes ≡ bytes_of (shape_in ps n)
+swap_hands ps n p file there at_file =
+    let r : (old : FileValue) × (content_at ps n ≡ Some (contents.File old)) × (content_of p ≡ Some (contents.File old)) = file_place ps n p there at_file in
+    ap (λ (f : FileValue). f.bytes) (file_old p r.0 file r.2) ∙ sym (ap (λ (c : Option Content). bytes_of (option_map (shape_with (names_in ps n)) c)) r.1)
 
 -- the names of a shape, those of no directory being none
 pub names_shape : (limit : ℕ) (ps : List (Option Node)) (n : ℕ) → IsStore limit ps → names_of (shape_in ps n) ≡ names_in ps n
@@ -164,7 +165,7 @@ names_shape limit ps n store = go (content_at ps n) refl
     go : (c : Option Content) → content_at ps n ≡ c → names_of (option_map (shape_with (names_in ps n)) c) ≡ names_in ps n
     go None e = sym (none None e (λ h. (cc)))
     go (Some contents.Dir) e = refl
-    go (Some (contents.File bytes)) e = sym (none (Some (contents.File bytes)) e (λ h. (cc)))
+    go (Some (contents.File file)) e = sym (none (Some (contents.File file)) e (λ h. (cc)))
 
 -- how many entries a directory has
 pub entries_are : (limit : ℕ) (ps : List (Option Node)) (dir : ℕ) → IsStore limit ps → count_by (λ place. is_in (link_of place) dir) ps ≡ length (names_of (shape_in ps dir))
@@ -188,7 +189,7 @@ pub no_parent : (ps : List (Option Node)) (n : ℕ) → link_at ps n ≡ None �
 no_parent ps n e dir x f = let g : ◌≡◌ {A = Option Link} None (Some (record { dir = dir; name = x })) = sym e ∙ child_link ps dir x n f in cc
 
 -- the place that the code reads
-read_at : (ps : List (Option Node)) (n m : ℕ) (p : Option Node) → n < length ps → m ≡ n → p ≡ get_or ps m p → slice_get ps n ≡ Some p
+pub read_at : (ps : List (Option Node)) (n m : ℕ) (p : Option Node) → n < length ps → m ≡ n → p ≡ get_or ps m p → slice_get ps n ≡ Some p
 read_at ps n m p h e v = slice_get_read ps _ n p refl h (subst (λ (k : ℕ). p ≡ get_or ps k p) e v)
 
 -- the same edits, as the code makes them: at the index m, where p stood
@@ -200,13 +201,13 @@ link_edit limit ps n dir x m p q store is_dir free used unlinked other apart e v
 pub release_edit : (limit : ℕ) (ps : List (Option Node)) (n m : ℕ) (p q : Option Node) → IsStore limit ps → IsTrue (is_there (shape_in ps n)) → IsUnlinked (child_in ps) n → (n ≡ 0 → ⊥) → has_entries (shape_in ps n) ≡ false → m ≡ n → p ≡ get_or ps m p → q ≡ None → Makes limit (set ps m q) (released_in n (graph_in ps))
 release_edit limit ps n m p q store used unlinked other empty e v edit = subst (λ (k : ℕ). Makes limit (set ps k q) (released_in n (graph_in ps))) (sym e) (release_makes limit ps n p q store (read_at ps n m p (place_within ps n used) e v) unlinked other empty edit)
 
--- a change of bytes
-pub swap_edit : (limit : ℕ) (ps : List (Option Node)) (n m : ℕ) (p q : Option Node) (bytes : List ℕ) → IsStore limit ps → IsTrue (is_file (shape_in ps n)) → m ≡ n → p ≡ get_or ps m p → q ≡ with_bytes p bytes → Makes limit (set ps m q) (content_in n bytes (graph_in ps))
-swap_edit limit ps n m p q bytes store file e v edit = subst (λ (k : ℕ). Makes limit (set ps k q) (content_in n bytes (graph_in ps))) (sym e) (swap_makes limit ps n p q bytes store (read_at ps n m p (file_within ps n file) e v) file edit)
+-- a change of a file
+pub swap_edit : (limit : ℕ) (ps : List (Option Node)) (n m : ℕ) (p q : Option Node) (file : FileValue) → IsStore limit ps → IsTrue (is_file (shape_in ps n)) → m ≡ n → p ≡ get_or ps m p → q ≡ with_file p file → Makes limit (set ps m q) (content_in n file.bytes (graph_in ps))
+swap_edit limit ps n m p q file store at_file e v edit = subst (λ (k : ℕ). Makes limit (set ps k q) (content_in n file.bytes (graph_in ps))) (sym e) (swap_makes limit ps n p q file store (read_at ps n m p (file_within ps n at_file) e v) at_file edit)
 
--- the bytes that it hands out
-pub swap_old : (ps : List (Option Node)) (n m : ℕ) (p : Option Node) (bytes : List ℕ) → IsTrue (is_file (shape_in ps n)) → m ≡ n → p ≡ get_or ps m p → handed_out p bytes ≡ bytes_of (shape_in ps n)
-swap_old ps n m p bytes file e v = swap_hands ps n p bytes (read_at ps n m p (file_within ps n file) e v) file
+-- the bytes of the file that it hands out
+pub swap_old : (ps : List (Option Node)) (n m : ℕ) (p : Option Node) (file : FileValue) → IsTrue (is_file (shape_in ps n)) → m ≡ n → p ≡ get_or ps m p → (handed_out p file).bytes ≡ bytes_of (shape_in ps n)
+swap_old ps n m p file at_file e v = swap_hands ps n p file (read_at ps n m p (file_within ps n at_file) e v) at_file
 
 -- an unlink
 pub unlink_edit : (limit : ℕ) (ps : List (Option Node)) (n dir : ℕ) (x : Name) (p q : Option Node) → IsStore limit ps → child_in ps dir x ≡ Some n → p ≡ get_or ps n p → q ≡ relinked p None → Makes limit (set ps n q) (unlinked_in dir x (graph_in ps))

@@ -2,6 +2,7 @@
 use Rattle.std.proofs.Common.{◌≡◌, ℕ, Bool, true, false, cond, eqb, List, [], ◌∷◌, ◌++◌, Option, Some, None, is_some, option_map, set, length, refl, sym, ap, ap₂, ◌∙◌}
 use Rattle.std.specs.Prelude.{slice_get}
 use Rattle.std.proofs.lemmas.Option.{slice_get_within}
+use Rattle.fs_blocks.specs.Files.{FileValue}
 use Rattle.fs_names.specs.Names.{Name, inserted_name, removed_name, has_name}
 use Rattle.fs_names.specs.Shapes.{Shape, Dir, File, names_of}
 use Rattle.fs_names.specs.declared.kind.Kind.{Kind}
@@ -108,31 +109,31 @@ moved_graph ps n p q r link new found there old none same to same' dir dir' free
     ∙ ap (linked_in new.dir new.name n) (unlinked_graph ps n p q link found there old none same dir)
 
 -- a number comes into use
-new_is : (kind : Kind) (names : List Name) → names ≡ [] → shape_with names (new_content kind) ≡ new_shape kind
-new_is kinds.Dir names e = ap (λ (l : List Name). Dir l) e
-new_is kinds.File names e = refl
+new_is : (f : Bool) (kind : Kind) (names : List Name) → names ≡ [] → shape_with names (new_content f kind) ≡ new_shape kind
+new_is f kinds.Dir names e = ap (λ (l : List Name). Dir l) e
+new_is f kinds.File names e = refl
 
 -- a number with a free place comes into use
-pub reserved_graph : (ps : List (Option Node)) (n : ℕ) (kind : Kind) → slice_get ps n ≡ Some None → names_in ps n ≡ [] → graph_in (set ps n (Some (new_node kind))) ≡ reserved_in n (new_shape kind) (graph_in ps)
-reserved_graph ps n kind there empty = graph_by (child_same ps n None (Some (new_node kind)) there refl) shapes
+pub reserved_graph : (f : Bool) (ps : List (Option Node)) (n : ℕ) (kind : Kind) → slice_get ps n ≡ Some None → names_in ps n ≡ [] → graph_in (set ps n (Some (new_node f kind))) ≡ reserved_in n (new_shape kind) (graph_in ps)
+reserved_graph f ps n kind there empty = graph_by (child_same ps n None (Some (new_node f kind)) there refl) shapes
   where
-    by : (m : ℕ) (b : Bool) → eqb m n ≡ b → option_map (shape_with (names_in ps m)) (cond b (Some (new_content kind)) (content_at ps m)) ≡ cond b (Some (new_shape kind)) (shape_in ps m)
-    by m true e = ap (λ (s : Shape). Some s) (new_is kind (names_in ps m) (ap (names_in ps) (eqb_true m n e) ∙ empty))
+    by : (m : ℕ) (b : Bool) → eqb m n ≡ b → option_map (shape_with (names_in ps m)) (cond b (Some (new_content f kind)) (content_at ps m)) ≡ cond b (Some (new_shape kind)) (shape_in ps m)
+    by m true e = ap (λ (s : Shape). Some s) (new_is f kind (names_in ps m) (ap (names_in ps) (eqb_true m n e) ∙ empty))
     by m false e = refl
 
-    shapes : (m : ℕ) → shape_in (set ps n (Some (new_node kind))) m ≡ set_at n (Some (new_shape kind)) (shape_in ps) m
-    shapes m = ap₂ (λ (names : List Name) (content : Option Content). option_map (shape_with names) content) (names_same ps n None (Some (new_node kind)) there refl m) (at_set content_of ps n (Some (new_node kind)) (slice_get_within ps n None there) m) ∙ by m (eqb m n) refl
+    shapes : (m : ℕ) → shape_in (set ps n (Some (new_node f kind))) m ≡ set_at n (Some (new_shape kind)) (shape_in ps) m
+    shapes m = ap₂ (λ (names : List Name) (content : Option Content). option_map (shape_with names) content) (names_same ps n None (Some (new_node f kind)) there refl m) (at_set content_of ps n (Some (new_node f kind)) (slice_get_within ps n None there) m) ∙ by m (eqb m n) refl
 
 -- the number after the last place comes into use
-pub pushed_graph : (ps : List (Option Node)) (kind : Kind) → names_in ps (length ps) ≡ [] → graph_in (ps ++ Some (new_node kind) ∷ []) ≡ reserved_in (length ps) (new_shape kind) (graph_in ps)
-pushed_graph ps kind empty = graph_by (child_push ps (Some (new_node kind)) refl) shapes
+pub pushed_graph : (f : Bool) (ps : List (Option Node)) (kind : Kind) → names_in ps (length ps) ≡ [] → graph_in (ps ++ Some (new_node f kind) ∷ []) ≡ reserved_in (length ps) (new_shape kind) (graph_in ps)
+pushed_graph f ps kind empty = graph_by (child_push ps (Some (new_node f kind)) refl) shapes
   where
-    by : (m : ℕ) (b : Bool) → eqb m (length ps) ≡ b → option_map (shape_with (names_in ps m)) (cond b (Some (new_content kind)) (content_at ps m)) ≡ cond b (Some (new_shape kind)) (shape_in ps m)
-    by m true e = ap (λ (s : Shape). Some s) (new_is kind (names_in ps m) (ap (names_in ps) (eqb_true m (length ps) e) ∙ empty))
+    by : (m : ℕ) (b : Bool) → eqb m (length ps) ≡ b → option_map (shape_with (names_in ps m)) (cond b (Some (new_content f kind)) (content_at ps m)) ≡ cond b (Some (new_shape kind)) (shape_in ps m)
+    by m true e = ap (λ (s : Shape). Some s) (new_is f kind (names_in ps m) (ap (names_in ps) (eqb_true m (length ps) e) ∙ empty))
     by m false e = refl
 
-    shapes : (m : ℕ) → shape_in (ps ++ Some (new_node kind) ∷ []) m ≡ set_at (length ps) (Some (new_shape kind)) (shape_in ps) m
-    shapes m = ap₂ (λ (names : List Name) (content : Option Content). option_map (shape_with names) content) (names_push ps (Some (new_node kind)) refl m) (at_push content_of ps (Some (new_node kind)) m) ∙ by m (eqb m (length ps)) refl
+    shapes : (m : ℕ) → shape_in (ps ++ Some (new_node f kind) ∷ []) m ≡ set_at (length ps) (Some (new_shape kind)) (shape_in ps) m
+    shapes m = ap₂ (λ (names : List Name) (content : Option Content). option_map (shape_with names) content) (names_push ps (Some (new_node f kind)) refl m) (at_push content_of ps (Some (new_node f kind)) m) ∙ by m (eqb m (length ps)) refl
 
 -- a number leaves use
 pub released_graph : (ps : List (Option Node)) (n : ℕ) (p : Option Node) → slice_get ps n ≡ Some p → link_of p ≡ None → graph_in (set ps n None) ≡ released_in n (graph_in ps)
@@ -145,13 +146,13 @@ released_graph ps n p there old = graph_by (child_same ps n p None there (sym ol
     shapes : (m : ℕ) → shape_in (set ps n None) m ≡ set_at n None (shape_in ps) m
     shapes m = ap₂ (λ (names : List Name) (content : Option Content). option_map (shape_with names) content) (names_same ps n p None there (sym old) m) (at_set content_of ps n None (slice_get_within ps n p there) m) ∙ by m (eqb m n) refl
 
--- a file's bytes change
-pub refilled_graph : (ps : List (Option Node)) (n : ℕ) (p q : Option Node) (bytes : List ℕ) → slice_get ps n ≡ Some p → link_of q ≡ link_of p → content_of q ≡ Some (contents.File bytes) → graph_in (set ps n q) ≡ content_in n bytes (graph_in ps)
-refilled_graph ps n p q bytes there same new = graph_by (child_same ps n p q there same) shapes
+-- a file changes
+pub refilled_graph : (ps : List (Option Node)) (n : ℕ) (p q : Option Node) (file : FileValue) → slice_get ps n ≡ Some p → link_of q ≡ link_of p → content_of q ≡ Some (contents.File file) → graph_in (set ps n q) ≡ content_in n file.bytes (graph_in ps)
+refilled_graph ps n p q file there same new = graph_by (child_same ps n p q there same) shapes
   where
-    by : (m : ℕ) (b : Bool) → eqb m n ≡ b → option_map (shape_with (names_in ps m)) (cond b (Some (contents.File bytes)) (content_at ps m)) ≡ cond b (Some (File bytes)) (shape_in ps m)
+    by : (m : ℕ) (b : Bool) → eqb m n ≡ b → option_map (shape_with (names_in ps m)) (cond b (Some (contents.File file)) (content_at ps m)) ≡ cond b (Some (File file.bytes)) (shape_in ps m)
     by m true e = refl
     by m false e = refl
 
-    shapes : (m : ℕ) → shape_in (set ps n q) m ≡ set_at n (Some (File bytes)) (shape_in ps) m
+    shapes : (m : ℕ) → shape_in (set ps n q) m ≡ set_at n (Some (File file.bytes)) (shape_in ps) m
     shapes m = ap₂ (λ (names : List Name) (content : Option Content). option_map (shape_with names) content) (names_same ps n p q there same m) (at_set content_of ps n q (slice_get_within ps n p there) m ∙ ap (λ (c : Option Content). cond (eqb m n) c (content_at ps m)) new) ∙ by m (eqb m n) refl

@@ -6,3 +6,5 @@ pub mod StoreLemmas
 pub mod EditLemmas
 pub mod ExchangeLemmas
 pub mod RealLemmas
+pub mod FormLemmas
+pub mod SwapLemmas

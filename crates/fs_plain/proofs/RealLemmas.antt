@@ -1,5 +1,5 @@
 -- What every store keeps, by its places, and how a change of them is seen.
-use Rattle.std.proofs.Common.{◌≡◌, ℕ, ◌≤◌, true, false, List, [], ◌∷◌, length, Option, Some, None, option_map, is_some, refl, sym, ap, ap₂, ◌∙◌}
+use Rattle.std.proofs.Common.{◌≡◌, ℕ, ◌≤◌, Bool, true, false, List, [], ◌∷◌, length, Option, Some, None, option_map, is_some, refl, sym, ap, ap₂, ◌∙◌}
 use Rattle.std.specs.Prelude.{slice_get}
 use Rattle.fs_names.specs.Names.{Name, has_name}
 use Rattle.fs_names.specs.Shapes.{Shape, names_of, has_any, has_entries}
@@ -22,7 +22,7 @@ shape_ascends ps d = go (content_at ps d)
     go : (o : Option Content) → Ascends None (names_of (option_map (shape_with (names_in ps d)) o))
     go None = tt
     go (Some contents.Dir) = names_ascend ps d
-    go (Some (contents.File bytes)) = tt
+    go (Some (contents.File file)) = tt
 
 -- and are those of its entries
 shape_lists : (most : ℕ) (ps : List (Option Node)) → IsStore most ps → (d : ℕ) (x : Name) → has_name x (names_of (shape_in ps d)) ≡ is_some (child_in ps d x)
@@ -35,7 +35,7 @@ shape_lists most ps store d x = go (content_at ps d) refl
     go : (o : Option Content) → content_at ps d ≡ o → has_name x (names_of (option_map (shape_with (names_in ps d)) o)) ≡ is_some (child_in ps d x)
     go None e = none (child_in ps d x) refl (λ h. absurd (cc))
     go (Some contents.Dir) e = names_child ps d x
-    go (Some (contents.File bytes)) e = none (child_in ps d x) refl (λ h. absurd (cc))
+    go (Some (contents.File file)) e = none (child_in ps d x) refl (λ h. absurd (cc))
 
 -- what an entry names is in use
 pub child_shape : (ps : List (Option Node)) (d n : ℕ) (x : Name) → child_in ps d x ≡ Some n → (s : Shape) × (shape_in ps n ≡ Some s)
@@ -57,7 +57,7 @@ same_link : (d e : ℕ) (x y : Name) → ◌≡◌ {A = Option Link} (Some (reco
 same_link d e x y h = let k : ◌≡◌ {A = Link} (record { dir = d; name = x }) (record { dir = e; name = y }) = cc in (ap (λ (l : Link). l.dir) k, ap (λ (l : Link). l.name) k)
 
 -- what a store keeps, of its places within a limit
-pub real_of : (most limit : ℕ) (ps : List (Option Node)) → IsStore most ps → length ps ≤ limit → IsReal (seen (record { limit = limit; places = ps }))
+pub real_of : {f : Bool} (most limit : ℕ) (ps : List (Option Node)) → IsStore most ps → length ps ≤ limit → IsReal (seen (record { limit = limit; in_blocks = f; places = ps }))
 unfolding graph_of limit_of room
 real_of most limit ps store within = record {
   root = (names_in ps 0, ap (option_map (shape_with (names_in ps 0))) store.root);
@@ -73,9 +73,9 @@ real_of most limit ps store within = record {
 }
 
 -- what is seen of places that have changed
-pub seen_by : (limit count : ℕ) (ps : List (Option Node)) (graph : Graph) → graph_in ps ≡ graph → length ps ≡ count → seen (record { limit = limit; places = ps }) ≡ record { graph = graph; limit = limit; room = count }
+pub seen_by : {f : Bool} (limit count : ℕ) (ps : List (Option Node)) (graph : Graph) → graph_in ps ≡ graph → length ps ≡ count → seen (record { limit = limit; in_blocks = f; places = ps }) ≡ record { graph = graph; limit = limit; room = count; in_blocks = f }
 unfolding graph_of limit_of room
-seen_by limit count ps graph e f = ap₂ (λ (g : Graph) (n : ℕ). record { graph = g; limit = limit; room = n }) e f
+seen_by {f} limit count ps graph e g = ap₂ (λ (h : Graph) (n : ℕ). record { graph = h; limit = limit; room = n; in_blocks = f }) e g
 
 -- from a node without entries no other one is reached
 pub bare_reaches : (store : Seen) → IsReal store → (n m : ℕ) → has_entries (store.graph.shape n) ≡ false → IsReached store.graph.child n m → n ≡ m

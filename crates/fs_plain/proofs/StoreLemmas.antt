@@ -2,6 +2,7 @@
 use Rattle.std.proofs.Common.{◌≡◌, ℕ, zero, suc, ◌+◌, ◌-◌, ◌<◌, ◌≤◌, Bool, true, false, cond, eqb, List, [], ◌∷◌, ◌++◌, Option, Some, None, is_some, option_map, set, length, refl, sym, ap, ap₂, ◌∙◌, arith, subst, length-set, length-append}
 use Rattle.std.specs.Prelude.{slice_get, IsTrue}
 use Rattle.std.proofs.lemmas.Option.{slice_get_within}
+use Rattle.fs_blocks.specs.Files.{FileValue}
 use Rattle.fs_names.specs.Names.{Name, has_name}
 use Rattle.fs_names.specs.Shapes.{Shape, is_there, is_dir, is_file, has_any, has_entries}
 use Rattle.fs_names.specs.declared.kind.Kind.{Kind}
@@ -33,16 +34,16 @@ dir_of_shape ps n h = go (content_at ps n) h
     go : (c : Option Content) → IsTrue (is_dir (option_map (shape_with (names_in ps n)) c)) → c ≡ Some contents.Dir
     go None h = absurd (cc)
     go (Some contents.Dir) h = refl
-    go (Some (contents.File bytes)) h = absurd (cc)
+    go (Some (contents.File file)) h = absurd (cc)
 
 -- a file's
-pub file_of_shape : (ps : List (Option Node)) (n : ℕ) → IsTrue (is_file (shape_in ps n)) → (bytes : List ℕ) × (content_at ps n ≡ Some (contents.File bytes))
+pub file_of_shape : (ps : List (Option Node)) (n : ℕ) → IsTrue (is_file (shape_in ps n)) → (file : FileValue) × (content_at ps n ≡ Some (contents.File file))
 file_of_shape ps n h = go (content_at ps n) h
   where
-    go : (c : Option Content) → IsTrue (is_file (option_map (shape_with (names_in ps n)) c)) → (bytes : List ℕ) × (c ≡ Some (contents.File bytes))
+    go : (c : Option Content) → IsTrue (is_file (option_map (shape_with (names_in ps n)) c)) → (file : FileValue) × (c ≡ Some (contents.File file))
     go None h = absurd (cc)
     go (Some contents.Dir) h = absurd (cc)
-    go (Some (contents.File bytes)) h = (bytes, refl)
+    go (Some (contents.File file)) h = (file, refl)
 
 -- a node that no entry leads to has none
 pub unlinked_place : (limit : ℕ) (ps : List (Option Node)) (n : ℕ) → IsStore limit ps → IsUnlinked (child_in ps) n → link_at ps n ≡ None
@@ -80,27 +81,27 @@ still_dir ps n m c free dir = go (eqb m n) refl
     go false e = dir
 
 -- a number with a free place comes into use
-pub store_reserved : (limit : ℕ) (ps : List (Option Node)) (n : ℕ) (kind : Kind) → IsStore limit ps → slice_get ps n ≡ Some None → IsStore limit (set ps n (Some (new_node kind)))
-store_reserved limit ps n kind store there =
+pub store_reserved : (f : Bool) (limit : ℕ) (ps : List (Option Node)) (n : ℕ) (kind : Kind) → IsStore limit ps → slice_get ps n ≡ Some None → IsStore limit (set ps n (Some (new_node f kind)))
+store_reserved f limit ps n kind store there =
     let free : content_at ps n ≡ None = ap (λ (o : Option (Option Node)). then_at o content_of) there in
     let within : n < length ps = slice_get_within ps n None there in
-    let contents : (m : ℕ) → content_at (set ps n (Some (new_node kind))) m ≡ set_at n (content_of (Some (new_node kind))) (content_at ps) m = at_set content_of ps n (Some (new_node kind)) within in
-    kept limit ps (set ps n (Some (new_node kind))) store (let h : length ps ≤ limit = store.within in omega (arith, length-set {A = Option Node}))
-    (same_set link_of ps n None (Some (new_node kind)) there refl)
-    (child_same ps n None (Some (new_node kind)) there refl)
-    (contents 0 ∙ still_dir ps n 0 (content_of (Some (new_node kind))) free store.root)
-    (λ m link e. contents link.dir ∙ still_dir ps n link.dir (content_of (Some (new_node kind))) free (store.of_dir m link e))
+    let contents : (m : ℕ) → content_at (set ps n (Some (new_node f kind))) m ≡ set_at n (content_of (Some (new_node f kind))) (content_at ps) m = at_set content_of ps n (Some (new_node f kind)) within in
+    kept limit ps (set ps n (Some (new_node f kind))) store (let h : length ps ≤ limit = store.within in omega (arith, length-set {A = Option Node}))
+    (same_set link_of ps n None (Some (new_node f kind)) there refl)
+    (child_same ps n None (Some (new_node f kind)) there refl)
+    (contents 0 ∙ still_dir ps n 0 (content_of (Some (new_node f kind))) free store.root)
+    (λ m link e. contents link.dir ∙ still_dir ps n link.dir (content_of (Some (new_node f kind))) free (store.of_dir m link e))
 
 -- the number after the last place comes into use
-pub store_pushed : (limit : ℕ) (ps : List (Option Node)) (kind : Kind) → IsStore limit ps → length ps < limit → IsStore limit (ps ++ Some (new_node kind) ∷ [])
-store_pushed limit ps kind store h =
+pub store_pushed : (f : Bool) (limit : ℕ) (ps : List (Option Node)) (kind : Kind) → IsStore limit ps → length ps < limit → IsStore limit (ps ++ Some (new_node f kind) ∷ [])
+store_pushed f limit ps kind store h =
     let free : content_at ps (length ps) ≡ None = past_end content_of ps (length ps) (omega arith) in
-    let contents : (m : ℕ) → content_at (ps ++ Some (new_node kind) ∷ []) m ≡ set_at (length ps) (content_of (Some (new_node kind))) (content_at ps) m = at_push content_of ps (Some (new_node kind)) in
-    kept limit ps (ps ++ Some (new_node kind) ∷ []) store (omega (arith, length-append {A = Option Node}))
-    (same_push link_of ps (Some (new_node kind)) refl)
-    (child_push ps (Some (new_node kind)) refl)
-    (contents 0 ∙ still_dir ps (length ps) 0 (content_of (Some (new_node kind))) free store.root)
-    (λ m link e. contents link.dir ∙ still_dir ps (length ps) link.dir (content_of (Some (new_node kind))) free (store.of_dir m link e))
+    let contents : (m : ℕ) → content_at (ps ++ Some (new_node f kind) ∷ []) m ≡ set_at (length ps) (content_of (Some (new_node f kind))) (content_at ps) m = at_push content_of ps (Some (new_node f kind)) in
+    kept limit ps (ps ++ Some (new_node f kind) ∷ []) store (omega (arith, length-append {A = Option Node}))
+    (same_push link_of ps (Some (new_node f kind)) refl)
+    (child_push ps (Some (new_node f kind)) refl)
+    (contents 0 ∙ still_dir ps (length ps) 0 (content_of (Some (new_node f kind))) free store.root)
+    (λ m link e. contents link.dir ∙ still_dir ps (length ps) link.dir (content_of (Some (new_node f kind))) free (store.of_dir m link e))
 
 -- a number leaves use
 other_dir : (ps : List (Option Node)) (n m : ℕ) (c : Option Content) → (m ≡ n → ⊥) → content_at ps m ≡ Some contents.Dir → set_at n c (content_at ps) m ≡ Some contents.Dir
@@ -133,8 +134,8 @@ store_released limit ps n p store there old other empty =
     (contents 0 ∙ other_dir ps n 0 None (λ e. other (sym e)) store.root)
     (λ m link e. contents link.dir ∙ other_dir ps n link.dir None (not_above limit ps n m link store empty e) (store.of_dir m link e))
 
--- a file's bytes change
-pub store_refilled : (limit : ℕ) (ps : List (Option Node)) (n : ℕ) (p q : Option Node) (old : List ℕ) → IsStore limit ps → slice_get ps n ≡ Some p → content_of p ≡ Some (contents.File old) → link_of q ≡ link_of p → IsStore limit (set ps n q)
+-- a file changes
+pub store_refilled : (limit : ℕ) (ps : List (Option Node)) (n : ℕ) (p q : Option Node) (old : FileValue) → IsStore limit ps → slice_get ps n ≡ Some p → content_of p ≡ Some (contents.File old) → link_of q ≡ link_of p → IsStore limit (set ps n q)
 store_refilled limit ps n p q old store there file same =
     let read : (m : ℕ) → content_at (set ps n q) m ≡ set_at n (content_of q) (content_at ps) m = at_set content_of ps n q (slice_get_within ps n p there) in
     let here : content_at ps n ≡ Some (contents.File old) = ap (λ (o : Option (Option Node)). then_at o content_of) there ∙ file in

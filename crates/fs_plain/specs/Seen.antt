@@ -1,19 +1,20 @@
--- What a store is to all above it: a graph, a limit and the room made.
-use Rattle.std.specs.Prelude.{ℕ, ◌≡◌, ◌≤◌, true, is_some, List, [], ◌∷◌, Option, Some, None}
+-- What a store is to all above it: a graph, a limit, the room made and the form of its files.
+use Rattle.std.specs.Prelude.{ℕ, Bool, ◌≡◌, ◌≤◌, true, is_some, List, [], ◌∷◌, Option, Some, None}
 use Rattle.fs_names.specs.Names.{Name, has_name}
 use Rattle.fs_names.specs.Shapes.{Shape, Dir, names_of}
 use Rattle.fs_graph.specs.Graphs.{Graph, IsAcyclic, IsUnlinked}
 use Rattle.fs_plain.specs.Stores.{Places, graph_of, limit_of, room, is_above}
 
--- a graph, the limit on numbers in use, and for how many numbers there is room
+-- a graph, the limit on numbers in use, for how many numbers there is room, and whether files are in blocks
 pub record Seen : Type 0 where
   pub graph : Graph
   pub limit : ℕ
   pub room : ℕ
+  pub in_blocks : Bool
 
 -- what is seen of a store
 abbrev pub seen : Places → Seen
-seen store = record { graph = graph_of store; limit = limit_of store; room = room store }
+seen store = record { graph = graph_of store; limit = limit_of store; room = room store; in_blocks = store.in_blocks }
 
 -- each name is above the one before it, and the first above the given one
 abbrev pub Ascends : Option Name → List Name → Type 0

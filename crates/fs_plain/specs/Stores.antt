@@ -12,9 +12,10 @@ use Rattle.fs_plain.specs.declared.node.Link.{Link}
 use Rattle.fs_plain.specs.declared.node.Node.{Node}
 use Rattle.fs_graph.specs.Graphs.{Graph, Children, then_at, IsAcyclic, used_below}
 
--- a limit on numbers in use, and for each number made so far, in their order, its node, if it has one
+-- a limit on numbers in use, whether files are in blocks, and for each number made so far, in their order, its node, if it has one
 pub record Places : Type 0 where
   pub limit : ℕ
+  pub in_blocks : Bool
   pub places : List (Option Node)
 
 -- what a place holds
@@ -67,7 +68,7 @@ names_in (place ∷ places) dir = with_link (link_of place) dir (names_in places
 -- a directory with these names, or a file with its bytes
 abbrev pub shape_with : List Name → Content → Shape
 shape_with names contents.Dir = Dir names
-shape_with names (contents.File bytes) = File bytes
+shape_with names (contents.File file) = File file.bytes
 
 -- what the node of a number is
 abbrev pub shape_in : List (Option Node) → ℕ → Option Shape

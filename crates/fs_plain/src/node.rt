@@ -1,27 +1,29 @@
 //! What stands in the place of a number.
 
 ghost use Rattle.std.specs.Prelude.{◌≡◌, ◌++◌, ◌∷◌, [], OnOk, OnErr, Some};
-ghost use Rattle.fs_plain.specs.code.Edits.{relinked, new_content, new_node, with_bytes, handed_out};
+ghost use Rattle.fs_plain.specs.code.Edits.{relinked, new_content, new_node, with_file, handed_out};
 
+use fs_blocks::File;
 use fs_graph::NodeNo;
-use fs_names::{Bytes, Kind, Name};
+use fs_names::{Kind, Name};
 use std::alloc::{AllocError, Global};
+use std::mem;
 
 /// What a node is, without the names of a directory.
 #[derive(Drop)]
 pub enum Content {
     Dir,
-    File(Bytes),
+    File(File),
 }
 
 impl Content {
-    /// A directory, or a file without bytes.
-    pub fn new(alloc: Global, kind: Kind) -> Content
-        ensures { result ≡ new_content kind }
+    /// A directory, or a file without bytes, in blocks or in one vector.
+    pub fn new(alloc: Global, kind: Kind, in_blocks: bool) -> Content
+        ensures { result ≡ new_content in_blocks kind }
     {
         match kind {
             Kind::Dir => Content::Dir,
-            Kind::File => Content::File(Bytes::new(Vec::new(alloc))),
+            Kind::File => Content::File(File::empty(alloc, in_blocks)),
         }
     }
 }
@@ -41,12 +43,12 @@ pub struct Node {
 }
 
 impl Node {
-    /// An empty node that no entry names.
-    pub fn new(alloc: Global, kind: Kind) -> Node
-        ensures { result ≡ new_node kind }
+    /// An empty node that no entry names; a file is in blocks or in one vector.
+    pub fn new(alloc: Global, kind: Kind, in_blocks: bool) -> Node
+        ensures { result ≡ new_node in_blocks kind }
     {
         Node {
-            content: Content::new(alloc, kind),
+            content: Content::new(alloc, kind, in_blocks),
             link: None,
         }
     }
@@ -68,10 +70,10 @@ pub fn put(place: &mut Option<Node>, node: Option<Node>)
     *place = node;
 }
 
-/// Gives a file these bytes, and hands the old ones out.
-pub fn swap_bytes(place: &mut Option<Node>, bytes: Vec<u8>) -> Vec<u8>
-    ensures new { place.new ≡ with_bytes place.old bytes.items }
-    ensures old { result.items ≡ handed_out place.old bytes.items }
+/// Puts another file into a place of one, and hands the old one out.
+pub fn swap_file(place: &mut Option<Node>, file: File) -> File
+    ensures new { place.new ≡ with_file place.old file }
+    ensures old { result ≡ handed_out place.old file }
 {
     match place {
         Some(
@@ -79,17 +81,21 @@ pub fn swap_bytes(place: &mut Option<Node>, bytes: Vec<u8>) -> Vec<u8>
                 content: Content::File(old),
                 ..
             },
-        ) => old.swap(bytes),
-        _ => bytes,
+        ) => mem::replace(old, file),
+        _ => file,
     }
 }
 
 /// Adds the place of an empty node that no entry names. After an error the places are as before.
-pub fn add_place(places: &mut Vec<Option<Node>>, kind: Kind) -> Result<(), AllocError>
-    ensures ok { OnOk result (places.new.items ≡ places.old.items ++ Some (new_node kind) ∷ []) }
+pub fn add_place(
+    places: &mut Vec<Option<Node>>,
+    kind: Kind,
+    in_blocks: bool,
+) -> Result<(), AllocError>
+    ensures ok { OnOk result (places.new.items ≡ places.old.items ++ Some (new_node in_blocks kind) ∷ []) }
     ensures err { OnErr result (places.new.items ≡ places.old.items) }
 {
-    let node = Node::new(*places.allocator(), kind);
+    let node = Node::new(*places.allocator(), kind, in_blocks);
     places.push(Some(node))?;
     Ok(())
 }

@@ -1,17 +1,22 @@
 //! The store as a plain vector, without an index: each of its calls looks at every place.
 #![tactic(auto, unfolding(crate::specs::Stores::graph_of, crate::specs::Stores::limit_of, crate::specs::Stores::room))]
 
-ghost use Rattle.std.specs.Prelude.{ℕ, ◌≡◌, ◌≢◌, ◌≤◌, ◌<◌, ◌↔◌, IsTrue, false, IfOk, OnErr, IfSome, IsSome, MatchOption, length, option_map, None, Some, Ok, Err};
+ghost use Rattle.std.specs.Prelude.{ℕ, ◌≡◌, ◌≢◌, ◌≤◌, ◌<◌, ◌↔◌, IsTrue, IsFalse, false, IfOk, OnErr, IfSome, IsSome, MatchOption, ◌+◌, ◌^◌, ◌++◌, take, drop, vec_len, vec_capacity, length, option_map, None, Some, Ok, Err};
 ghost use Rattle.std.specs.Option.{option_copied};
+ghost use Rattle.std.specs.Arc.{arc_value};
+ghost use Rattle.fs_blocks.specs.Spares.{FitsWrite, FitsSize};
+ghost use Rattle.fs_calls.specs.Rows.{written, resized};
 ghost use Rattle.fs_names.specs.Shapes.{is_there, is_dir, is_file, has_entries, names_of, bytes_of};
 ghost use Rattle.fs_graph.specs.Graphs.{empty_graph, linked_in, unlinked_in, moved_in, swapped_in, reserved_in, released_in, content_in, IsReached};
 
-use crate::node::{Content, Link, Node, add_place, put, relink, swap_bytes};
+use crate::node::{Content, Link, Node, add_place, put, relink, swap_file};
 use crate::scan::{content_at, entries_in, find_in, free_in, least_in, link_at};
+use fs_blocks::{File, Spare};
 use fs_graph::NodeNo;
 use fs_names::{Kind, NODE_LIMIT, Name};
 use std::alloc::{AllocError, Global};
 use std::marker::Model;
+use std::sync::Arc;
 use thiserror::Error;
 
 /// Why no number was reserved.
@@ -31,18 +36,20 @@ pub enum NoNode {
 #[derive(Drop)]
 pub struct Store {
     limit: usize,
+    in_blocks: bool,
     places: Vec<Option<Node>>,
 }
 
 impl Model for Store {
     ghost use Rattle.fs_plain.specs.Stores.{Places};
     ghost use Rattle.fs_plain.specs.Stores.{IsStore};
+    ghost use Rattle.fs_plain.specs.code.Edits.{HaveForm};
 
     ghost Value = { Places };
 
-    ghost view = { λ s. record { limit = s.limit; places = s.places.items } };
+    ghost view = { λ s. record { limit = s.limit; in_blocks = s.in_blocks; places = s.places.items } };
 
-    ghost invariant = { λ s. IsStore s.limit s.places.items };
+    ghost invariant = { λ s. IsStore s.limit s.places.items × HaveForm s.in_blocks s.places.items };
 }
 
 impl Store {
@@ -50,15 +57,35 @@ impl Store {
     ghost use Rattle.fs_graph.specs.Graphs.{IsUnlinked, IsParent};
     ghost use Rattle.fs_plain.specs.Seen.{seen, IsReal};
 
-    /// The root alone, in a store for at most `limit` nodes. The only error is out of memory.
+    /// The root alone, in a store for at most `limit` nodes, with each file in one vector. The only error is out of memory.
     pub fn new(alloc: Global, limit: usize) -> Result<Store, AllocError>
         requires least { 1 ≤ limit }
         requires most { limit ≤ NODE_LIMIT }
-        ensures { IfOk result (λ store. seen store ≡ record { graph = empty_graph; limit = limit; room = 1 }) }
+        ensures { IfOk result (λ store. seen store ≡ record { graph = empty_graph; limit = limit; room = 1; in_blocks = false }) }
+    {
+        Store::with_form(alloc, limit, false)
+    }
+
+    /// The same, with files in blocks or each in one vector.
+    pub fn with_form(alloc: Global, limit: usize, in_blocks: bool) -> Result<Store, AllocError>
+        requires least { 1 ≤ limit }
+        requires most { limit ≤ NODE_LIMIT }
+        ensures { IfOk result (λ store. seen store ≡ record { graph = empty_graph; limit = limit; room = 1; in_blocks = in_blocks }) }
     {
         let mut places = Vec::new(alloc);
-        places.push(Some(Node::new(alloc, Kind::Dir)))?;
-        Ok(Store { limit, places })
+        places.push(Some(Node::new(alloc, Kind::Dir, in_blocks)))?;
+        Ok(Store {
+            limit,
+            in_blocks,
+            places,
+        })
+    }
+
+    /// Whether files are in blocks, and not each in one vector.
+    pub fn is_in_blocks(&self) -> bool
+        ensures { result ≡ (seen self.now).in_blocks }
+    {
+        self.in_blocks
     }
 
     /// Whether the node is a directory or a file.
@@ -111,13 +138,35 @@ impl Store {
         }
     }
 
-    /// The bytes of a file. Where the number is no file's, there are none.
+    /// The bytes of a file in one vector. Where the number is no file's, there are none.
     pub fn content(&self, file: NodeNo) -> &[u8]
+        requires { IsFalse (seen self.now).in_blocks }
         ensures { result.now ≡ bytes_of (shape self.now file) }
     {
         match content_at(&self.places, file) {
-            Some(Content::File(bytes)) => bytes.as_slice(),
+            Some(Content::File(file)) => file.as_slice(),
             _ => &[],
+        }
+    }
+
+    /// How many bytes a file has. Where the number is no file's, there are none.
+    pub fn len(&self, file: NodeNo) -> usize
+        ensures { result ≡ length (bytes_of (shape self.now file)) }
+    {
+        match content_at(&self.places, file) {
+            Some(Content::File(file)) => file.len(),
+            _ => 0,
+        }
+    }
+
+    /// Appends the bytes of a file from an offset on, and no more than a count, to a vector that has room for them. Where the
+    /// number is no file's, there are none.
+    pub fn read(&self, file: NodeNo, off: u64, count: u64, into: &mut Vec<u8>)
+        requires { vec_len into.old + length (take count (drop off (bytes_of (shape self.now file)))) ≤ vec_capacity into.old }
+        ensures { into.new.items ≡ into.old.items ++ take count (drop off (bytes_of (shape self.now file))) }
+    {
+        if let Some(Content::File(file)) = content_at(&self.places, file) {
+            file.read(off, count, into);
         }
     }
 
@@ -155,7 +204,7 @@ impl Store {
         let Some(free) = free_in(&self.places) else {
             return self.reserve_next(kind);
         };
-        let node = Node::new(*self.places.allocator(), kind);
+        let node = Node::new(*self.places.allocator(), kind, self.in_blocks);
         put(&mut self.places[free], Some(node));
         Ok(NodeNo::new(free))
     }
@@ -177,7 +226,7 @@ impl Store {
         if next == self.limit {
             return Err(NoNode::Full);
         }
-        let Ok(()) = add_place(&mut self.places, kind) else {
+        let Ok(()) = add_place(&mut self.places, kind, self.in_blocks) else {
             return Err(NoNode::OutOfMemory);
         };
         Ok(NodeNo::new(next))
@@ -245,13 +294,65 @@ impl Store {
         self.link(other, other_name, node);
     }
 
-    /// A file gets these bytes, and its old ones are handed out.
+    /// Another file comes in the place of one, which is handed out.
+    fn swap_file(&mut self, node: NodeNo, file: File) -> File
+        requires node { IsTrue (is_file (shape self.old node)) }
+        requires form { file.in_blocks ≡ (seen self.old).in_blocks }
+        ensures bytes { result.bytes ≡ bytes_of (shape self.old node) }
+        ensures form { result.in_blocks ≡ (seen self.old).in_blocks }
+        ensures change { seen self.new ≡ record (seen self.old) { graph = content_in node file.bytes (graph_of self.old) } }
+    {
+        swap_file(&mut self.places[node.get()], file)
+    }
+
+    /// A file in one vector gets these bytes, and its old ones are handed out.
     pub fn swap_content(&mut self, file: NodeNo, bytes: Vec<u8>) -> Vec<u8>
-        requires { IsTrue (is_file (shape self.old file)) }
+        requires file { IsTrue (is_file (shape self.old file)) }
+        requires form { IsFalse (seen self.old).in_blocks }
         ensures old { result.items ≡ bytes_of (shape self.old file) }
         ensures change { seen self.new ≡ record (seen self.old) { graph = content_in file bytes.items (graph_of self.old) } }
     {
-        swap_bytes(&mut self.places[file.get()], bytes)
+        self.swap_file(file, File::plain(bytes)).into_vec()
+    }
+
+    /// Puts bytes, at least one, over those of a file in blocks from an offset on; a gap reads as zeros.
+    pub fn write(&mut self, file: NodeNo, off: usize, bytes: &[u8], spare: Spare)
+        requires file { IsTrue (is_file (shape self.old file)) }
+        requires form { IsTrue (seen self.old).in_blocks }
+        requires some { 0 < length bytes.now }
+        requires fits { off + length bytes.now < 2 ^ 63 }
+        requires spare { FitsWrite off (length bytes.now) spare }
+        ensures { seen self.new ≡ record (seen self.old) { graph = content_in file (written (bytes_of (shape self.old file)) off bytes.now) (graph_of self.old) } }
+    {
+        let mut content = self.swap_file(file, File::in_blocks());
+        content.write(off, bytes, spare);
+        self.swap_file(file, content);
+    }
+
+    /// The same of bytes that others share: a whole block of the file shares them too.
+    pub fn take(&mut self, file: NodeNo, off: usize, bytes: &Arc<Vec<u8>>, spare: Spare)
+        requires file { IsTrue (is_file (shape self.old file)) }
+        requires form { IsTrue (seen self.old).in_blocks }
+        requires some { 0 < length (arc_value bytes.now).items }
+        requires fits { off + length (arc_value bytes.now).items < 2 ^ 63 }
+        requires spare { FitsWrite off (length (arc_value bytes.now).items) spare }
+        ensures { seen self.new ≡ record (seen self.old) { graph = content_in file (written (bytes_of (shape self.old file)) off (arc_value bytes.now).items) (graph_of self.old) } }
+    {
+        let mut content = self.swap_file(file, File::in_blocks());
+        content.take(off, bytes, spare);
+        self.swap_file(file, content);
+    }
+
+    /// Cuts a file in blocks to a size, or lets zeros follow up to it.
+    pub fn resize(&mut self, file: NodeNo, size: usize, spare: Spare)
+        requires file { IsTrue (is_file (shape self.old file)) }
+        requires form { IsTrue (seen self.old).in_blocks }
+        requires spare { FitsSize size spare }
+        ensures { seen self.new ≡ record (seen self.old) { graph = content_in file (resized (bytes_of (shape self.old file)) size) (graph_of self.old) } }
+    {
+        let mut content = self.swap_file(file, File::in_blocks());
+        content.resize(size, spare);
+        self.swap_file(file, content);
     }
 
     /// How many entries a directory has. Where the number is no directory's, there are none.

@@ -1,7 +1,7 @@
 //! Trees as they are written.
 
 ghost use Rattle.std.specs.Prelude.{◌≡◌, ◌++◌, ◌∷◌, [], Some, None, IsTrue, IfOk, OnOk, OnErr, option_map, codes, false, true};
-ghost use Rattle.fs_names.specs.Shapes.{is_there, is_dir, names_of};
+ghost use Rattle.fs_names.specs.Shapes.{is_there, is_dir, names_of, bytes_of};
 ghost use Rattle.fs_nodes.specs.Seen.{seen, IsReal};
 ghost use Rattle.fs_nodes.specs.Stores.{graph_of, shape, child, next_entry, IsNextName};
 ghost use Rattle.fs_script.specs.TreeText.{tree_text, AppendsTree};
@@ -42,20 +42,33 @@ impl Model for Walk {
     ghost view = { λ w. record { above = w.above.items; dir = w.dir; low = w.low; last = w.last } };
 }
 
-/// The bytes of a file; a directory has none.
-fn bytes_of(store: &Store, node: NodeNo) -> Option<&[u8]>
-    requires { IsTrue (is_there (shape store.now node)) }
-    ensures { node_seen (shape store.now node) ≡ Some (node_with result) }
+/// The bytes of a file, again.
+fn copied(alloc: Global, store: &Store, file: NodeNo) -> Result<Vec<u8>, AllocError>
+    ensures { IfOk result (λ bytes. bytes.items ≡ bytes_of (shape store.now file)) }
 {
-    if store.is_dir(node) {
-        None
-    } else {
-        Some(store.content(node))
-    }
+    let count = store.len(file);
+    let mut bytes = Vec::with_capacity(alloc, count)?;
+    store.read(file, 0, count as u64, &mut bytes);
+    Ok(bytes)
 }
 
-/// The line of a node behind some steps.
+/// The line of a node behind some steps: of a file, where it has bytes, and else of a directory.
 fn push_line(
+    alloc: Global,
+    above: &[Step],
+    name: &Name,
+    bytes: Option<&[u8]>,
+    line: &mut Addition,
+) -> Result<(), AllocError>
+    ensures ok { OnOk result (line.new.added ≡ line.old.added ++ row_text (key_above above.now ++ name.now ∷ []) (Some (node_with bytes.entry))) }
+    ensures before { line.new.before ≡ line.old.before }
+{
+    push_node(alloc, above, slice::from_ref(name), bytes, line)?;
+    line.push(b"\n")
+}
+
+/// The line of a node of a store.
+fn push_line_of(
     alloc: Global,
     store: &Store,
     above: &[Step],
@@ -67,9 +80,14 @@ fn push_line(
     ensures ok { OnOk result (line.new.added ≡ line.old.added ++ row_text (key_above above.now ++ name.now ∷ []) (node_seen (shape store.now node))) }
     ensures before { line.new.before ≡ line.old.before }
 {
-    let bytes = bytes_of(store, node);
-    push_node(alloc, above, slice::from_ref(name), bytes, line)?;
-    line.push(b"\n")
+    if store.is_dir(node) {
+        return push_line(alloc, above, name, None, line);
+    }
+    if store.is_in_blocks() {
+        let bytes = copied(alloc, store, node)?;
+        return push_line(alloc, above, name, Some(&bytes), line);
+    }
+    push_line(alloc, above, name, Some(store.content(node)), line)
 }
 
 impl Walk {
@@ -118,7 +136,7 @@ impl Walk {
         ensures ok { OnOk result (line.new.added ≡ line.old.added ++ row_text (key_above self.old.above ++ name ∷ []) (node_seen (shape store.now node))) }
         ensures before { line.new.before ≡ line.old.before }
     {
-        push_line(alloc, store, &self.above, &name, node, line)?;
+        push_line_of(alloc, store, &self.above, &name, node, line)?;
         if store.is_dir(node) {
             return self.go_down(name, node);
         }

@@ -1,5 +1,6 @@
 -- How one place of many is changed.
 use Rattle.std.specs.Prelude.{ℕ, zero, suc, List, [], ◌∷◌, Option, Some, None}
+use Rattle.fs_blocks.specs.Files.{FileValue}
 use Rattle.fs_plain.specs.declared.node.Content.{Content}
 use Rattle.fs_plain.specs.code.Edits.{refilled, given_back}
 use Rattle.fs_places.specs.declared.place.Place.{Place}
@@ -18,16 +19,16 @@ vacated next p = record p { content = None; next = next }
 abbrev pub filled : Content → Place → Place
 filled content p = record p { content = Some content; parent = None; next = None; prev = None }
 
--- a file has these bytes from now on
-abbrev pub content_with : List ℕ → Option Content → Option Content
-content_with bytes None = None
-content_with bytes (Some content) = Some (refilled content bytes)
+-- another file comes in the place of one
+abbrev pub content_with : FileValue → Option Content → Option Content
+content_with file None = None
+content_with file (Some content) = Some (refilled content file)
 
--- what comes back for them: the old bytes, or the given ones where there is no content
-abbrev pub content_old : List ℕ → Option Content → List ℕ
-content_old bytes None = bytes
-content_old bytes (Some content) = given_back content bytes
+-- what comes back for it: the old file, or the given one where there is no content
+abbrev pub content_old : FileValue → Option Content → FileValue
+content_old file None = file
+content_old file (Some content) = given_back content file
 
--- the file of a place has these bytes from now on
-abbrev pub with_content : List ℕ → Place → Place
-with_content bytes p = record p { content = content_with bytes p.content }
+-- a place has another file from now on
+abbrev pub with_content : FileValue → Place → Place
+with_content file p = record p { content = content_with file p.content }

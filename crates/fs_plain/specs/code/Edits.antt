@@ -1,45 +1,58 @@
 -- What is done to one place.
-use Rattle.std.specs.Prelude.{ℕ, List, [], Option, Some, None}
+use Rattle.std.specs.Prelude.{◌≡◌, Bool, List, [], ◌∷◌, Option, Some, None}
+use Rattle.fs_blocks.specs.Files.{FileValue}
 use Rattle.fs_names.specs.declared.kind.Kind.{Kind}
 use Rattle.fs_names.specs.declared.kind.Kind.TheVariants as kinds
 use Rattle.fs_plain.specs.declared.node.Content.{Content}
 use Rattle.fs_plain.specs.declared.node.Content.TheVariants.{Dir, File}
 use Rattle.fs_plain.specs.declared.node.Link.{Link}
 use Rattle.fs_plain.specs.declared.node.Node.{Node}
+use Rattle.fs_plain.specs.Stores.{content_of}
 
 -- the node is named by this entry from now on
 abbrev pub relinked : Option Node → Option Link → Option Node
 relinked None link = None
 relinked (Some node) link = Some (record { content = node.content; link = link })
 
--- an empty directory or an empty file
-abbrev pub new_content : Kind → Content
-new_content kinds.Dir = Dir
-new_content kinds.File = File []
+-- an empty directory or an empty file, which is in blocks or in one vector
+abbrev pub new_content : Bool → Kind → Content
+new_content in_blocks kinds.Dir = Dir
+new_content in_blocks kinds.File = File (record { bytes = []; in_blocks = in_blocks })
 
 -- a node of this kind that no entry names
-abbrev pub new_node : Kind → Node
-new_node kind = record { content = new_content kind; link = None }
+abbrev pub new_node : Bool → Kind → Node
+new_node in_blocks kind = record { content = new_content in_blocks kind; link = None }
 
--- a file has these bytes from now on
-abbrev pub refilled : Content → List ℕ → Content
-refilled Dir bytes = Dir
-refilled (File old) bytes = File bytes
+-- another file comes in the place of one
+abbrev pub refilled : Content → FileValue → Content
+refilled Dir file = Dir
+refilled (File old) file = File file
 
--- the bytes of a place's file, from now on
-abbrev pub with_bytes : Option Node → List ℕ → Option Node
-with_bytes None bytes = None
-with_bytes (Some node) bytes = Some (record { content = refilled node.content bytes; link = node.link })
+-- the file of a place, from now on
+abbrev pub with_file : Option Node → FileValue → Option Node
+with_file None file = None
+with_file (Some node) file = Some (record { content = refilled node.content file; link = node.link })
 
--- what comes back for them: the old bytes of a file, and else what was given
-abbrev pub given_back : Content → List ℕ → List ℕ
-given_back Dir bytes = bytes
-given_back (File old) bytes = old
+-- what comes back for it: the old file, and else what was given
+abbrev pub given_back : Content → FileValue → FileValue
+given_back Dir file = file
+given_back (File old) file = old
 
 -- what comes back of a place
-abbrev pub handed_out : Option Node → List ℕ → List ℕ
-handed_out None bytes = bytes
-handed_out (Some node) bytes = given_back node.content bytes
+abbrev pub handed_out : Option Node → FileValue → FileValue
+handed_out None file = file
+handed_out (Some node) file = given_back node.content file
+
+-- a file is in blocks, or it is in one vector
+abbrev pub HasForm : Bool → Option Content → Type 0
+HasForm in_blocks None = Unit {0}
+HasForm in_blocks (Some Dir) = Unit {0}
+HasForm in_blocks (Some (File file)) = file.in_blocks ≡ in_blocks
+
+-- each file of some places is in blocks, or each is in one vector
+abbrev pub HaveForm : Bool → List (Option Node) → Type 0
+HaveForm in_blocks [] = Unit {0}
+HaveForm in_blocks (place ∷ places) = HasForm in_blocks (content_of place) × HaveForm in_blocks places
 
 -- a place with a node
 abbrev pub IsTaken : Option (Option Node) → Type 0

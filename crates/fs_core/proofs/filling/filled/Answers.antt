@@ -23,6 +23,7 @@ loop-i-init c =
       starts = root_starts c.args.limit limits (map row_of (take 1 c.in-Ok.rows.items)) (graph_of c.in-Ok-new.store) c.requires.least (first_is_root limits c.in-Ok.rows.items fit) graph;
       count = root_count c.args.limit (graph_of c.in-Ok-new.store) c.requires.least graph;
       limit = ap (λ (s : Seen). s.limit) c.in-Ok-new.ensures;
+      form = ap (λ (s : Seen). s.in_blocks) c.in-Ok-new.ensures;
       holders = c.in-Ok-make_room.ensures.holders ∙ c.new-holders.ensures.holders;
       room = root_below limits (graph_of c.in-Ok-new.store) (room c.make_room.new.self) graph (omega (arith, c.in-Ok-make_room.ensures.room));
     }
@@ -56,6 +57,7 @@ loop-i-preserved c =
       starts = subst (λ (t : Tree). IsStart c.args.limit (record { limits = limits; tree = t }) new) (sym (one_more_row rows i row at)) (added_starts c.args.limit limits (map row_of (take i rows)) old new row node before.starts (fits_each limits rows i row fit c.loop-i.auto.i at) added);
       count = added_count c.args.limit old new row node before.starts.is_graph added ∙ ap (λ (n : ℕ). n + 1) before.count;
       limit = c.in_ok-add_row.ensures.limit ∙ before.limit;
+      form = c.in_ok-add_row.ensures.form;
       holders = c.in_ok-add_row.ensures.holders ∙ before.holders;
       room = added_below c.args.limit old new row node (room c.loop-i.holders) (room c.add_row.new.holders) before.starts.is_graph added before.room c.in_ok-add_row.ensures.more c.in_ok-add_row.ensures.added.2;
     }

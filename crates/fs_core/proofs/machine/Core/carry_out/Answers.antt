@@ -16,7 +16,7 @@ carry_out-requires-clause-can c = finish_can _ _ _ _ c.args.seat c.args.call (mo
 pub invariant_of-self : goal.invariant_of-self
 invariant_of-self c = (
   (carried_kept _ _ _ _ c.args.seat c.args.call (moved_by c.args.plan) c.args.place c.self.invariant.0 (rw (← c.self.view_is) at c.requires.moves) (rw (← c.self.view_is) at c.requires.placed)
-      c.carry_out.new.store c.index_mut.result.now c.carry_out.new.slot c.carry_out.ensures.graph (ap (λ (s : Seen). s.limit) c.carry_out.ensures.rest) c.index_mut.ensures.value c.carry_out.ensures.slot).1,
+      c.carry_out.new.store c.index_mut.result.now c.carry_out.new.slot c.carry_out.ensures.graph (ap (λ (s : Seen). s.limit) c.carry_out.ensures.rest) (ap (λ (s : Seen). s.in_blocks) c.carry_out.ensures.rest) c.index_mut.ensures.value c.carry_out.ensures.slot).1,
   length_after _ _ _ _ c.self.invariant.1,
   starting_moved _ _ c.args.seat c.args.call _ c.carry_out.new.slot c.self.invariant.2 (rw (← c.self.view_is) at c.requires.moves) (finishes_otherwise (moved_by c.args.plan)),
   among_moved _ _ _ c.args.seat c.args.call _ c.carry_out.new.slot c.self.invariant.3 (rw (← c.self.view_is) at c.requires.moves),
@@ -25,4 +25,4 @@ invariant_of-self c = (
 pub returns-clause-step : goal.returns-clause-step
 returns-clause-step c = rw (← c.self.view_is)
     (carried_kept _ _ _ _ c.args.seat c.args.call (moved_by c.args.plan) c.args.place c.self.invariant.0 (rw (← c.self.view_is) at c.requires.moves) (rw (← c.self.view_is) at c.requires.placed)
-    c.carry_out.new.store c.index_mut.result.now c.carry_out.new.slot c.carry_out.ensures.graph (ap (λ (s : Seen). s.limit) c.carry_out.ensures.rest) c.index_mut.ensures.value c.carry_out.ensures.slot).0
+    c.carry_out.new.store c.index_mut.result.now c.carry_out.new.slot c.carry_out.ensures.graph (ap (λ (s : Seen). s.limit) c.carry_out.ensures.rest) (ap (λ (s : Seen). s.in_blocks) c.carry_out.ensures.rest) c.index_mut.ensures.value c.carry_out.ensures.slot).0

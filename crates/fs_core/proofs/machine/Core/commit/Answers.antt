@@ -26,12 +26,12 @@ pub push-requires-clause-fits : goal.push-requires-clause-fits
 push-requires-clause-fits c =
     commit_next _ _ _ _ c.self.inside.timeline.entries c.args.call refl
     (committed_kept _ _ _ _ c.args.seat c.args.call (moved_by c.args.plan) c.self.invariant.0 (rw (← c.self.view_is) at c.requires.moves) (rw (← c.self.view_is) at c.requires.walking) (rw (← c.self.view_is) at c.requires.alone)
-    c.carry_out.new.store c.index_mut.result.now c.carry_out.new.slot c.carry_out.ensures.graph (ap (λ (s : Seen). s.limit) c.carry_out.ensures.rest) c.index_mut.ensures.value c.carry_out.ensures.slot).1
+    c.carry_out.new.store c.index_mut.result.now c.carry_out.new.slot c.carry_out.ensures.graph (ap (λ (s : Seen). s.limit) c.carry_out.ensures.rest) (ap (λ (s : Seen). s.in_blocks) c.carry_out.ensures.rest) c.index_mut.ensures.value c.carry_out.ensures.slot).1
 
 pub invariant_of-self : goal.invariant_of-self
 invariant_of-self c = rw c.push.ensures (
   (committed_kept _ _ _ _ c.args.seat c.args.call (moved_by c.args.plan) c.self.invariant.0 (rw (← c.self.view_is) at c.requires.moves) (rw (← c.self.view_is) at c.requires.walking) (rw (← c.self.view_is) at c.requires.alone)
-      c.carry_out.new.store c.index_mut.result.now c.carry_out.new.slot c.carry_out.ensures.graph (ap (λ (s : Seen). s.limit) c.carry_out.ensures.rest) c.index_mut.ensures.value c.carry_out.ensures.slot).1,
+      c.carry_out.new.store c.index_mut.result.now c.carry_out.new.slot c.carry_out.ensures.graph (ap (λ (s : Seen). s.limit) c.carry_out.ensures.rest) (ap (λ (s : Seen). s.in_blocks) c.carry_out.ensures.rest) c.index_mut.ensures.value c.carry_out.ensures.slot).1,
   length_after _ _ _ _ c.self.invariant.1,
   starting_moved _ _ c.args.seat c.args.call _ c.carry_out.new.slot c.self.invariant.2 (rw (← c.self.view_is) at c.requires.moves) (finishes_otherwise (moved_by c.args.plan)),
   among_moved _ _ _ c.args.seat c.args.call _ c.carry_out.new.slot c.self.invariant.3 (rw (← c.self.view_is) at c.requires.moves),
@@ -40,4 +40,4 @@ invariant_of-self c = rw c.push.ensures (
 pub returns-clause-step : goal.returns-clause-step
 returns-clause-step c = rw (c.push.ensures, ← c.self.view_is)
     (committed_kept _ _ _ _ c.args.seat c.args.call (moved_by c.args.plan) c.self.invariant.0 (rw (← c.self.view_is) at c.requires.moves) (rw (← c.self.view_is) at c.requires.walking) (rw (← c.self.view_is) at c.requires.alone)
-    c.carry_out.new.store c.index_mut.result.now c.carry_out.new.slot c.carry_out.ensures.graph (ap (λ (s : Seen). s.limit) c.carry_out.ensures.rest) c.index_mut.ensures.value c.carry_out.ensures.slot).0
+    c.carry_out.new.store c.index_mut.result.now c.carry_out.new.slot c.carry_out.ensures.graph (ap (λ (s : Seen). s.limit) c.carry_out.ensures.rest) (ap (λ (s : Seen). s.in_blocks) c.carry_out.ensures.rest) c.index_mut.ensures.value c.carry_out.ensures.slot).0

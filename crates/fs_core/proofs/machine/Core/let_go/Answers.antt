@@ -16,7 +16,7 @@ let_go-requires-2 c =
 pub invariant_of-self : goal.invariant_of-self
 invariant_of-self c = (
   (left_kept _ _ _ _ c.args.seat c.args.call c.args.node c.self.invariant.0 (rw (← c.self.view_is) at c.requires.moves)
-      c.let_go-2.new.store c.let_go.new.self c.index_mut.result.now c.let_go-2.new.slot c.let_go-2.ensures.graph (ap (λ (s : Seen). s.limit) c.let_go-2.ensures.rest) c.let_go.ensures.holders c.let_go.ensures.room c.index_mut.ensures.value c.let_go-2.ensures.slot).1,
+      c.let_go-2.new.store c.let_go.new.self c.index_mut.result.now c.let_go-2.new.slot c.let_go-2.ensures.graph (ap (λ (s : Seen). s.limit) c.let_go-2.ensures.rest) (ap (λ (s : Seen). s.in_blocks) c.let_go-2.ensures.rest) c.let_go.ensures.holders c.let_go.ensures.room c.index_mut.ensures.value c.let_go-2.ensures.slot).1,
   length_after _ _ _ _ c.self.invariant.1,
   starting_moved _ _ c.args.seat c.args.call _ c.let_go-2.new.slot c.self.invariant.2 (rw (← c.self.view_is) at c.requires.moves) (leaves_otherwise c.args.node),
   among_moved _ _ _ c.args.seat c.args.call _ c.let_go-2.new.slot c.self.invariant.3 (rw (← c.self.view_is) at c.requires.moves),
@@ -25,4 +25,4 @@ invariant_of-self c = (
 pub returns-clause-step : goal.returns-clause-step
 returns-clause-step c = rw (← c.self.view_is)
     (left_kept _ _ _ _ c.args.seat c.args.call c.args.node c.self.invariant.0 (rw (← c.self.view_is) at c.requires.moves)
-    c.let_go-2.new.store c.let_go.new.self c.index_mut.result.now c.let_go-2.new.slot c.let_go-2.ensures.graph (ap (λ (s : Seen). s.limit) c.let_go-2.ensures.rest) c.let_go.ensures.holders c.let_go.ensures.room c.index_mut.ensures.value c.let_go-2.ensures.slot).0
+    c.let_go-2.new.store c.let_go.new.self c.index_mut.result.now c.let_go-2.new.slot c.let_go-2.ensures.graph (ap (λ (s : Seen). s.limit) c.let_go-2.ensures.rest) (ap (λ (s : Seen). s.in_blocks) c.let_go-2.ensures.rest) c.let_go.ensures.holders c.let_go.ensures.room c.index_mut.ensures.value c.let_go-2.ensures.slot).0

@@ -1,9 +1,10 @@
-use Rattle.std.proofs.Common.{◌<◌, set, length, sym, ◌∙◌, arith}
+use Rattle.std.proofs.Common.{◌<◌, None, set, length, sym, ◌∙◌, arith}
 use Rattle.fs_graph.specs.Graphs.{unlinked_in}
 use Rattle.fs_plain.specs.Stores.{graph_in, graph_of, limit_of, room}
 use Rattle.fs_plain.proofs.EditLemmas.{Makes, unlink_edit, child_within}
 use Rattle.std.proofs.lemmas.List.{length-set}
 use Rattle.fs_plain.proofs.RealLemmas.{seen_by}
+use Rattle.fs_plain.proofs.FormLemmas.{form_relink}
 use Rattle.fs_plain.proofs.store.Store.detach.Goals as goal
 
 pub index_mut-requires : goal.index_mut-requires
@@ -14,12 +15,12 @@ index_mut-requires c =
 
 made : (c : goal.After-new) → Makes c.self.inside.limit (set c.self.inside.places.items c.unwrap-node.result c.relink.new.place) (unlinked_in c.args.dir c.args.name.now (graph_in c.self.inside.places.items))
 unfolding graph_of limit_of room
-made c = unlink_edit c.self.inside.limit c.self.inside.places.items c.unwrap-node.result c.args.dir c.args.name.now c.index_mut.result.now c.relink.new.place c.self.invariant
+made c = unlink_edit c.self.inside.limit c.self.inside.places.items c.unwrap-node.result c.args.dir c.args.name.now c.index_mut.result.now c.relink.new.place c.self.invariant.0
     (rw c.deref.ensures.value at (sym c.find_in.ensures) ∙ c.unwrap-node.ensures) c.index_mut.ensures.value c.relink.ensures
 
 pub invariant_of-self : goal.invariant_of-self
 unfolding graph_of limit_of room
-invariant_of-self c = (made c).1
+invariant_of-self c = ((made c).1, form_relink c.self.inside.in_blocks c.self.inside.places.items c.unwrap-node.result c.index_mut.result.now c.relink.new.place None c.self.invariant.1 c.index_mut.ensures.value c.relink.ensures)
 
 pub returns-clause-change : goal.returns-clause-change
 unfolding graph_of limit_of room

@@ -5,4 +5,4 @@ use Rattle.fs_plain.proofs.store.Store.entries.Goals as goal
 
 pub returns : goal.returns
 unfolding graph_of limit_of room
-returns c = rw (← c.self.view_is) (c.entries_in.ensures ∙ rw c.deref.ensures.value (entries_are c.self.inside.limit c.self.inside.places.items c.args.dir c.self.invariant))
+returns c = rw (← c.self.view_is) (c.entries_in.ensures ∙ rw c.deref.ensures.value (entries_are c.self.inside.limit c.self.inside.places.items c.args.dir c.self.invariant.0))

@@ -4,6 +4,7 @@ use Rattle.fs_plain.specs.Stores.{child_in, graph_in, graph_of, limit_of, room}
 use Rattle.fs_plain.proofs.EditLemmas.{Makes, move_edit, child_within}
 use Rattle.std.proofs.lemmas.List.{length-set}
 use Rattle.fs_plain.proofs.RealLemmas.{seen_by}
+use Rattle.fs_plain.proofs.FormLemmas.{form_relink}
 use Rattle.fs_plain.proofs.store.Store.move_entry.Goals as goal
 
 pub index_mut-requires : goal.index_mut-requires
@@ -18,12 +19,12 @@ found c = rw c.deref.ensures.value at (sym c.find_in.ensures) ∙ c.unwrap-node.
 
 made : (c : goal.After-self-1) → Makes c.self.inside.limit (set c.self.inside.places.items c.unwrap-node.result c.relink.new.place) (moved_in c.args.from c.args.name.now c.args.to c.args.new_name.now c.unwrap-node.result (graph_in c.self.inside.places.items))
 unfolding graph_of limit_of room
-made c = move_edit c.self.inside.limit c.self.inside.places.items c.unwrap-node.result c.args.from c.args.name.now c.args.to c.args.new_name.now c.index_mut.result.now c.relink.new.place c.self.invariant
+made c = move_edit c.self.inside.limit c.self.inside.places.items c.unwrap-node.result c.args.from c.args.name.now c.args.to c.args.new_name.now c.index_mut.result.now c.relink.new.place c.self.invariant.0
     (found c) (rw (← c.self.view_is) at c.requires.dir) (rw (← c.self.view_is) at c.requires.absent) (rw (← c.self.view_is, found c) at c.requires.apart) c.index_mut.ensures.value (rw c.copy.ensures at c.relink.ensures)
 
 pub invariant_of-self : goal.invariant_of-self
 unfolding graph_of limit_of room
-invariant_of-self c = (made c).1
+invariant_of-self c = ((made c).1, form_relink c.self.inside.in_blocks c.self.inside.places.items c.unwrap-node.result c.index_mut.result.now c.relink.new.place _ c.self.invariant.1 c.index_mut.ensures.value c.relink.ensures)
 
 pub returns : goal.returns
 unfolding graph_of limit_of room

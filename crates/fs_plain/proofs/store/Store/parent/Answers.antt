@@ -5,7 +5,7 @@ use Rattle.fs_plain.proofs.store.Store.parent.Goals as goal
 
 pub returns-in-Some : goal.returns-in-Some
 unfolding graph_of limit_of room
-returns-in-Some c = rw (← c.self.view_is) (parent_is c.self.inside.limit c.self.inside.places.items c.args.node c.in-Some.link.now c.self.invariant (rw c.deref.ensures.value at (sym c.in-Some.ensures)))
+returns-in-Some c = rw (← c.self.view_is) (parent_is c.self.inside.limit c.self.inside.places.items c.args.node c.in-Some.link.now c.self.invariant.0 (rw c.deref.ensures.value at (sym c.in-Some.ensures)))
 
 pub returns-in-None : goal.returns-in-None
 unfolding graph_of limit_of room

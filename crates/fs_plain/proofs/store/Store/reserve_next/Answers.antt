@@ -6,14 +6,15 @@ use Rattle.fs_plain.specs.code.Edits.{new_node}
 use Rattle.fs_plain.proofs.EditLemmas.{Makes, push_makes, past_shape}
 use Rattle.fs_plain.proofs.StoreLemmas.{root_within}
 use Rattle.fs_plain.proofs.RealLemmas.{seen_by, free_unlinked}
+use Rattle.fs_plain.proofs.FormLemmas.{form_reserve_next}
 use Rattle.fs_plain.proofs.store.Store.reserve_next.Goals as goal
 
 made : (c : goal.After-new) → Makes c.self.inside.limit c.add_place.new.places.items (reserved_in (length c.self.inside.places.items) (new_shape c.args.kind) (graph_in c.self.inside.places.items))
 unfolding graph_of limit_of room
 made c =
-    let room : length c.self.inside.places.items < c.self.inside.limit = omega (arith, c.self.invariant.within, c.len-next.ensures) in
+    let room : length c.self.inside.places.items < c.self.inside.limit = omega (arith, c.self.invariant.0.within, c.len-next.ensures) in
     subst (λ (l : List (Option Node)). Makes c.self.inside.limit l (reserved_in (length c.self.inside.places.items) (new_shape c.args.kind) (graph_in c.self.inside.places.items))) (sym c.in-Ok.ensures.ok)
-    (push_makes c.self.inside.limit c.self.inside.places.items (Some (new_node c.args.kind)) c.args.kind c.self.invariant room refl)
+    (push_makes c.self.inside.in_blocks c.self.inside.limit c.self.inside.places.items (Some (new_node c.self.inside.in_blocks c.args.kind)) c.args.kind c.self.invariant.0 room refl)
 
 next_is : (c : goal.After-new) → c.new.result ≡ length c.self.inside.places.items
 unfolding graph_of limit_of room
@@ -21,7 +22,7 @@ next_is c = omega (arith, c.new.ensures, c.len-next.ensures)
 
 pub invariant_of-self-2 : goal.invariant_of-self-2
 unfolding graph_of limit_of room
-invariant_of-self-2 c = (made c).1
+invariant_of-self-2 c = ((made c).1, form_reserve_next c.self.inside.in_blocks c.self.inside.places.items c.add_place.new.places.items c.args.kind c.self.invariant.1 c.in-Ok.ensures.ok)
 
 pub returns-clause-change : goal.returns-clause-change
 unfolding graph_of limit_of room
@@ -33,4 +34,4 @@ returns-clause-unlinked c = rw (← c.self.view_is, next_is c) (free_unlinked c.
 
 pub returns-clause-not_root : goal.returns-clause-not_root
 unfolding graph_of limit_of room
-returns-clause-not_root c = rw (next_is c) (root_within c.self.inside.limit c.self.inside.places.items c.self.invariant)
+returns-clause-not_root c = rw (next_is c) (root_within c.self.inside.limit c.self.inside.places.items c.self.invariant.0)
