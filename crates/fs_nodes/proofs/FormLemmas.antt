@@ -1,9 +1,7 @@
 -- Each file of a store is in blocks, or each is in one vector, also after a change.
-use Rattle.std.proofs.Common.{◌≡◌, ℕ, zero, suc, ◌+◌, ◌-◌, Bool, List, [], ◌∷◌, ◌++◌, Option, Some, None, IfSome, IsTrue, map, refl, sym, ap, subst, ◌∙◌}
-use Rattle.std.specs.Prelude.{slice_get}
+use Rattle.std.proofs.Common.{◌≡◌, ℕ, zero, suc, ◌+◌, ◌-◌, Bool, List, [], ◌∷◌, ◌++◌, Option, Some, None, sym, subst}
 use Rattle.fs_blocks.specs.Files.{FileValue}
 use Rattle.fs_names.specs.Names.{Name}
-use Rattle.fs_names.specs.Shapes.{is_file}
 use Rattle.fs_names.specs.declared.kind.Kind.{Kind}
 use Rattle.fs_plain.specs.declared.node.Content.{Content}
 use Rattle.fs_plain.specs.declared.node.Content.TheVariants as contents
@@ -14,9 +12,9 @@ use Rattle.fs_plain.specs.code.Edits as plain_edits
 use Rattle.fs_plain.proofs.FormLemmas.{form_new, form_content, form_given}
 use Rattle.fs_plain.proofs.FormLemmas as plain_forms
 use Rattle.fs_places.specs.declared.place.Place.{Place}
-use Rattle.fs_places.specs.Plains.{link_with, plain_with, plain, plains}
-use Rattle.fs_places.specs.code.Edits.{edited, vacated, filled, content_with, content_old, with_content}
-use Rattle.fs_nodes.specs.code.Linked.{graph_of_places, with_first, with_next, with_prev, with_entries, entered, led, followed, put_between, taken_out, bare, bared}
+use Rattle.fs_places.specs.Plains.{link_with, plain_with, plains}
+use Rattle.fs_places.specs.code.Edits.{edited, vacated, filled, content_with, with_content}
+use Rattle.fs_nodes.specs.code.Linked.{with_first, with_next, with_prev, with_entries, entered, led, followed, put_between, taken_out, bared}
 use Rattle.fs_nodes.specs.code.Forms.{HaveForm}
 
 -- a place that is changed

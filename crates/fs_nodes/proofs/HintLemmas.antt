@@ -1,5 +1,5 @@
 -- What is told of the tree beside the siblings: a step along it says nothing to the rest.
-use Rattle.std.proofs.Common.{◌≡◌, ◌≤◌, ℕ, zero, suc, List, [], ◌∷◌, Option, Some, None, map, set, get_or, length, option_map, Vec, refl, sym, ap, subst, ◌∙◌}
+use Rattle.std.proofs.Common.{◌≡◌, ◌≤◌, ℕ, List, Option, Some, None, map, length, option_map, Vec, refl, sym, ap, subst, ◌∙◌}
 use Rattle.std.specs.Prelude.{slice_get}
 use Rattle.std.proofs.lemmas.Option.{slice_get-map}
 use Rattle.std.specs.Vec.{with_items}
@@ -14,12 +14,6 @@ use Rattle.fs_places.specs.Plains.{plain, plains}
 use Rattle.fs_nodes.specs.code.Linked.{graph_of_places, IsIndexed, bare, bared}
 use Rattle.fs_nodes.specs.code.Frees.{is_free, IsLinked}
 use Rattle.fs_nodes.proofs.FreeLemmas.{list_kept}
-
--- a place whose ways along the tree lead elsewhere
-pub bared_set : (ps : List Place) (n : ℕ) (p q : Place) → bare q ≡ bare (get_or ps n p) → bared (set ps n q) ≡ bared ps
-bared_set [] n p q g = refl
-bared_set (r ∷ ps) zero p q g = ap (λ (z : Place). z ∷ bared ps) g
-bared_set (r ∷ ps) (suc n) p q g = ap (λ (l : List Place). bare r ∷ l) (bared_set ps n p q g)
 
 -- there are as many places
 pub length_bared : (ps qs : List Place) → bared qs ≡ bared ps → length qs ≡ length ps

@@ -10,13 +10,13 @@ ghost use Rattle.fs_places.specs.code.Heads.{IsHead};
 ghost use Rattle.fs_places.specs.code.Keys.{key_of, keys_of};
 ghost use Rattle.fs_nodes.specs.code.Indexes.{IsIndex};
 ghost use Rattle.fs_places.specs.code.Spots.{is_number, one_of};
-ghost use Rattle.fs_nodes.specs.declared.hints.TheConstants.{MOST};
+ghost use Rattle.fs_places.specs.declared.hints.TheConstants.{MOST};
 ghost use Rattle.fs_places.specs.code.Edits.{edited};
 ghost use Rattle.fs_nodes.specs.code.Linked.{graph_of_places, next_child, IsPlaces, IsGap, IsNextSibling, IsEntry, IsLesser, IsGreater, is_lesser, IsPassed, with_entries, entered, led, followed, put_between, taken_out};
 
-use crate::hints::{MOST, greatest_below};
 use crate::index::{Found, Slot, seek};
 use fs_names::{NODE_LIMIT, Name};
+use fs_places::hints::{MOST, greatest_below};
 use fs_places::label::{head, is_short};
 use fs_places::place::dir_of;
 use fs_places::{Key, Label, Place, Spot};

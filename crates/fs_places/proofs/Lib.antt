@@ -1,2 +1,3 @@
 pub mod HeadLemmas
 pub mod EditLemmas
+pub mod HintLemmas

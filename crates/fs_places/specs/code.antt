@@ -3,3 +3,4 @@ pub mod Spots
 pub mod Heads
 pub mod Keys
 pub mod Edits
+pub mod Hints

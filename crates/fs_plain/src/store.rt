@@ -32,7 +32,7 @@ pub enum NoNode {
 
 /// Directories and files under numbers, each named by at most one entry: a graph with a limit on how many numbers are in use.
 /// Number 0 is the root, a directory that no entry names.
-/// Only `new` and `reserve` allocate.
+/// Each of its files is in blocks, or each is in one vector. Only a new store and `reserve` allocate.
 #[derive(Drop)]
 pub struct Store {
     limit: usize,

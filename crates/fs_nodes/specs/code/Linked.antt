@@ -1,5 +1,5 @@
 -- What the places of a store with sibling links say, and what they keep.
-use Rattle.std.specs.Prelude.{ℕ, Bool, true, suc, ◌≡◌, ◌+◌, ◌-◌, ◌&&◌, List, Option, Some, None, length, map, slice_get}
+use Rattle.std.specs.Prelude.{ℕ, Bool, true, suc, ◌≡◌, ◌+◌, ◌-◌, ◌&&◌, List, Option, Some, None, length, slice_get}
 use Rattle.std.specs.List.{find}
 use Rattle.fs_names.specs.Names.{Name}
 use Rattle.fs_names.specs.Shapes.{names_of}
@@ -8,6 +8,7 @@ use Rattle.fs_plain.specs.declared.node.Link.{Link}
 use Rattle.fs_places.specs.declared.place.Place.{Place}
 use Rattle.fs_graph.specs.Graphs.{Graph, then_at}
 use Rattle.fs_places.specs.code.Edits.{edited}
+pub use Rattle.fs_places.specs.code.Hints.{bare, bared}
 use Rattle.fs_places.specs.Plains.{plain, plains}
 use Rattle.fs_plain.specs.Stores.{link_of, is_in, graph_in, is_above, names_above, IsStore}
 
@@ -102,14 +103,6 @@ put_between dir n name prev next ps = edited n (entered (Some dir) name prev nex
 -- a node leaves its place between two siblings
 abbrev pub taken_out : ℕ → ℕ → Option ℕ → Option ℕ → List Place → List Place
 taken_out dir n prev next ps = edited n (λ p. entered None p.name None None p) (followed next prev (led dir prev next (edited dir (λ p. with_entries (p.entries - 1) p) ps)))
-
--- a place without what it tells of the tree beside the siblings
-abbrev pub bare : Place → Place
-bare p = record p { root = None; left = None; right = None }
-
--- all places without that
-abbrev pub bared : List Place → List Place
-bared ps = map bare ps
 
 -- an entry of a directory
 abbrev pub IsEntry : Graph → ℕ → ℕ → Type 0

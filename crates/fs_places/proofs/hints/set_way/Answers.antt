@@ -1,6 +1,6 @@
 use Rattle.std.proofs.Common.{get_or, refl}
-use Rattle.fs_nodes.proofs.HintLemmas.{bared_set}
-use Rattle.fs_nodes.proofs.hints.set_way.Goals as goal
+use Rattle.fs_places.proofs.HintLemmas.{bared_set}
+use Rattle.fs_places.proofs.hints.set_way.Goals as goal
 
 pub returns-in-Root : goal.returns-in-Root
 returns-in-Root c = bared_set c.args.places.now c.args.at c.index-places-at.result (record (get_or c.args.places.now c.args.at c.index-places-at.result) { root = c.args.to }) refl

@@ -7,11 +7,12 @@
 
 ghost use Rattle.std.specs.Prelude.{◌≡◌, ◌≤◌, ◌<◌, length};
 ghost use Rattle.fs_places.specs.code.Heads.{IsHead};
-ghost use Rattle.fs_nodes.specs.declared.hints.TheConstants.{MOST};
-ghost use Rattle.fs_nodes.specs.code.Linked.{bared};
+ghost use Rattle.fs_places.specs.declared.hints.TheConstants.{MOST};
+ghost use Rattle.fs_places.specs.code.Hints.{bared};
 
+use crate::place::Place;
+use crate::spot::Spot;
 use fs_names::{NODE_LIMIT, Name};
-use fs_places::{Place, Spot};
 use std::cmp::Ordering;
 
 /// How many entries a directory has before there is a tree.
