@@ -1,21 +1,37 @@
 -- The room that a call makes when it begins, so that its finish takes no memory.
-use Rattle.std.specs.Prelude.{ℕ, ◌≤◌, ◌+◌, length, min}
+use Rattle.std.specs.Prelude.{ℕ, Bool, true, false, ◌≤◌, ◌<◌, ◌+◌, ◌^◌, length, min}
+use Rattle.fs_blocks.specs.Spares.{SpareValue, FitsWrite, FitsSize}
 use Rattle.fs_calls.specs.Forms.{NodeCall, Stat, Readdir, Read, Write, Truncate, Form, AtNode, AtEntry, AtPair}
 use Rattle.fs_finish.specs.declared.room.Room.{Room}
-use Rattle.fs_finish.specs.declared.room.Room.TheVariants.{Nothing, Content, Copies, Lists}
+use Rattle.fs_finish.specs.declared.room.Room.TheVariants.{Nothing, Content, Blocks, Copies, Lists}
 
 -- a buffer for a file's new bytes, where they are not more than the most
 abbrev pub FitsContent : ℕ → ℕ → Room → Type 0
 FitsContent most n (Content room) = n ≤ most → n ≤ room
 FitsContent most n Nothing = ⊥
+FitsContent most n (Blocks spare) = ⊥
 FitsContent most n (Copies a b) = ⊥
 FitsContent most n (Lists a b) = ⊥
+
+-- what a change of a file in blocks may use, where its bytes are not more than the most
+abbrev pub FitsBlocks : ℕ → ℕ → (SpareValue → Type 0) → Room → Type 0
+FitsBlocks most n Fits (Blocks spare) = n ≤ most → (n < 2 ^ 63) × Fits spare.value
+FitsBlocks most n Fits Nothing = ⊥
+FitsBlocks most n Fits (Content room) = ⊥
+FitsBlocks most n Fits (Copies a b) = ⊥
+FitsBlocks most n Fits (Lists a b) = ⊥
+
+-- what a change of a file needs, by whether files are in blocks
+abbrev pub FitsChange : Bool → ℕ → ℕ → (SpareValue → Type 0) → Room → Type 0
+FitsChange true most n Fits room = FitsBlocks most n Fits room
+FitsChange false most n Fits room = FitsContent most n room
 
 -- two buffers for this many bytes
 abbrev pub FitsCopies : ℕ → Room → Type 0
 FitsCopies n (Copies a b) = (n ≤ a) × (n ≤ b)
 FitsCopies n Nothing = ⊥
 FitsCopies n (Content room) = ⊥
+FitsCopies n (Blocks spare) = ⊥
 FitsCopies n (Lists a b) = ⊥
 
 -- two buffers for this many names
@@ -23,18 +39,19 @@ abbrev pub FitsLists : ℕ → Room → Type 0
 FitsLists n (Lists a b) = (n ≤ a) × (n ≤ b)
 FitsLists n Nothing = ⊥
 FitsLists n (Content room) = ⊥
+FitsLists n (Blocks spare) = ⊥
 FitsLists n (Copies a b) = ⊥
 
--- what a call on a node needs
-abbrev pub SufficesFor : NodeCall → Room → Type 0
-SufficesFor Stat room = Unit {0}
-SufficesFor (Readdir most) room = FitsLists most room
-SufficesFor (Read most off count) room = FitsCopies (min count most) room
-SufficesFor (Write most off bytes) room = FitsContent most (off + length bytes) room
-SufficesFor (Truncate most size) room = FitsContent most size room
+-- what a call on a node needs, by whether files are in blocks
+abbrev pub SufficesFor : Bool → NodeCall → Room → Type 0
+SufficesFor in_blocks Stat room = Unit {0}
+SufficesFor in_blocks (Readdir most) room = FitsLists most room
+SufficesFor in_blocks (Read most off count) room = FitsCopies (min count most) room
+SufficesFor in_blocks (Write most off bytes) room = FitsChange in_blocks most (off + length bytes) (FitsWrite off (length bytes)) room
+SufficesFor in_blocks (Truncate most size) room = FitsChange in_blocks most size (FitsSize size) room
 
--- what a call needs
-abbrev pub Suffices : Form → Room → Type 0
-Suffices (AtNode c p) room = SufficesFor c room
-Suffices (AtEntry c p) room = Unit {0}
-Suffices (AtPair c p q) room = Unit {0}
+-- what a call needs, by the same
+abbrev pub Suffices : Bool → Form → Room → Type 0
+Suffices in_blocks (AtNode c p) room = SufficesFor in_blocks c room
+Suffices in_blocks (AtEntry c p) room = Unit {0}
+Suffices in_blocks (AtPair c p q) room = Unit {0}

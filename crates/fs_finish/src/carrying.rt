@@ -1,6 +1,6 @@
 //! A plan is carried out.
 
-ghost use Rattle.std.specs.Prelude.{◌≡◌, ◌<◌, IsFalse, None, length};
+ghost use Rattle.std.specs.Prelude.{◌≡◌, ◌<◌, None, length};
 ghost use Rattle.fs_names.specs.Keys.{last_of};
 ghost use Rattle.fs_nodes.specs.Seen.{seen};
 ghost use Rattle.fs_nodes.specs.Stores.{shape, graph_of};
@@ -54,9 +54,8 @@ fn answer(
     prepared: Room,
     store: &mut Store,
 ) -> Replies
-    requires form { IsFalse (seen store.old).in_blocks }
     requires bounded { TellsWithin (graph_of store.old) (node_call limits call) }
-    requires room { SufficesFor (node_call limits call) prepared }
+    requires room { SufficesFor (seen store.old).in_blocks (node_call limits call) prepared }
     ensures reply { result ≡ (node_row (node_call limits call.entry) None (shape store.old node)).0 }
     ensures change { seen store.new ≡ record (seen store.old) { graph = refilled node (node_row (node_call limits call.entry) None (shape store.old node)).1 (graph_of store.old) } }
 {
@@ -72,9 +71,8 @@ fn answer_at(
     prepared: Room,
     store: &mut Store,
 ) -> Finish
-    requires form { IsFalse (seen store.old).in_blocks }
     requires bounded { IsToldWithin (graph_of store.old) (form_of limits aim) }
-    requires room { Suffices (form_of limits aim) prepared }
+    requires room { Suffices (seen store.old).in_blocks (form_of limits aim) prepared }
     ensures made { IsEffect (answered_at (graph_of store.old) (form_of limits aim.entry) node reserved) result (graph_of store.new) }
     ensures rest { seen store.new ≡ record (seen store.old) { graph = graph_of store.new } }
 {
@@ -138,9 +136,8 @@ pub fn carry_out(
     prepared: Room,
     store: &mut Store,
 ) -> Finish
-    requires form { IsFalse (seen store.old).in_blocks }
     requires bounded { IsToldWithin (graph_of store.old) (form_of limits aim) }
-    requires room { Suffices (form_of limits aim) prepared }
+    requires room { Suffices (seen store.old).in_blocks (form_of limits aim) prepared }
     requires can { CanCarryOut (seen store.old) (form_of limits aim) route reserved plan }
     ensures made { IsEffect (carried (graph_of store.old) (form_of limits aim.entry) route reserved plan) result (graph_of store.new) }
     ensures rest { seen store.new ≡ record (seen store.old) { graph = graph_of store.new } }

@@ -3,6 +3,7 @@
 ghost use Rattle.std.specs.Prelude.{◌≡◌, ◌≤◌, [], None, length, take, drop, vec_capacity};
 ghost use Rattle.fs_names.specs.Limits.{entry_limit, file_limit};
 ghost use Rattle.fs_names.specs.Shapes.{names_of, is_dir};
+ghost use Rattle.fs_nodes.specs.Seen.{seen};
 ghost use Rattle.fs_nodes.specs.Stores.{shape, graph_of};
 ghost use Rattle.fs_calls.specs.Forms as calls;
 ghost use Rattle.fs_calls.specs.Rows.{as_dir, node_row};
@@ -81,7 +82,7 @@ fn names(store: &Store, dir: NodeNo, room: NameRoom) -> NameList
 /// All names of the directory.
 pub fn readdir(store: &Store, node: NodeNo, limits: Limits, prepared: Room) -> Replies
     requires bounded { DirsWithin (entry_limit limits) (graph_of store.now) }
-    requires room { SufficesFor (calls.Readdir (entry_limit limits)) prepared }
+    requires room { SufficesFor (seen store.now).in_blocks (calls.Readdir (entry_limit limits)) prepared }
     ensures { result ≡ (node_row (calls.Readdir (entry_limit limits)) None (shape store.now node)).0 }
 {
     let Room::Lists(one, other) = prepared else {
@@ -104,7 +105,7 @@ pub fn read(
     prepared: Room,
 ) -> Replies
     requires bounded { FilesWithin (file_limit limits) (graph_of store.now) }
-    requires room { SufficesFor (calls.Read (file_limit limits) off count) prepared }
+    requires room { SufficesFor (seen store.now).in_blocks (calls.Read (file_limit limits) off count) prepared }
     ensures { result ≡ (node_row (calls.Read (file_limit limits) off count) None (shape store.now node)).0 }
 {
     let Room::Copies(one, other) = prepared else {

@@ -1,12 +1,14 @@
 //! The buffers that a call allocates when it begins, so that its finish needs no memory.
 
-ghost use Rattle.std.specs.Prelude.{◌≡◌, ◌≢◌, ◌≤◌, ◌+◌, [], IfOk, OnOk, OnErr, length, take, drop, min, vec_capacity};
+ghost use Rattle.std.specs.Prelude.{◌≡◌, ◌≢◌, ◌≤◌, ◌<◌, ◌+◌, ◌^◌, [], IsTrue, IfOk, OnOk, OnErr, length, take, drop, min, vec_capacity};
 ghost use Rattle.fs_names.specs.Shapes.{bytes_of};
 ghost use Rattle.fs_nodes.specs.Stores.{shape};
 ghost use Rattle.fs_calls.specs.Forms.{form};
 ghost use Rattle.fs_calls.specs.code.Targets.{form_of, node_call};
-ghost use Rattle.fs_finish.specs.Rooms.{Suffices, SufficesFor, FitsContent, FitsCopies, FitsLists};
+ghost use Rattle.fs_finish.specs.Rooms.{Suffices, SufficesFor, FitsContent, FitsBlocks, FitsChange, FitsCopies, FitsLists};
+ghost use Rattle.fs_blocks.specs.Spares.{FitsWrite, FitsSize};
 
+use fs_blocks::Spare;
 use fs_calls::ranges::fits;
 use fs_calls::{Bytes, Call, NodeCall, Target};
 use fs_memory::Memory;
@@ -117,8 +119,10 @@ impl NameRoom {
 pub enum Room {
     /// Nothing.
     Nothing,
-    /// The new bytes of a file.
+    /// The new bytes of a file in one vector.
     Content(ByteRoom),
+    /// What a change of a file in blocks may use.
+    Blocks(Box<Spare>),
     /// The bytes of two equal replies.
     Copies(ByteRoom, ByteRoom),
     /// The names of two equal replies.
@@ -150,6 +154,83 @@ fn content(
     Ok(Room::Content(ByteRoom::new(alloc, memory, (len + spare) as usize)?))
 }
 
+/// What a write of so many bytes into a file in blocks may use, unless it ends behind the most.
+fn blocks_for_write(
+    alloc: Global,
+    memory: &mut Memory,
+    most: usize,
+    off: u64,
+    count: usize,
+) -> Result<Room, AllocError>
+    requires { most < 2 ^ 63 }
+    ensures ok { IfOk result (FitsBlocks most (off + count) (FitsWrite off count)) }
+    ensures granted { OnOk result (memory.new ≡ memory.old) }
+    ensures refused { OnErr result (memory.new ≢ memory.old) }
+{
+    if !fits(most, off, count) {
+        let spare = Spare::for_write(alloc, memory, 0, 0)?;
+        return Ok(Room::Blocks(memory.boxed(alloc, spare)?));
+    }
+    let spare = Spare::for_write(alloc, memory, off as usize, count)?;
+    Ok(Room::Blocks(memory.boxed(alloc, spare)?))
+}
+
+/// What a change of a file in blocks to this size may use, unless it is more than the most.
+fn blocks_for_size(
+    alloc: Global,
+    memory: &mut Memory,
+    most: usize,
+    size: u64,
+) -> Result<Room, AllocError>
+    requires { most < 2 ^ 63 }
+    ensures ok { IfOk result (FitsBlocks most size (FitsSize size)) }
+    ensures granted { OnOk result (memory.new ≡ memory.old) }
+    ensures refused { OnErr result (memory.new ≢ memory.old) }
+{
+    let size = size.min(most as u64) as usize;
+    let spare = Spare::for_size(alloc, memory, size)?;
+    Ok(Room::Blocks(memory.boxed(alloc, spare)?))
+}
+
+/// What a write of so many bytes needs.
+fn room_for_write(
+    alloc: Global,
+    memory: &mut Memory,
+    in_blocks: bool,
+    most: usize,
+    off: u64,
+    count: usize,
+) -> Result<Room, AllocError>
+    requires { IsTrue in_blocks → most < 2 ^ 63 }
+    ensures ok { IfOk result (FitsChange in_blocks most (off + count) (FitsWrite off count)) }
+    ensures granted { OnOk result (memory.new ≡ memory.old) }
+    ensures refused { OnErr result (memory.new ≢ memory.old) }
+{
+    if in_blocks {
+        return blocks_for_write(alloc, memory, most, off, count);
+    }
+    content(alloc, memory, most, off, count as u64)
+}
+
+/// What a change to this size needs.
+fn room_for_size(
+    alloc: Global,
+    memory: &mut Memory,
+    in_blocks: bool,
+    most: usize,
+    size: u64,
+) -> Result<Room, AllocError>
+    requires { IsTrue in_blocks → most < 2 ^ 63 }
+    ensures ok { IfOk result (FitsChange in_blocks most size (FitsSize size)) }
+    ensures granted { OnOk result (memory.new ≡ memory.old) }
+    ensures refused { OnErr result (memory.new ≢ memory.old) }
+{
+    if in_blocks {
+        return blocks_for_size(alloc, memory, most, size);
+    }
+    content(alloc, memory, most, 0, size)
+}
+
 /// Room for two times as many bytes as a read may answer.
 fn copies(alloc: Global, memory: &mut Memory, most: usize, count: u64) -> Result<Room, AllocError>
     ensures ok { IfOk result (FitsCopies (min count most)) }
@@ -174,13 +255,15 @@ fn lists(alloc: Global, memory: &mut Memory, count: usize) -> Result<Room, Alloc
 }
 
 /// What the finish of a call on a node needs.
+#[tactic(auto, using(fs_names::proofs::LimitLemmas::small_files))]
 fn room_on(
     alloc: Global,
     memory: &mut Memory,
+    in_blocks: bool,
     limits: Limits,
     call: NodeCall<'_>,
 ) -> Result<Room, AllocError>
-    ensures ok { IfOk result (SufficesFor (node_call limits call.entry)) }
+    ensures ok { IfOk result (SufficesFor in_blocks (node_call limits call.entry)) }
     ensures granted { OnOk result (memory.new ≡ memory.old) }
     ensures refused { OnErr result (memory.new ≢ memory.old) }
 {
@@ -188,14 +271,15 @@ fn room_on(
         NodeCall::Stat => Ok(Room::Nothing),
         NodeCall::Readdir => lists(alloc, memory, limits.entries()),
         NodeCall::Read(_, count) => copies(alloc, memory, limits.file(), count),
-        NodeCall::Write(off, bytes) => content(
+        NodeCall::Write(off, bytes) => room_for_write(
             alloc,
             memory,
+            in_blocks,
             limits.file(),
             off,
-            bytes.as_slice().len() as u64,
+            bytes.as_slice().len(),
         ),
-        NodeCall::Truncate(size) => content(alloc, memory, limits.file(), 0, size),
+        NodeCall::Truncate(size) => room_for_size(alloc, memory, in_blocks, limits.file(), size),
     }
 }
 
@@ -203,31 +287,34 @@ fn room_on(
 fn room_at(
     alloc: Global,
     memory: &mut Memory,
+    in_blocks: bool,
     limits: Limits,
     aim: Target<'_>,
 ) -> Result<Room, AllocError>
-    ensures ok { IfOk result (Suffices (form_of limits aim.entry)) }
+    ensures ok { IfOk result (Suffices in_blocks (form_of limits aim.entry)) }
     ensures granted { OnOk result (memory.new ≡ memory.old) }
     ensures refused { OnErr result (memory.new ≢ memory.old) }
 {
     match aim {
-        Target::Node(call, _) => room_on(alloc, memory, limits, call),
+        Target::Node(call, _) => room_on(alloc, memory, in_blocks, limits, call),
         Target::Entry(_, _) | Target::Pair(_, _, _) => Ok(Room::Nothing),
     }
 }
 
 impl Room {
-    /// What the finish of a call needs, by these limits. The only error is out of memory.
+    /// What the finish of a call needs by these limits, in a store with files in blocks, or with each in one vector. The only error
+    /// is out of memory.
     pub fn new(
         alloc: Global,
         memory: &mut Memory,
+        in_blocks: bool,
         limits: Limits,
         call: &Call,
     ) -> Result<Room, AllocError>
-        ensures ok { IfOk result (Suffices (form limits call.now)) }
+        ensures ok { IfOk result (Suffices in_blocks (form limits call.now)) }
         ensures granted { OnOk result (memory.new ≡ memory.old) }
         ensures refused { OnErr result (memory.new ≢ memory.old) }
     {
-        room_at(alloc, memory, limits, call.target())
+        room_at(alloc, memory, in_blocks, limits, call.target())
     }
 }

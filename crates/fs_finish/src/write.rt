@@ -1,6 +1,6 @@
 //! How the calls that change the bytes of a file finish at their node.
 
-ghost use Rattle.std.specs.Prelude.{◌≡◌, ◌≤◌, ◌+◌, ℕ, List, [], None, length, IsTrue, IsFalse, vec_capacity};
+ghost use Rattle.std.specs.Prelude.{◌≡◌, ◌≤◌, ◌<◌, ◌+◌, ℕ, List, [], None, length, IsTrue, IsFalse, vec_capacity};
 ghost use Rattle.fs_names.specs.Shapes.{bytes_of, is_file};
 ghost use Rattle.fs_names.specs.Limits.{file_limit};
 ghost use Rattle.fs_nodes.specs.Graphs.{content_in};
@@ -9,7 +9,8 @@ ghost use Rattle.fs_nodes.specs.Stores.{shape, graph_of};
 ghost use Rattle.fs_calls.specs.Forms as calls;
 ghost use Rattle.fs_calls.specs.Rows.{node_row, written, resized};
 ghost use Rattle.fs_finish.specs.Replies.{refilled};
-ghost use Rattle.fs_finish.specs.Rooms.{SufficesFor};
+ghost use Rattle.fs_finish.specs.Rooms.{SufficesFor, FitsChange};
+ghost use Rattle.fs_blocks.specs.Spares.{FitsWrite, FitsSize};
 
 use crate::replies::Replies;
 use crate::room::{ByteRoom, Room};
@@ -91,6 +92,35 @@ fn resize(store: &mut Store, file: NodeNo, size: usize, buffer: ByteRoom)
     store.swap_content(file, content);
 }
 
+/// Writes bytes, at least one, into a file that can be so long, in the room that was made. A whole block shares them.
+fn write_into(store: &mut Store, file: NodeNo, off: usize, bytes: &Data, most: usize, room: Room)
+    requires file { IsTrue (is_file (shape store.old file)) }
+    requires some { 0 < length bytes.now }
+    requires within { off + length bytes.now ≤ most }
+    requires room { FitsChange (seen store.old).in_blocks most (off + length bytes.now) (FitsWrite off (length bytes.now)) room }
+    ensures { seen store.new ≡ record (seen store.old) { graph = content_in file (written (bytes_of (shape store.old file)) off bytes.now) (graph_of store.old) } }
+{
+    match room {
+        Room::Content(buffer) => put_into(store, file, off, bytes.as_slice(), buffer),
+        Room::Blocks(spare) => store.take(file, off, bytes.shared(), Box::into_inner(spare)),
+        _ => unreachable!(),
+    }
+}
+
+/// The same of a size.
+fn resize_to(store: &mut Store, file: NodeNo, size: usize, most: usize, room: Room)
+    requires file { IsTrue (is_file (shape store.old file)) }
+    requires within { size ≤ most }
+    requires room { FitsChange (seen store.old).in_blocks most size (FitsSize size) room }
+    ensures { seen store.new ≡ record (seen store.old) { graph = content_in file (resized (bytes_of (shape store.old file)) size) (graph_of store.old) } }
+{
+    match room {
+        Room::Content(buffer) => resize(store, file, size, buffer),
+        Room::Blocks(spare) => store.resize(file, size, Box::into_inner(spare)),
+        _ => unreachable!(),
+    }
+}
+
 /// Writes bytes into the file, which keeps these limits.
 #[tactic(auto, using(fs_names::proofs::LimitLemmas::small_files))]
 pub fn write(
@@ -101,20 +131,16 @@ pub fn write(
     limits: Limits,
     prepared: Room,
 ) -> Replies
-    requires form { IsFalse (seen store.old).in_blocks }
-    requires room { SufficesFor (calls.Write (file_limit limits) off bytes.now) prepared }
+    requires room { SufficesFor (seen store.old).in_blocks (calls.Write (file_limit limits) off bytes.now) prepared }
     ensures reply { result ≡ (node_row (calls.Write (file_limit limits) off bytes.now) None (shape store.old node)).0 }
     ensures change { seen store.new ≡ record (seen store.old) { graph = refilled node (node_row (calls.Write (file_limit limits) off bytes.now) None (shape store.old node)).1 (graph_of store.old) } }
 {
-    let Room::Content(buffer) = prepared else {
-        unreachable!();
-    };
     if let Some(errno) = NodeCall::Write(off, bytes).error(limits, sight_of(store, node)) {
         return Replies::failed(errno);
     }
     let count = bytes.as_slice().len() as u64;
     if count > 0 {
-        put_into(store, node, off as usize, bytes.as_slice(), buffer);
+        write_into(store, node, off as usize, bytes, limits.file(), prepared);
     }
     Replies::new(Reply::Wrote(count), Reply::Wrote(count))
 }
@@ -128,17 +154,13 @@ pub fn truncate(
     limits: Limits,
     prepared: Room,
 ) -> Replies
-    requires form { IsFalse (seen store.old).in_blocks }
-    requires room { SufficesFor (calls.Truncate (file_limit limits) size) prepared }
+    requires room { SufficesFor (seen store.old).in_blocks (calls.Truncate (file_limit limits) size) prepared }
     ensures reply { result ≡ (node_row (calls.Truncate (file_limit limits) size) None (shape store.old node)).0 }
     ensures change { seen store.new ≡ record (seen store.old) { graph = refilled node (node_row (calls.Truncate (file_limit limits) size) None (shape store.old node)).1 (graph_of store.old) } }
 {
-    let Room::Content(buffer) = prepared else {
-        unreachable!();
-    };
     if let Some(errno) = NodeCall::Truncate(size).error(limits, sight_of(store, node)) {
         return Replies::failed(errno);
     }
-    resize(store, node, size as usize, buffer);
+    resize_to(store, node, size as usize, limits.file(), prepared);
     Replies::done()
 }

@@ -1,5 +1,5 @@
 -- What the code of a call keeps, seen as an OpValue: counts of walked names in the place of keys.
-use Rattle.std.specs.Prelude.{ℕ, zero, suc, ◌≡◌, ◌+◌, ◌-◌, ◌≤◌, List, ◌++◌, length, take, drop, Option, Some, None}
+use Rattle.std.specs.Prelude.{ℕ, zero, suc, ◌≡◌, ◌+◌, ◌-◌, ◌≤◌, false, List, ◌++◌, length, take, drop, Option, Some, None}
 use Rattle.fs_names.specs.Keys.{Key, parent_of}
 use Rattle.fs_names.specs.declared.limits.Limits.{Limits}
 use Rattle.fs_calls.specs.Forms.{Form, AtNode, AtEntry, AtPair, by_paths, form}
@@ -96,7 +96,7 @@ Forks (AtEntry c p) way (Some fork) = ⊥
 
 -- before the finish there is room for it; after it what is held is a beginning of what had been taken
 abbrev pub IsReady : Form → Option Holdings → Outcome → Type 0
-IsReady call st (Open prepared) = Suffices call prepared
+IsReady call st (Open prepared) = Suffices false call prepared
 IsReady call st (Fixed reply held) = (gone : List ℕ) × (held ++ gone ≡ taken_if st)
 
 -- what the fields of a call keep: the error that its paths decide is kept from the begin, and the walk goes to the target
