@@ -128,6 +128,14 @@ adds_commit h r s u link old mid new before behind pushed number place first las
       tried = λ again. subst (SettlesIn h (configurations behind)) can.1 a.settles;
     }
 
+-- what comes of the commit is there already
+pub adds_commit_seen : (h : List Heard) (r : Reached) (u : UnderWay) (x : Configuration) (links : List Link) (layer : List Reached) → CanCommitNow r.configuration u × (x ≡ committed r.configuration u.number u.call.now) → Contains (configurations layer) x
+    → AddsCommit h r u links links layer layer
+adds_commit_seen h r u x links layer can there = record {
+  grows = grows_none h r.configuration.at r links links layer (keeps_same links);
+  tried = λ again. subst (SettlesIn h (configurations layer)) can.1 (x, [], refl, there);
+}
+
 pub adds_no_commit : (h : List Heard) (r : Reached) (u : UnderWay) (links : List Link) (layer : List Reached) → (CanCommitNow r.configuration u → ⊥) → AddsCommit h r u links links layer layer
 adds_no_commit h r u links layer never = record { grows = grows_none h r.configuration.at r links links layer (keeps_same links); tried = λ can. absurd (never can) }
 

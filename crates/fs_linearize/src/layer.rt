@@ -57,7 +57,7 @@ fn add(
     Ok(())
 }
 
-/// Adds what comes of the commit of a call, if it can commit.
+/// Adds what comes of the commit of a call, if it can commit and that is not there.
 fn add_commit(
     alloc: Global,
     calls: &[UnderWay],
@@ -72,6 +72,9 @@ fn add_commit(
 {
     match committing::commit(alloc, &reached.configuration, call)? {
         Some(configuration) => {
+            if contains(layer, places, &configuration) {
+                return Ok(());
+            }
             links.push(Link {
                 number: call.number,
                 at: reached.configuration.passed_count(),

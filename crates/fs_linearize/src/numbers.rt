@@ -34,7 +34,8 @@ fn place_of(numbers: &[u64], number: u64) -> usize
 pub(crate) fn with(alloc: Global, numbers: &[u64], number: u64) -> Result<Vec<u64>, AllocError>
     ensures { IfOk result (λ v. v.items ≡ placed number numbers.now) }
 {
-    let mut all = Vec::from_slice(alloc, numbers)?;
+    let mut all = Vec::with_capacity(alloc, numbers.len() + 1)?;
+    all.extend_from_slice(numbers)?;
     all.insert(place_of(numbers, number), number)?;
     Ok(all)
 }

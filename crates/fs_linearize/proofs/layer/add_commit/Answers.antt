@@ -1,9 +1,19 @@
-use Rattle.std.proofs.Common.{◌≡◌, refl, sym, ap, length, arith, subst}
+use Rattle.std.proofs.Common.{◌≡◌, List, refl, sym, ap, length, arith, subst}
+use Rattle.std.specs.List.{Contains}
 use Rattle.fs_linearize.specs.code.Calls.{CommitsNow, AreEach}
+use Rattle.fs_linearize.specs.code.Ways.{configurations}
 use Rattle.fs_linearize.specs.declared.reached.Reached.{Reached}
 use Rattle.fs_linearize.specs.declared.steps.Link.{Link}
-use Rattle.fs_linearize.proofs.SearchLemmas.{adds_commit}
+use Rattle.fs_linearize.proofs.SearchLemmas.{adds_commit, adds_commit_seen}
 use Rattle.fs_linearize.proofs.layer.add_commit.Goals as goal
+
+pub returns-then-contains : goal.returns-then-contains
+returns-then-contains c = λ h each way.
+    let r = c.args.reached.now in
+    let u = c.args.call.now in
+    let done = subst (CommitsNow r.configuration u) c.in-Some.is c.in_ok-configuration.ensures in
+    let there = subst (λ (layer : List Reached). Contains (configurations layer) c.in-Some.configuration) c.deref.ensures.value (c.contains.ensures c.if-contains.true) in
+    adds_commit_seen h r u c.in-Some.configuration c.args.links.now.items c.args.layer.now.items done there
 
 pub returns-in_ok-add-in-Some : goal.returns-in_ok-add-in-Some
 returns-in_ok-add-in-Some c = λ h each way.
