@@ -11,7 +11,7 @@ use Rattle.fs_names.specs.declared.kind.Kind.TheVariants as kinds
 use Rattle.fs_names.proofs.LimitLemmas.{empty_has_room}
 use Rattle.fs_names.specs.declared.limits.Limits.{Limits}
 use Rattle.fs_names.specs.Limits.{entry_limit}
-use Rattle.fs_calls.specs.Tree.{Tree, Node, Dir, File, names_in, name_in, with_name, only_name}
+use Rattle.fs_calls.specs.Tree.{Tree, Node, Dir, File, look, names_in, name_in, with_name, only_name}
 use Rattle.fs_calls.specs.Sights.{tree_shapes, shape_of, has_any, bytes_of, is_full, resolve, resolve_next, resolve_dir}
 use Rattle.fs_calls.specs.Rows.{as_dir, status, node_reply}
 use Rattle.fs_calls.specs.Forms as forms
@@ -161,6 +161,15 @@ few_names (e ∷ t) d = by (name_in d e.0) (few_names t d)
 
 pub few_there : (most : ℕ) (t : Tree) (d : Key) → nat_le most (length t) ≡ false → false ≡ nat_le most (length (names_in t d))
 few_there most t d h = let few : length (names_in t d) ≤ length t = few_names t d in grind (arith, nat_tests)
+
+-- no directory of a tree with fewer entries than one can have is full
+pub few_anywhere : (limits : Limits) (t : Tree) (k : Key) → nat_le (entry_limit limits) (length t) ≡ false → false ≡ is_full (entry_limit limits) (tree_shapes t k)
+few_anywhere limits t k h = by (look t k)
+  where
+    by : (o : Option Node) → false ≡ is_full (entry_limit limits) (shape_of t k o)
+    by None = sym (empty_has_room limits)
+    by (Some Dir) = few_there (entry_limit limits) t k h
+    by (Some (File bytes)) = sym (empty_has_room limits)
 
 pub dir_crowded : (most : ℕ) (t u : Tree) (k : Key) (n : Node) (r : Bool) → tree_shapes t k ≡ shape_of t k (Some n) → kinds.Dir ≡ kind_of n → u ≡ below_key k t → r ≡ nat_le most (length (names_in u k)) → r ≡ is_full most (tree_shapes t k)
 dir_crowded most t u k n r is dir below e = e ∙ ap (λ z. nat_le most (length z)) (names_below k t u below) ∙ sym (ap (is_full most) (dir_seen t k n is dir))

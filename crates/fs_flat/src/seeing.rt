@@ -147,11 +147,14 @@ fn is_crowded(cells: &[Cell], most: usize, dir: &[Name]) -> bool
 }
 
 /// Whether a directory has as many entries as it can have by these limits.
-#[tactic(auto, using(crate::proofs::SeenLemmas::nothing_full, crate::proofs::SeenLemmas::file_full, crate::proofs::SeenLemmas::dir_crowded))]
+#[tactic(auto, using(crate::proofs::SeenLemmas::nothing_full, crate::proofs::SeenLemmas::file_full, crate::proofs::SeenLemmas::dir_crowded, crate::proofs::SeenLemmas::few_anywhere))]
 pub(crate) fn is_full(cells: &[Cell], limits: Limits, key: &[Name]) -> bool
     requires { IsTrue (is_sorted key_cmp cells.now) }
     ensures { result ≡ is_full (entry_limit limits) (tree_shapes cells.now key.now) }
 {
+    if !ranges::is_full(limits.entries(), cells.len()) {
+        return false;
+    }
     let Some(cell) = find(cells, key) else {
         return false;
     };
