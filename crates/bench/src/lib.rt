@@ -7,6 +7,7 @@
 #![tactic(auto)]
 
 mod ended;
+mod files;
 mod growth;
 mod observers;
 mod threads;
@@ -15,6 +16,7 @@ mod writes;
 
 use anyhow::Result;
 pub use ended::Before;
+pub use files::Filling;
 use std::alloc::Global;
 use std::sync::Wait;
 use std::thread::Threads;
@@ -80,6 +82,11 @@ pub fn keep_writes<R: Print>(rt: &R, alloc: Global, writes: u32) -> Result<()> {
     writes::run(rt, alloc, writes)
 }
 
+/// A file of so many mebibytes in blocks.
+pub fn fill_file<R: Print>(rt: &R, alloc: Global, filling: Filling, mebibytes: u32) -> Result<()> {
+    files::run(rt, alloc, filling, mebibytes as usize)
+}
+
 /// Each part with a few calls, and what calls cost as a tree grows.
 pub fn run<R: Print + Threads + Wait + Clock + Sync>(rt: &R, alloc: Global) -> Result<()> {
     tree::run(rt, alloc, FEW, false)?;
@@ -88,5 +95,6 @@ pub fn run<R: Print + Threads + Wait + Clock + Sync>(rt: &R, alloc: Global) -> R
     ended::run(rt, alloc, Before::Session, 2, true)?;
     ended::run(rt, alloc, Before::Run, 2, true)?;
     writes::run(rt, alloc, FEW_WRITES)?;
+    files::run(rt, alloc, Filling::Scattered, 1)?;
     growth::run(rt, alloc)
 }

@@ -4,11 +4,11 @@
 //! `checks time tree CALLS`, `checks time observers READS` and, with a script on standard input, `checks time threads` time
 //! parts of AtomFS (`bench`). `checks time ended TIMES` makes renames behind so many sessions that have ended, `checks time
 //! sessions TIMES` the sessions alone; `run` and `pools` do the same with runs of a pool. `checks time writes CALLS` keeps calls that
-//! write, for a look at the memory.
+//! write, for a look at the memory; `scattered`, `appended` and `shared` fill a file of so many mebibytes in blocks.
 #![tactic(auto)]
 
 use anyhow::{Result, bail};
-use bench::Before;
+use bench::{Before, Filling};
 use std::alloc::Global;
 use std::env;
 use std::io::{self, Read};
@@ -65,6 +65,9 @@ fn time<R: Print + Threads + Wait + Clock + Sync>(
         "tree" => bench::time_tree(rt, alloc, number),
         "observers" => bench::time_observers(rt, alloc, number),
         "writes" => bench::keep_writes(rt, alloc, number),
+        "scattered" => bench::fill_file(rt, alloc, Filling::Scattered, number),
+        "appended" => bench::fill_file(rt, alloc, Filling::Appended(4_096), number),
+        "shared" => bench::fill_file(rt, alloc, Filling::Shared(16_384), number),
         "sessions" => bench::time_ended(rt, alloc, Before::Session, number, false),
         "ended" => bench::time_ended(rt, alloc, Before::Session, number, true),
         "pools" => bench::time_ended(rt, alloc, Before::Run, number, false),
