@@ -6,12 +6,13 @@
 //! that cannot be made. It writes how many calls of each kind were made, and how many answers differed: none. Then calls are
 //! drawn on full directories, also with names that the index keeps apart badly, and at how many places look-ups look is
 //! written. Then entries change what they name, those of a small tree and drawn ones, beside calls of a stream of their own, and
-//! a file in blocks of each store has the bytes of a vector.
+//! a file in blocks of each store has the bytes of a vector. Last, calls finish in a store of files in blocks as in one without.
 #![tactic(auto)]
 
 mod crowded;
 mod drawing;
 mod files;
+mod finishes;
 mod swaps;
 mod tally;
 mod twins;
@@ -157,5 +158,6 @@ pub fn run(rt: &impl Print, alloc: Global) -> Result<()> {
     crowded::run(rt, alloc)?;
     large::run(rt, alloc)?;
     swaps::run(rt, alloc)?;
-    files::run(rt, alloc)
+    files::run(rt, alloc)?;
+    finishes::run(rt, alloc)
 }
