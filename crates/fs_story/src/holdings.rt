@@ -1,9 +1,10 @@
 //! The nodes that a call holds, and where they stand on its paths.
 
-ghost use Rattle.std.specs.Prelude.{◌≡◌, ℕ, length};
+ghost use Rattle.std.specs.Prelude.{◌≡◌, length};
 ghost use Rattle.fs_calls.specs.code.Targets.{form_of};
 ghost use Rattle.fs_names.specs.Keys.{parent_of};
 ghost use Rattle.fs_names.specs.Parts.{common};
+ghost use Rattle.fs_names.specs.declared.limits.Limits.{Limits};
 ghost use Rattle.fs_machine.specs.Moves.{target};
 
 use crate::paths::{add_names, name_in, path_of};
@@ -113,7 +114,7 @@ fn common_len(path: &Path, other: &Path) -> usize
 /// How many names lead to the target of a call: to the node itself, to the directory of its entry, or to the common directory of
 /// its two entries.
 fn target_len(aim: Target<'_>) -> usize
-    ensures { (most : ℕ) → result ≡ length (target (form_of most aim.entry)) }
+    ensures { (limits : Limits) → result ≡ length (target (form_of limits aim.entry)) }
 {
     match aim {
         Target::Node(_, path) => path.len(),
