@@ -69,12 +69,12 @@ fn share(alloc: Global, place: &mut Place, off: usize, bytes: &Arc<Vec<u8>>) -> 
     Ok(())
 }
 
-/// How many bytes of a piece are read.
-fn read(alloc: Global, place: &Place, off: usize) -> Result<usize> {
-    let mut into = Vec::with_capacity(alloc, PIECE)?;
+/// How many bytes are read from an offset on, and no more than a count.
+fn read(alloc: Global, place: &Place, off: usize, count: usize) -> Result<usize> {
+    let mut into = Vec::with_capacity(alloc, count)?;
     place
         .store
-        .read(place.file, off as u64, PIECE as u64, &mut into);
+        .read(place.file, off as u64, count as u64, &mut into);
     Ok(into.len())
 }
 
@@ -97,7 +97,7 @@ fn read_pieces(alloc: Global, place: &Place, pieces: usize) -> Result<usize> {
     let mut all = 0usize;
     for number in 0..pieces {
         let off = offset(number.wrapping_mul(3), pieces);
-        all = all.saturating_add(read(alloc, place, off)?);
+        all = all.saturating_add(read(alloc, place, off, PIECE)?);
     }
     Ok(all)
 }
