@@ -49,8 +49,8 @@ type Answer = Result<Reply, &'static str>;
 const ERRORS: [&str; 10] = [
     "ENOENT", "ENOTDIR", "EEXIST", "ENOTEMPTY", "EISDIR", "EINVAL", "EBUSY", "EPERM", "ENOSPC", "EFBIG",
 ];
-const ENTRIES: usize = 256;
-const BYTES: u64 = 65_536;
+const ENTRIES: usize = if cfg!(large) { usize::MAX } else { 256 };
+const BYTES: u64 = if cfg!(large) { u64::MAX } else { 65_536 };
 
 fn names(path: &[u8]) -> impl Iterator<Item = &[u8]> {
     path.split(|b| *b == b'/').filter(|name| !name.is_empty())
