@@ -1024,6 +1024,13 @@ class Listed(Page):
                 words = set(re.findall(r"\w+", "\n".join(path.read_text() for path in files)))
                 self.agrees(crate, [name for name in libraries.split() if name not in words], [])
 
+    def test_trusted_libraries(self):
+        """docs/BELIEVE.md has each library of the kit that a crate names, but the core library."""
+        lines = [line.split(":") for line in (ROOT / "crates.txt").read_text().splitlines() if not line.startswith("#")]
+        used = {name for _, below in lines for name in below.split()} - {crate.split()[0] for crate, _ in lines} - {"core"}
+        said = re.search(r"^- The statements of the kit's crates .*", BELIEVE.read_text(), re.M)[0]
+        self.agrees("the kit's crates", sorted(spans(said)), sorted(used))
+
     def test_picture_of_the_crates(self):
         """Each crate of the product is in the picture, on a line above all those on which it stands."""
         picture = blocks(DOCS / "ARCHITECTURE.md")[0]
