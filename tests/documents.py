@@ -1058,8 +1058,9 @@ class Listed(Page):
         said = re.search(r"^Messages go to .*", FORMATS.read_text(), re.M)[0]
         statuses = re.findall(r"^  (\d)  ", (DATA / "help" / "atomfs").read_text(), re.M)
         self.agrees("the statuses", re.findall(r"\b(\d): ", said), [status for status in statuses if status != "0"])
-        sources = "".join(source(f"{crate}/src/fault.rt") for crate in ("fs_verdict", "fs_threads", "fs_trace", "fs_find", "fs_draw"))
-        messages = [re.sub(r"\{\w*\}", "N", message) for message in re.findall(r'#\[error\("([^"]*\w \w[^"]*|full)"', sources)]
+        sources = "".join(source(f"{crate}/src/fault.rt") for crate in ("fs_verdict", "fs_threads", "fs_trace", "fs_find", "fs_draw", "fs_replay"))
+        told = re.findall(r'#\[error\("(?!CALL is )([^"]*\w \w[^"]*|full)"', sources) + re.findall(r'"atomfs: ([^"]*\bhas it\b[^"]*)"', source("fs_command/src/status.rt"))
+        messages = [re.sub(r"\{\w*\}", "N", message) for message in told]
         self.agrees("the messages", sorted(set(spans(said)) - {"atomfs: ", "line N: KIND"}), sorted(messages))
 
     def test_library(self):
