@@ -1117,6 +1117,7 @@ class Numbers(Sentences):
         rows = (
             (EXAMPLES, f"`tests/data/worked` has {len(inputs)} more scripts, journals and broken texts"),
             (THREADS, f"There are places for {constants('fs_observe/src/publisher.rt')['READER_PLACES']} observers"),
+            (EMBEDDING, f"`embed/checks.c`, {len((ROOT / 'embed' / 'checks.c').read_text().splitlines())} lines that are not proved"),
             (FORMATS, f"It needs a stack of {re.search(r'^STACK = ([0-9]+) . 1024$', stack, re.M)[1]} KiB"),
         )
         self.each(((page.stem, page, sentence) for page, sentence in rows), self.says)
