@@ -593,6 +593,13 @@ class Commands(Page):
             ("no header on standard input", (), b"mkdir /a\n", 3, "atomfs: line 1: BadHeader"),
         ), self.look_at_refusal)
 
+    def test_examples_run_names_commands(self):
+        """Its usage names each command of the program."""
+        usage = subprocess.run((ROOT / "examples" / "run", "--help"), cwd=ROOT, capture_output=True, text=True, timeout=harness.MOST_SECONDS).stdout
+        (named,) = re.findall(r"^COMMAND is [^:]*: ([^:]*) or --version:$", usage, re.M)
+        commands = re.findall(r"^  (\w+)  ", (DATA / "help" / "atomfs").read_text().partition("Options:")[0], re.M)
+        self.agrees("the commands of examples/run", sorted(re.split(r",\s", named)), sorted(commands))
+
     def look_at_refusal(self, words, given, status, message):
         done = subprocess.run((ROOT / "examples" / "run", *words), cwd=ROOT, input=given, capture_output=True, timeout=harness.MOST_SECONDS)
         self.same(f"examples/run {' '.join(words)}", (done.returncode, done.stderr.decode().splitlines()[0]), (status, message))
