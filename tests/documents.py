@@ -861,8 +861,9 @@ def naming_call(call):
 
 def limits():
     """The limits by their constants, and those that each set of limits has, which are two numbers each."""
-    files = "fs_names/src/limits.rt", "fs_words/src/limits.rt", "fs_script/src/limits.rt", "fs_sched/src/schedule.rt", "fs_sched/src/seeding.rt"
-    found = {name: [value] for file in files for name, value in constants(file).items()}
+    of_texts = "fs_words/src/limits.rt", "fs_script/src/limits.rt", "fs_sched/src/schedule.rt", "fs_sched/src/seeding.rt"
+    of_searches = "fs_outcomes/src/running.rt", "fs_find/src/finding.rt", "fs_shrink/src/limits.rt", "fs_recorded/src/linearizing.rt"
+    found = {name: [value] for file in ("fs_names/src/limits.rt", *of_texts, *of_searches) for name, value in constants(file).items()}
     values = [int(value) for value in re.findall(r"Limits::V[12] => ([\d_]+)", source("fs_names/src/limits.rt"))]
     return found | {"name_limit": values[:2], "entry_limit": values[2:4], "file_limit": values[4:]}
 
@@ -1112,6 +1113,8 @@ class Numbers(Sentences):
             f"or {draws['DRAW_LIMIT']:,} are drawn",
             f"N from 0 to {seeds['SEED_LIMIT']:,}, K from 1 to {seeds['RUN_LIMIT']:,}",
             f"of such runs, K from 1 to {constants('fs_outcomes/src/running.rt')['OUTCOME_LIMIT']:,}",
+            f"that has WHAT; K from 1 to {constants('fs_find/src/finding.rt')['SEARCH_LIMIT']:,}",
+            f"where it stopped at {constants('fs_shrink/src/limits.rt')['TRIAL_LIMIT']:,} runs",
             f"at most {2**64 - 1:,} | `BadNumber`",
         )
         self.each(((sentence, FORMATS, sentence) for sentence in sentences), self.says)
