@@ -196,11 +196,12 @@ class Refused(OfTools):
                 self.look(kind, words, call)
 
     def test_words(self):
-        """The words that `explain` lists are those that it knows."""
+        """The words that `explain` lists are those that it knows, and those of the program."""
         with self.assertRaises(ValueError) as raised:
             atomfs.explain("Dott")
         words = str(raised.exception).removeprefix("'Dott' is none of ").split(", ")
-        self.assertEqual(len(words), 26)
+        listed = re.search(r"possible values: (.*)\]", written("explain", "--help", given=""))[1]
+        self.assertEqual(sorted(words), sorted(listed.split(", ")))
         for word in words:
             self.assertTrue(atomfs.explain(word).startswith(f"{word}: "))
 

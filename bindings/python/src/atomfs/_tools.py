@@ -159,6 +159,6 @@ def _explained(word: str) -> str:
 
 
 def _words() -> List[str]:
-    """The words of all faults."""
+    """The words of all faults, and those of histories."""
     texts = [status.kind.removeprefix("Path") for status in Status if Status.BAD_HEADER <= status <= Status.PATH_TRAILING_SLASH]
-    return [*texts, "OutOfMemory", *(fault.kind for fault in Fault if fault)]
+    return [*texts, "OutOfMemory", *(fault.kind for fault in Fault if fault), "ReturnUnbegun", "none", "unknown"]
