@@ -128,6 +128,8 @@ class Directories(OfTree):
         self.fails(NotADirectoryError, errno.ENOTDIR, lambda: self.tree.makedirs("/f/g"), "/f/g")
         self.fails(OSError, errno.ENAMETOOLONG, lambda: self.tree.makedirs("/x/" + "n" * 65), "/x/" + "n" * 65)
         self.assertEqual(list(self.tree), ["/", "/a", "/a/b", "/a/b/c", "/f"])
+        self.tree.makedirs("//s//t///u")
+        self.assertEqual(list(self.tree)[5:], ["/s", "/s/t", "/s/t/u"])
 
     def test_makedirs_of_threads(self):
         """Threads that make branches with one trunk come to all of them."""
@@ -206,10 +208,11 @@ class Directories(OfTree):
         self.fails(FileExistsError, errno.EEXIST, lambda: self.tree.copy("/a", "/z"), "/z")
         self.fails(IsADirectoryError, errno.EISDIR, lambda: self.tree.copy("/new", "/z"), "/z")
         self.fails(FileNotFoundError, errno.ENOENT, lambda: self.tree.copy("/x", "/y"), "/x")
-        for into in ("/a", "/a/b/c"):
+        for into in ("/a", "/a/b/c", "//a/b/c", "/a//b/c"):
             self.fails(OSError, errno.EINVAL, lambda: self.tree.copy("/a", into), "/a", into)
         self.fails(OSError, errno.EINVAL, lambda: self.tree.copy("/", "/z/r"), "/", "/z/r")
-        self.assertRaises(shutil.SameFileError, self.tree.copy, "/new", "/new")
+        for same in ("/new", "//new"):
+            self.assertRaises(shutil.SameFileError, self.tree.copy, "/new", same)
         self.assertEqual(self.tree.read("/new"), b"abc")
 
     def test_rmtree_that_is_refused(self):
@@ -352,6 +355,7 @@ class Paths(OfTree):
         self.assertEqual((file.stat(), file.lstat().st_size, file.exists(), file.is_file(), file.is_dir()), (Stat(False, 1), 1, True, True, False))
         self.assertEqual((file.is_symlink(), file.is_mount(), self.root.is_mount()), (False, False, True))
         self.assertTrue(file.samefile("/a/g") and not file.samefile(self.root / "a"))
+        self.assertTrue(file.samefile("//a//g") and self.tree.path("//a/g").samefile(file) and self.tree.path("//").is_mount())
         self.assertRaises(FileNotFoundError, file.samefile, "/x")
         self.assertRaises(ValueError, self.root.glob, "")
         self.assertRaises(NotImplementedError, self.root.glob, "/a")

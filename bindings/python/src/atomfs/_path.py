@@ -69,7 +69,7 @@ class Path(pathlib.PurePosixPath):
 
     def is_mount(self) -> bool:
         """Whether it is the root."""
-        return str(self) == "/"
+        return _walk.plain(self) == "/"
 
     def _never(self) -> bool:
         """It is none, whatever stands there: a tree has files and directories."""
@@ -80,7 +80,7 @@ class Path(pathlib.PurePosixPath):
     def samefile(self, other: Any) -> bool:
         """Whether both are one path of one tree, at which something stands: a node has one path."""
         self.stat()
-        same = self._of(os.fspath(other)) == self and getattr(other, "tree", self.tree) is self.tree
+        same = _walk.plain(self._of(os.fspath(other))) == _walk.plain(self) and getattr(other, "tree", self.tree) is self.tree
         if not same:
             self.tree.stat(other)
         return same

@@ -34,7 +34,12 @@ def joined(path: str, name: str) -> str:
 
 def parent_of(path: str) -> str:
     """The path of the directory in which a path ends."""
-    return path.rpartition("/")[0] or "/"
+    return path.rpartition("/")[0].rstrip("/") or "/"
+
+
+def plain(path: AnyPath) -> str:
+    """A path as a string, with one slash where several stand together: two such paths of one node are the same."""
+    return re.sub("//+", "/", text_of(path))
 
 
 def kind(tree: Tree, path: AnyPath) -> Optional[bool]:
@@ -173,11 +178,11 @@ def copy(tree: Tree, source: AnyPath, target: AnyPath) -> None:
     start, goal = text_of(source), text_of(target)
     if kind(tree, start) is not True:
         data = tree.read(start)
-        if start == goal:
+        if plain(start) == plain(goal):
             raise shutil.SameFileError(f"{start!r} and {goal!r} are the same file")
         write_bytes(tree, goal, data)
         return
-    if f"{goal}/".startswith(f"{start.rstrip('/')}/"):
+    if f"{plain(goal)}/".startswith(f"{plain(start).rstrip('/')}/"):
         raise OSError(errno.EINVAL, "A directory is not copied into itself", source, None, target)
     tree.mkdir(goal)
     try:
