@@ -191,12 +191,9 @@ fn create_missing<'p>(
         Err(error) if error.errno() == Some(Errno::ENOENT) => {}
         Err(error) => return Err(error),
     }
-    let slashes = path
-        .iter()
-        .enumerate()
-        .skip(1)
-        .filter(|(_, byte)| **byte == b'/');
-    for end in slashes.map(|(at, _)| at).chain([path.len()]) {
+    // Where slashes stand together, the name before them ends at the first one.
+    let names = (1..path.len()).filter(|at| path[*at] == b'/' && path[*at - 1] != b'/');
+    for end in names.chain([path.len()]) {
         let part = &path[..end];
         let came = calls.call(&Call::Mkdir(part));
         if failed(&came, Errno::EEXIST) {

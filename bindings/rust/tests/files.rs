@@ -199,6 +199,8 @@ fn directories_with_those_above_them() {
     tree.create_dir_all("/").unwrap();
     tree.create_dir_all("/a/x/y").unwrap();
     assert_eq!(tree.readdir("/a/x").unwrap(), [b"y"]);
+    tree.create_dir_all("//a//z///y").unwrap();
+    assert_eq!(tree.readdir("/a/z").unwrap(), [b"y"]);
     stays(&mut tree, Errno::EEXIST, |tree| tree.create_dir_all("/a/f"));
     stays(&mut tree, Errno::ENOTDIR, |tree| {
         tree.create_dir_all("/a/f/x/y")
