@@ -71,6 +71,8 @@ class Specs(unittest.TestCase):
         self.assertEqual((files.cat("/f"), files.cat_file("/f", 2, -3), files.head("/f", 3), files.tail("/f", 2)),
                          (b"0123456789", b"23456", b"012", b"89"))
         self.assertEqual(files.read_block("/f", 3, 4), b"3456")
+        with files.open("/f", "rb", 4) as file:
+            self.assertEqual(file.read(), b"0123456789")
         with files.open("/f", "ab") as file:
             file.write(b"!")
         with files.open("/f", "r+b") as file:
@@ -102,7 +104,8 @@ class Specs(unittest.TestCase):
         self.assertEqual(files.cat("/d/b/f"), b"f")
         files.mv("/d/b/f", "/a/")
         self.assertRaises(FileExistsError, files.mkdir, "/a/f")
-        files.mv("/a/f", "/g")
+        files.mv(pathlib.PurePosixPath("/a/f"), pathlib.PurePosixPath("/g"))
+        self.assertIn("rename /a/f /g", self.tree.journal())
         files.cp("/g", "/h")
         self.assertEqual(files.find("/"), ["/a/b/f", "/g", "/h"])
         files.rm("/a", recursive=True)
@@ -134,6 +137,7 @@ class Specs(unittest.TestCase):
         """Files of a transaction come to their paths at its end, and to none of them where it fails."""
         files = self.files
         files.pipe("/old", b"old")
+        files.pipe("/lines", b"one\ntwo\n")
         with files.transaction:
             with files.open("/new", "wb") as file:
                 file.write(b"new")
@@ -141,6 +145,12 @@ class Specs(unittest.TestCase):
                 file.write(b"+")
             with files.open("/text", "w") as file:
                 file.write("text")
+            with files.open("/lines", "r+b") as file:
+                self.assertEqual(list(file), [b"one\n", b"two\n"])
+                file.seek(0)
+                file.write(b"ONE")
+            with files.open("/lines", "rb") as file:
+                self.assertEqual(file.read(), b"one\ntwo\n")
             self.assertRaises(IsADirectoryError, files.open, "/", "wb")
             self.assertRaises(FileExistsError, files.open, "/old", "xb")
             self.assertRaises(FileNotFoundError, files.open, "/x", "r+b")
@@ -148,13 +158,15 @@ class Specs(unittest.TestCase):
             self.assertFalse(files.exists("/new"))
             self.assertEqual(files.cat("/old"), b"old")
         self.assertEqual((files.cat("/new"), files.cat("/old"), files.cat("/text")), (b"new", b"old+", b"text"))
+        self.assertEqual(files.cat("/lines"), b"ONE\ntwo\n")
         with self.assertRaises(ZeroDivisionError):
             with files.transaction:
-                with files.open("/new", "wb") as file:
-                    file.write(b"lost")
+                for path, mode in (("/new", "wb"), ("/lines", "r+b")):
+                    with files.open(path, mode) as file:
+                        file.write(b"lost")
                 raise ZeroDivisionError
-        self.assertEqual(files.cat("/new"), b"new")
-        self.assertEqual(files.ls("/", detail=False), ["/new", "/old", "/text"])
+        self.assertEqual((files.cat("/new"), files.cat("/lines")), (b"new", b"ONE\ntwo\n"))
+        self.assertEqual(files.ls("/", detail=False), ["/lines", "/new", "/old", "/text"])
 
 
 if __name__ == "__main__":

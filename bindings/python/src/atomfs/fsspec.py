@@ -17,7 +17,7 @@ import posixpath
 import secrets
 import threading
 from glob import has_magic
-from typing import Any, Optional
+from typing import Any, Iterator, Optional
 
 from fsspec import AbstractFileSystem  # type: ignore[import]
 from fsspec.utils import stringify_path  # type: ignore[import]
@@ -52,6 +52,9 @@ class _Draft:
 
     def __getattr__(self, name: str) -> Any:
         return getattr(self._file, name)
+
+    def __iter__(self) -> Iterator[bytes]:
+        return iter(self._file)
 
     def __enter__(self) -> _Draft:
         return self
@@ -170,6 +173,7 @@ class AtomFileSystem(AbstractFileSystem):  # type: ignore[misc]
 
     def mv(self, path1: Any, path2: Any, recursive: bool = False, maxdepth: Optional[int] = None, **options: Any) -> None:
         """Moves one file or directory by one `rename`; what a pattern or a list names, by copies."""
+        path1, path2 = stringify_path(path1), stringify_path(path2)
         if not isinstance(path1, str) or has_magic(path1):
             super().mv(path1, path2, recursive=recursive, maxdepth=maxdepth, **options)
             return
@@ -190,8 +194,12 @@ class AtomFileSystem(AbstractFileSystem):  # type: ignore[misc]
         buffering = -1 if block_size is None else block_size
         if autocommit or ("r" in mode and "+" not in mode):
             return open_file(self.atom_tree, path, mode, buffering)
-        return _Draft(self.atom_tree, path, mode, buffering)
+        draft = _Draft(self.atom_tree, path, mode, buffering)
+        if "r" in mode and self._intrans:
+            # fsspec takes it for a file that is only read, and would neither put it at its path nor forget it.
+            self.transaction.files.append(draft)
+        return draft
 
-    def open(self, path: str, mode: str = "rb", **options: Any) -> io.IOBase:
-        file: io.IOBase = super().open(path, mode, **options)
+    def open(self, path: str, mode: str = "rb", *given: Any, **options: Any) -> io.IOBase:
+        file: io.IOBase = super().open(path, mode, *given, **options)
         return file
