@@ -1,6 +1,8 @@
 """What `AtomFS` does beside what PyFilesystem2's suite asks for."""
 import errno
+import gc
 import io
+import sys
 import threading
 import unittest
 
@@ -51,6 +53,15 @@ class Files(unittest.TestCase):
             with AtomFS(tree) as files:
                 files.makedir("a")
             self.assertEqual(tree.readdir("/"), ["a"])
+
+    def test_no_tree(self):
+        """One whose tree is refused is closed without a word."""
+        self.addCleanup(setattr, sys, "unraisablehook", sys.unraisablehook)
+        told = []
+        sys.unraisablehook = lambda unraisable: told.append(str(unraisable.exc_value))
+        self.assertRaises(ValueError, AtomFS, limit=0)
+        gc.collect()
+        self.assertEqual(told, [])
 
     def test_limits(self):
         self.assertEqual(self.files.getmeta("atomfs"), {"name_bytes": 64, "path_names": 64, "file_bytes": 1_048_576})

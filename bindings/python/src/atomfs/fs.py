@@ -84,9 +84,11 @@ class AtomFS(FS):
         self, tree: Optional[Tree] = None, limit: int = NODE_LIMIT, limits: Limits = Limits.V2, journal: Journal = OF_FILE_SYSTEMS
     ) -> None:
         super().__init__()
-        self._owns = tree is None
+        # Where no tree can be made there is none to close.
+        self._owns = False
         #: The tree itself.
         self.atom_tree = Tree(limit, limits=limits, journal=journal) if tree is None else tree
+        self._owns = tree is None
 
     def __repr__(self) -> str:
         return f"AtomFS({self.atom_tree!r})"
