@@ -691,6 +691,9 @@ class Errors(OfPatch):
             lambda at: open(f"{at}/f").write("x"),
             lambda at: open(f"{at}/f", "wb").read(),
             lambda at: open(f"{at}/f", "wb").write("x"),
+            lambda at: open(f"{at}/f", "rb", 0).readinto(b"abc"),
+            lambda at: open(f"{at}/f", "rb", 0).seek(1.5),
+            lambda at: os.lseek(os.open(f"{at}/f", os.O_RDONLY), 1.5, os.SEEK_SET),
             lambda at: os.write(os.open(f"{at}/f", os.O_WRONLY), "x"),
             lambda at: os.mkdir(f"{at}/x", no=1) if sys.flags.optimize else os.mkdir(),
         ):

@@ -6,6 +6,7 @@ import pathlib
 import pickle
 import shutil
 import stat
+import tempfile
 import threading
 import unittest
 
@@ -292,6 +293,34 @@ class Files(OfTree):
         with self.tree.open("/l", "w", 1, newline="\r\n") as file:
             file.write("line\n")
             self.assertEqual(self.tree.read("/l"), b"line\r\n")
+
+    def test_as_a_raw_file_of_the_disk(self):
+        """What a file object without a buffer refuses is what one of the disk refuses, and it stays where it was."""
+        self.tree.write_bytes("/f", b"abc")
+        calls = (
+            lambda file: file.readinto(b"abc"),
+            lambda file: file.seek(1.5),
+            lambda file: file.seek("1"),
+            lambda file: file.truncate(1.5),
+            lambda file: (file.close(), file.readable()),
+            lambda file: (file.close(), file.writable()),
+            lambda file: (file.close(), file.seekable()),
+            lambda file: (file.close(), file.tell()),
+        )
+        with tempfile.NamedTemporaryFile() as disk:
+            pathlib.Path(disk.name).write_bytes(b"abc")
+            for row, call in enumerate(calls):
+                with self.subTest(row), open(disk.name, "rb+", 0) as real, self.tree.open("/f", "rb+", 0) as file:
+                    found = [(type(self.raised(call, one)), one.closed or one.tell()) for one in (file, real)]
+                    self.assertEqual(found[0], found[1])
+
+    @staticmethod
+    def raised(call, *given):
+        """The exception of a call, if it raises one."""
+        try:
+            call(*given)
+        except Exception as error:
+            return error
 
     def test_refused_opens(self):
         self.tree.write_bytes("/f", b"abc")

@@ -8,10 +8,12 @@ import contextlib
 import errno
 import io
 import itertools
+import operator
 import os
 from typing import TYPE_CHECKING, Any, ContextManager, Dict, NoReturn, Optional
 
 from ._errors import file_too_large
+from ._values import room_of
 
 if TYPE_CHECKING:
     from ._tree import Tree
@@ -221,6 +223,7 @@ class Descriptors:
         node.data += bytes(size - len(node.data))
 
     def seek(self, descriptor: int, offset: int, whence: int) -> int:
+        offset = operator.index(offset)
         with self.tree.lock:
             description = self.of(descriptor)
             starts = {os.SEEK_SET: 0, os.SEEK_CUR: description.at}
@@ -275,11 +278,11 @@ class DescribedFile(io.RawIOBase):
         return False
 
     def readinto(self, buffer: Any) -> int:
-        view = memoryview(buffer).cast("B")
         descriptor = self._check(self._reads, "reading")
+        room = room_of(buffer)
         with self._told():
-            data = self._files.read(descriptor, len(view))
-        view[: len(data)] = data
+            data = self._files.read(descriptor, len(room))
+        room[: len(data)] = data
         return len(data)
 
     def readall(self) -> bytes:

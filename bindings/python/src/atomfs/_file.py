@@ -7,8 +7,11 @@ the path, it is that file.
 from __future__ import annotations
 
 import io
+import operator
 import os
 from typing import TYPE_CHECKING, Any, Union
+
+from ._values import room_of
 
 if TYPE_CHECKING:
     from ._tree import Tree
@@ -31,28 +34,31 @@ class TreeFile(io.RawIOBase):
         """How many bytes the file has now."""
         return self._tree.stat(self.name).size
 
-    def _check(self, may: bool, what: str) -> None:
+    def _check(self, may: bool = True, what: str = "") -> None:
         if self.closed:
             raise ValueError("I/O operation on closed file")
         if not may:
             raise io.UnsupportedOperation(f"not {what}")
 
     def readable(self) -> bool:
+        self._check()
         return self._reads
 
     def writable(self) -> bool:
+        self._check()
         return self._writes
 
     def seekable(self) -> bool:
+        self._check()
         return True
 
     def readinto(self, buffer: Any) -> int:
         self._check(self._reads, "readable")
-        view = memoryview(buffer).cast("B")
+        room = room_of(buffer)
         with self._tree.lock:
-            data = self._tree.read(self.name, self._at, len(view))
+            data = self._tree.read(self.name, self._at, len(room))
             self._at += len(data)
-        view[: len(data)] = data
+        room[: len(data)] = data
         return len(data)
 
     def readall(self) -> bytes:
@@ -72,7 +78,8 @@ class TreeFile(io.RawIOBase):
         return count
 
     def seek(self, offset: int, whence: int = os.SEEK_SET) -> int:
-        self._check(True, "seekable")
+        self._check()
+        offset = operator.index(offset)
         if whence not in (os.SEEK_SET, os.SEEK_CUR, os.SEEK_END):
             raise ValueError(f"invalid whence: {whence}")
         with self._tree.lock:
@@ -84,7 +91,7 @@ class TreeFile(io.RawIOBase):
         return at
 
     def tell(self) -> int:
-        self._check(True, "seekable")
+        self._check()
         return self._at
 
     def truncate(self, size: Union[int, None] = None) -> int:

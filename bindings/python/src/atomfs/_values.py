@@ -21,6 +21,14 @@ def number_of(value: int, what: str) -> int:
     return min(number, 2**64 - 1)
 
 
+def room_of(buffer: Any) -> memoryview:
+    """The bytes of what is to be filled."""
+    room = memoryview(buffer).cast("B")
+    if room.readonly:
+        raise TypeError(f"readinto fills what can be written to, and not {type(buffer).__name__}")
+    return room
+
+
 def bytes_of(data: Any, what: str = "write") -> bytes:
     """The bytes of what is to be written."""
     if isinstance(data, bytes):
