@@ -661,6 +661,8 @@ class Errors(OfPatch):
             with_descriptor(lambda number: os.ftruncate(number, -1)),
             with_descriptor(lambda number: os.stat("x", dir_fd=number)),
             with_descriptor(lambda number: os.pread(number, 1, -1)),
+            with_descriptor(lambda number: os.posix_fallocate(number, -1, 1)),
+            with_descriptor(lambda number: os.posix_fallocate(number, 0, 0)),
         )):
             with self.subTest(at):
                 self.compare(row)
@@ -929,6 +931,47 @@ class Open(OfPatch):
             for thread in threads:
                 thread.join()
             self.assertEqual([text_of(f"{AT}/{thread}/last") for thread in range(4)], ["19"] * 4)
+
+    def test_a_file_that_another_thread_moves(self):
+        """A descriptor goes with its file also where that is moved, or loses its entry, once the other thread has begun its call."""
+        calls = (
+            lambda number: os.pread(number, 3, 1),
+            lambda number: os.pwrite(number, b"E", 1),
+            lambda number: os.ftruncate(number, 4),
+            lambda number: os.fstat(number).st_size,
+        )
+        wanted = [b"ell", 1, None, 4]
+        for gone in (False, True):
+            with self.subTest(gone), atomfs.patch(self.tree, at=AT):
+                self.tree.rmtree("/")
+                filled(AT)
+                with descriptor(f"{AT}/f") as number:
+                    found = [self.meanwhile(call, number, at, gone) for at, call in enumerate(calls)]
+                self.assertEqual(found, wanted)
+
+    def meanwhile(self, call, number, at, gone):
+        """What a thread comes to that has begun its call before this one moves the file, or replaces what it was moved to."""
+        came = []
+
+        def asks():
+            try:
+                came.append(call(number))
+            except OSError as error:
+                came.append(error)
+
+        with self.tree.lock:
+            thread = threading.Thread(target=asks)
+            thread.start()
+            # The other thread has time to come to the lock.
+            thread.join(0.1)
+            old, new = ("f" if at == 0 else f"f{at}"), f"f{at + 1}"
+            if os.path.exists(f"{AT}/{old}"):
+                os.rename(f"{AT}/{old}", f"{AT}/{new}")
+            if gone:
+                written(f"{AT}/other")
+                os.replace(f"{AT}/other", f"{AT}/{new}")
+        thread.join()
+        return came[0]
 
 
 if __name__ == "__main__":

@@ -6,11 +6,12 @@ from __future__ import annotations
 
 import contextlib
 import errno
+import functools
 import io
 import itertools
 import operator
 import os
-from typing import TYPE_CHECKING, Any, ContextManager, Dict, NoReturn, Optional
+from typing import TYPE_CHECKING, Any, Callable, ContextManager, Dict, NoReturn, Optional, TypeVar, cast
 
 from ._errors import file_too_large
 from ._values import room_of
@@ -18,6 +19,7 @@ from ._values import room_of
 if TYPE_CHECKING:
     from ._tree import Tree
 
+_Method = TypeVar("_Method", bound=Callable[..., Any])
 # How many bytes are read at once at least, where there are so many.
 READ = 65_536
 # No system gives a process so many, so none of these numbers is a descriptor of the disk.
@@ -27,6 +29,17 @@ _NUMBERS = itertools.count(1 << 30)
 def failed(number: int, *paths: Any) -> NoReturn:
     """Raises the `OSError` of a number."""
     raise OSError(number, os.strerror(number), *paths)
+
+
+def together(method: _Method) -> _Method:
+    """A method that holds the lock of its tree: what it found is there still when it goes on, whatever other threads do."""
+
+    @functools.wraps(method)
+    def held(self: Any, *given: Any, **named: Any) -> Any:
+        with self.tree.lock:
+            return method(self, *given, **named)
+
+    return cast(_Method, held)
 
 
 class told(ContextManager[None]):
@@ -126,6 +139,7 @@ class Descriptors:
             node.path = new + path[len(old) :]
             self._nodes[node.path] = node
 
+    @together
     def work_in(self, node: Optional[Node]) -> None:
         """Makes a directory the working one."""
         if node is not None:
@@ -142,6 +156,7 @@ class Descriptors:
 
     # ---- Descriptors
 
+    @together
     def add(self, description: Description) -> int:
         """A new descriptor."""
         number = next(_NUMBERS)
@@ -151,6 +166,7 @@ class Descriptors:
         self._of[number] = description
         return number
 
+    @together
     def close(self, descriptor: int) -> None:
         description = self.of(descriptor)
         del self._of[descriptor]
@@ -158,6 +174,7 @@ class Descriptors:
         if not description.opened:
             self._let_go(description.node)
 
+    @together
     def close_range(self, low: int, high: int) -> None:
         for descriptor in [one for one in self._of if low <= one < high]:
             self.close(descriptor)
@@ -174,19 +191,21 @@ class Descriptors:
         """How many bytes a file has, or how many entries a directory."""
         return len(node.data) if node.path is None else self.tree.stat(node.path).size
 
+    @together
     def pread(self, descriptor: int, count: int, offset: int) -> bytes:
         node = self._file(descriptor, reads=True).node
         if count < 0 or offset < 0:
             failed(errno.EINVAL)
         return bytes(node.data[offset : offset + count]) if node.path is None else self.tree.read(node.path, offset, count)
 
+    @together
     def read(self, descriptor: int, count: int) -> bytes:
-        with self.tree.lock:
-            description = self._file(descriptor, reads=True)
-            data = self.pread(descriptor, count, description.at)
-            description.at += len(data)
+        description = self._file(descriptor, reads=True)
+        data = self.pread(descriptor, count, description.at)
+        description.at += len(data)
         return data
 
+    @together
     def pwrite(self, descriptor: int, data: Any, offset: int) -> int:
         node = self._file(descriptor, writes=True).node
         given = memoryview(data).tobytes()
@@ -198,14 +217,15 @@ class Descriptors:
         node.data[offset : offset + len(given)] = given
         return len(given)
 
+    @together
     def write(self, descriptor: int, data: Any) -> int:
-        with self.tree.lock:
-            description = self._file(descriptor, writes=True)
-            at = self.size(description.node) if description.appends else description.at
-            count = self.pwrite(descriptor, data, at)
-            description.at = at + count
+        description = self._file(descriptor, writes=True)
+        at = self.size(description.node) if description.appends else description.at
+        count = self.pwrite(descriptor, data, at)
+        description.at = at + count
         return count
 
+    @together
     def truncate(self, descriptor: int, size: int) -> None:
         description = self.of(descriptor)
         if description.node.is_dir or not description.writes or size < 0:
@@ -222,17 +242,16 @@ class Descriptors:
         del node.data[size:]
         node.data += bytes(size - len(node.data))
 
+    @together
     def seek(self, descriptor: int, offset: int, whence: int) -> int:
-        offset = operator.index(offset)
-        with self.tree.lock:
-            description = self.of(descriptor)
-            starts = {os.SEEK_SET: 0, os.SEEK_CUR: description.at}
-            if whence not in (*starts, os.SEEK_END):
-                failed(errno.EINVAL)
-            at = offset + (starts[whence] if whence in starts else self.size(description.node))
-            if at < 0:
-                failed(errno.EINVAL)
-            description.at = at
+        description = self.of(descriptor)
+        starts = {os.SEEK_SET: 0, os.SEEK_CUR: description.at}
+        if whence not in (*starts, os.SEEK_END):
+            failed(errno.EINVAL)
+        at = operator.index(offset) + (starts[whence] if whence in starts else self.size(description.node))
+        if at < 0:
+            failed(errno.EINVAL)
+        description.at = at
         return at
 
 

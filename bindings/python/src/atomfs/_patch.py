@@ -231,10 +231,11 @@ class patch(contextlib.ContextDecorator):
 
     def _by_place(self, inside: Function, descriptor: int, *given: Any, **named: Any) -> Any:
         """A call on a path, for which a descriptor of the tree was given."""
-        place = self._sandbox.place(descriptor)
-        if place is None:
-            raise OSError(errno.ENOENT, os.strerror(errno.ENOENT))
-        return self._of_one(inside, place, *given, **named)
+        with self.tree.lock:
+            place = self._sandbox.place(descriptor)
+            if place is None:
+                raise OSError(errno.ENOENT, os.strerror(errno.ENOENT))
+            return self._of_one(inside, place, *given, **named)
 
     def _of_paths(self, name: str, real: Function, first: str, second: str) -> Function:
         inside, keys = self._inside(name), ("src_dir_fd", "dst_dir_fd")

@@ -15,7 +15,7 @@ import stat
 from typing import Any, Callable, Dict, Iterable, Iterator, List, Optional, Union
 
 from . import _walk
-from ._descriptors import DescribedFile, Description, Descriptors, Node, failed, file_object, told
+from ._descriptors import DescribedFile, Description, Descriptors, Node, failed, file_object, together, told
 from ._errors import encoded
 from ._places import Place, Places
 from ._tree import Stat, Tree
@@ -151,6 +151,7 @@ class Sandbox:
         self._looked(place)
         return failed(errno.EINVAL, place.path)
 
+    @together
     def chdir(self, place: Place) -> None:
         self._files.directory(_at(place))
         self._files.work_in(self._files.named(_at(place), True))
@@ -165,34 +166,34 @@ class Sandbox:
             raise OSError(errno.ENOTSUP, "os.mknod: a tree has files and directories alone", place.path)
         self.tree.mknod(_at(place))
 
+    @together
     def unlink(self, place: Place, **named: Any) -> None:
-        with self.tree.lock:
-            if place.of_directory:
-                self._looked(place)
-            data = self._files.kept(_at(place))
-            try:
-                self.tree.unlink(_at(place))
-            except PermissionError:
-                # The number that Linux has for it.
-                failed(errno.EISDIR)
-            self._files.removed(_at(place), data)
+        if place.of_directory:
+            self._looked(place)
+        data = self._files.kept(_at(place))
+        try:
+            self.tree.unlink(_at(place))
+        except PermissionError:
+            # The number that Linux has for it.
+            failed(errno.EISDIR)
+        self._files.removed(_at(place), data)
 
     remove = unlink
 
+    @together
     def rmdir(self, place: Place, **named: Any) -> None:
-        with self.tree.lock:
-            self.tree.rmdir(_at(place))
-            self._files.removed(_at(place), None)
+        self.tree.rmdir(_at(place))
+        self._files.removed(_at(place), None)
 
+    @together
     def rename(self, old: Place, new: Place, **named: Any) -> None:
-        with self.tree.lock:
-            if (old.of_directory or new.of_directory) and not self._looked(old).is_dir:
-                failed(errno.ENOTDIR, old.path, None, new.path)
-            data = self._files.kept(_at(new))
-            self.tree.rename(_at(old), _at(new))
-            if _at(old) != _at(new):
-                self._files.removed(_at(new), data)
-                self._files.moved(_at(old), _at(new))
+        if (old.of_directory or new.of_directory) and not self._looked(old).is_dir:
+            failed(errno.ENOTDIR, old.path, None, new.path)
+        data = self._files.kept(_at(new))
+        self.tree.rename(_at(old), _at(new))
+        if _at(old) != _at(new):
+            self._files.removed(_at(new), data)
+            self._files.moved(_at(old), _at(new))
 
     replace = rename
 
@@ -205,9 +206,9 @@ class Sandbox:
 
     # ---- Descriptors
 
+    @together
     def open(self, place: Place, flags: int, *given: Any, **named: Any) -> int:
-        with self.tree.lock:
-            return self._files.add(self._opened(place, flags))
+        return self._files.add(self._opened(place, flags))
 
     def _opened(self, place: Place, flags: int) -> Description:
         """What a descriptor is to stand for: made, emptied or looked for, as the flags ask."""
@@ -239,6 +240,7 @@ class Sandbox:
         path = self._files.of(descriptor).node.path
         return None if path is None else Place(path, descriptor)
 
+    @together
     def fstat(self, fd: int) -> os.stat_result:
         node = self._files.of(fd).node
         if node.path is not None:
@@ -278,10 +280,12 @@ class Sandbox:
     def ftruncate(self, fd: int, length: int) -> None:
         self._files.truncate(fd, length)
 
+    @together
     def posix_fallocate(self, fd: int, offset: int, length: int) -> None:
-        with self.tree.lock:
-            if offset + length > self.fstat(fd).st_size:
-                self._files.truncate(fd, offset + length)
+        if offset < 0 or length <= 0:
+            failed(errno.EINVAL)
+        if offset + length > self.fstat(fd).st_size:
+            self._files.truncate(fd, offset + length)
 
     def fsync(self, fd: int, *given: int) -> None:
         """What was written is in the tree."""
@@ -299,9 +303,11 @@ class Sandbox:
         self._files.of(fd)
         return True
 
+    @together
     def dup(self, fd: int) -> int:
         return self._files.add(self._files.of(fd))
 
+    @together
     def fchdir(self, fd: int) -> None:
         node = self._files.node(fd)
         self._files.work_in(node)
