@@ -6,6 +6,7 @@ import pathlib
 import pickle
 import shutil
 import stat
+import sys
 import tempfile
 import threading
 import unittest
@@ -248,6 +249,7 @@ class Files(OfTree):
         self.tree.write_text("/t", "a\nb", "utf-16-le", newline="\r\n")
         self.assertEqual(self.tree.read("/t"), "a\r\nb".encode("utf-16-le"))
         self.assertRaises(UnicodeEncodeError, self.tree.write_text, "/t", "\N{SNOWMAN}", "ascii")
+        self.assertRaisesRegex(ValueError, "illegal newline value", self.tree.write_text, "/t", "\n", newline="x")
         self.tree.write_bytes("/t", b"\xff")
         self.assertRaises(UnicodeDecodeError, self.tree.read_text, "/t")
         with self.assertRaisesRegex(TypeError, "write_bytes takes bytes, and this is str: encode it"):
@@ -256,6 +258,14 @@ class Files(OfTree):
             self.tree.write_text("/f", b"bytes")
         self.assertRaises(TypeError, self.tree.write_bytes, "/new", 3)
         self.assertEqual((self.tree.read("/f"), self.tree.exists("/new")), (b"abc", False))
+
+    @unittest.skipIf(sys.version_info < (3, 10), "the encoding of the locale has a name from 3.10 on")
+    def test_encoding_of_the_locale(self):
+        self.assertEqual(self.tree.write_text("/t", "text", "locale"), 4)
+        self.assertEqual(self.tree.read_text("/t", "locale"), "text")
+        with self.tree.open("/t", "a", encoding="locale") as file:
+            file.write("+")
+        self.assertEqual(self.tree.read("/t"), b"text+")
 
     def test_a_write_that_fails(self):
         """The file is as it was, and one that was not there is not made."""
@@ -379,6 +389,7 @@ class Paths(OfTree):
         self.assertEqual([str(path) for path in self.root.iterdir()], ["/a", "/z"])
         self.assertEqual([str(path) for path in (self.root / "a").glob("*")], ["/a/b", "/a/g"])
         self.assertEqual([str(path) for path in self.root.rglob("f")], ["/a/b/f"])
+        self.assertEqual([str(path) for path in self.root.glob(pathlib.PurePosixPath("a", "?"))], ["/a/b", "/a/g"])
         self.assertEqual([(str(at), names, files) for at, names, files in (self.root / "a").walk()], [("/a", ["b"], ["g"]), ("/a/b", [], ["f"])])
         file = self.root / "a" / "g"
         self.assertEqual((file.stat(), file.lstat().st_size, file.exists(), file.is_file(), file.is_dir()), (Stat(False, 1), 1, True, True, False))
@@ -388,6 +399,7 @@ class Paths(OfTree):
         self.assertRaises(FileNotFoundError, file.samefile, "/x")
         self.assertRaises(ValueError, self.root.glob, "")
         self.assertRaises(NotImplementedError, self.root.glob, "/a")
+        self.assertRaises(NotImplementedError, self.root.rglob, "/f")
 
     def test_changes(self):
         path = self.root / "n" / "m"

@@ -17,7 +17,8 @@ from ._library import ENTRY_LIMIT, FAILED, Library, Limits, Status
 if TYPE_CHECKING:
     from ._tree import Seat, Tree
 
-AnyPath = Union[str, bytes, "os.PathLike[str]", "os.PathLike[bytes]"]
+StrPath = Union[str, "os.PathLike[str]"]
+AnyPath = Union[StrPath, bytes, "os.PathLike[bytes]"]
 
 
 class Error(Exception):

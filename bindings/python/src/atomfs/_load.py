@@ -11,7 +11,7 @@ import zipfile
 from typing import IO, TYPE_CHECKING, Any, Callable, Dict, Iterator, List, Mapping, Optional, Tuple, Type, TypeVar, Union
 
 from . import _rows
-from ._errors import error_at
+from ._errors import StrPath, error_at
 from ._journal import ALL, Journal
 from ._library import Limits, Status, library
 from ._walk import parent_of
@@ -20,7 +20,6 @@ if TYPE_CHECKING:
     from ._tree import Tree
 
 _Tree = TypeVar("_Tree", bound="Tree")
-StrPath = Union[str, "os.PathLike[str]"]
 OnError = Union[str, Callable[[OSError], object]]
 # The bytes of a file, or none of a directory.
 Node = Optional[bytes]

@@ -302,7 +302,7 @@ class patch(contextlib.ContextDecorator):
             if isinstance(file, int):
                 if file not in self._files:
                     return real(file, *words, closefd, opener)
-                _check(*words)
+                _walk.check_mode(*words)
                 return self._sandbox.file(file, file, *words, closefd)
             try:
                 place = self._places.of(file)
@@ -310,7 +310,7 @@ class patch(contextlib.ContextDecorator):
                 return real(file, *words, closefd, opener)
             if not isinstance(mode, str) or (place.inside is None and opener is None):
                 return real(place.path, *words, closefd, opener)
-            _check(*words)
+            _walk.check_mode(*words)
             if not closefd:
                 raise ValueError("Cannot use closefd=False with file name")
             name = os.fspath(file)
@@ -451,10 +451,6 @@ class patch(contextlib.ContextDecorator):
             real(process, args, *given, **named)
 
         return function
-
-
-def _check(mode: str, buffering: int, encoding: Optional[str], errors: Optional[str], newline: Optional[str]) -> None:
-    _walk.check_mode(mode, buffering, encoding if encoding != "locale" or "b" in mode else None, errors, newline)
 
 
 def _number_of(file: Any) -> Optional[int]:

@@ -8,6 +8,7 @@ import weakref
 from typing import IO, TYPE_CHECKING, Any, Callable, Dict, Iterator, List, NoReturn, Optional, Tuple, Type, TypeVar
 
 from . import _walk
+from ._errors import StrPath
 
 if TYPE_CHECKING:
     from ._tree import Stat, Tree
@@ -92,17 +93,20 @@ class Path(pathlib.PurePosixPath):
         names = self.tree.readdir(str(self))
         return iter([self._of(_walk.joined(str(self), name)) for name in names])
 
-    def glob(self: _Self, pattern: str, **options: Any) -> Iterator[_Self]:
+    def glob(self: _Self, pattern: StrPath, **options: Any) -> Iterator[_Self]:
         """What a pattern matches below it, as `Tree.glob`: several calls."""
-        if not pattern:
+        if not os.fspath(pattern):
             raise ValueError("Unacceptable pattern: ''")
-        if pattern.startswith("/"):
-            raise NotImplementedError("Non-relative patterns are unsupported")
-        return iter([self._of(path) for path in _walk.glob(self.tree, pattern, str(self))])
+        return self._globbed("", pattern)
 
-    def rglob(self: _Self, pattern: str, **options: Any) -> Iterator[_Self]:
+    def rglob(self: _Self, pattern: StrPath, **options: Any) -> Iterator[_Self]:
         """As `glob` of a pattern with `**/` before it: several calls."""
-        return self.glob(f"**/{pattern}", **options)
+        return self._globbed("**/", pattern)
+
+    def _globbed(self: _Self, before: str, pattern: StrPath) -> Iterator[_Self]:
+        if os.fspath(pattern).startswith("/"):
+            raise NotImplementedError("Non-relative patterns are unsupported")
+        return iter([self._of(path) for path in _walk.glob(self.tree, before + os.fspath(pattern), str(self))])
 
     def walk(
         self: _Self, top_down: bool = True, on_error: Optional[Callable[[OSError], object]] = None, follow_symlinks: bool = False

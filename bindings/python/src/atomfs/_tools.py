@@ -6,17 +6,15 @@ that is none is a `ValueError`.
 from __future__ import annotations
 
 import dataclasses
-import os
 import pathlib
 import re
 from typing import List, NamedTuple, Optional, Tuple, Union
 
-from ._errors import Error, error_of
+from ._errors import Error, StrPath, error_of
 from ._library import By, Fault, Status, library
 from ._texts import ROOM, Room
 from ._values import bytes_of, number_of
 
-StrPath = Union[str, "os.PathLike[str]"]
 Text = Union[str, bytes]
 # By this number all calls are drawn.
 _WHOLE = 2**64 - 1

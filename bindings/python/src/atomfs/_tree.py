@@ -12,7 +12,7 @@ import weakref
 from typing import IO, Any, Callable, Dict, Iterator, List, Mapping, NamedTuple, NoReturn, Optional, Tuple, Type, TypeVar, Union, overload
 
 from . import _last, _load, _rows, _seats, _tools, _walk
-from ._errors import AnyPath, Error, WaitsError, encoded, error_at, error_of
+from ._errors import AnyPath, Error, StrPath, WaitsError, encoded, error_at, error_of
 from ._file import open_file
 from ._journal import ALL, Journal, Noting, Standing
 from ._library import NODE_LIMIT, Call, CStat, Did, Fault, Handle, Limits, Request, Status, library
@@ -23,7 +23,6 @@ from ._tools import Picture
 from ._values import NAME, Data, bytes_of, number_of
 
 _Self = TypeVar("_Self", bound="Tree")
-StrPath = Union[str, "os.PathLike[str]"]
 Reply = Union[None, "Stat", List[str], bytes, int]
 # How many calls a notebook shows at most, and of how long a journal: the tree before them takes a while to be found.
 _SHOWN, _OF_CALLS = 100, 10_000
@@ -492,9 +491,12 @@ class Tree:
         """As `write_bytes` of the bytes of a text: several calls. It answers how many characters were written."""
         if not isinstance(text, str):
             raise TypeError(f"write_text takes str, and this is {type(text).__name__}")
-        ends = text.replace("\n", newline) if newline else text
-        self.write_bytes(path, ends.encode(encoding, errors))
-        return len(text)
+        made = io.BytesIO()
+        with io.TextIOWrapper(made, encoding, errors, newline) as file:
+            count = file.write(text)
+            file.flush()
+            self.write_bytes(path, made.getvalue())
+        return count
 
     def path(self, *segments: StrPath) -> Path:
         """A path of this tree with the methods of `pathlib.Path`: the root, where none is given."""

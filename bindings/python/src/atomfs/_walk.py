@@ -9,6 +9,7 @@ import errno
 import fnmatch
 import re
 import shutil
+import sys
 from typing import TYPE_CHECKING, Callable, Iterator, List, Optional, Tuple
 
 from ._errors import AnyPath, encoded
@@ -211,5 +212,7 @@ def check_mode(mode: str, buffering: int, encoding: Optional[str], errors: Optio
         raise ValueError("can't have unbuffered text I/O")
     if newline not in (None, "", "\n", "\r", "\r\n"):
         raise ValueError(f"illegal newline value: {newline!r}")
-    codecs.lookup(encoding or "utf-8")
+    # From 3.10 on this is the encoding of the locale, and before that none.
+    if encoding != "locale" or sys.version_info < (3, 10):
+        codecs.lookup(encoding or "utf-8")
     codecs.lookup_error(errors or "strict")
