@@ -127,6 +127,21 @@ class OfTheArchive(Installed):
         files = [path for path in self.prefix.rglob("*") if path.is_file()]
         self.same("the archive", [path.name for path in files if str(ROOT).encode() in path.read_bytes()], [])
 
+    def test_install_over_what_runs(self):
+        """`embed/package --prefix` puts it anew where a program of the folder runs, and that goes on with what it has."""
+        checkout, into = self.folder / "checkout", self.folder / "into"
+        for part in ("embed", "bindings", "docs"):
+            shutil.copytree(ROOT / part, checkout / part, ignore=shutil.ignore_patterns("target", "build", "*.egg-info", "__pycache__"))
+        for part in ("lib", "include", "bin"):
+            shutil.copytree(self.prefix / part, checkout / "dist" / part, symlinks=True)
+        shutil.copy(ROOT / "CHANGELOG.md", checkout)
+        install = [checkout / "embed" / "package", "--prefix", into]
+        self.ends(install, pattern="(?m)^installed: ")
+        with subprocess.Popen([into / "bin" / "atomfs", "run"], stdin=subprocess.PIPE, stdout=subprocess.PIPE) as runs:
+            self.ends(install, pattern="(?m)^installed: ")
+            output, _ = runs.communicate(b"atomfs 1\nschedule\n")
+        self.same("the run", (runs.returncode, output), (0, b"atomfs-journal 1\ntree\ndir /\nbegun 0 committed 0 returned 0\n"))
+
     def test_program(self):
         self.same("atomfs --version", done([self.prefix / "bin" / "atomfs", "--version"], self.folder), (0, f"atomfs {VERSION}\n"))
 
