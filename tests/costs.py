@@ -31,8 +31,10 @@ def processor_seconds():
 def measured(parts, name, kind):
     """Adds to parts what is done meanwhile."""
     began, had = time.monotonic(), processor_seconds()
-    yield
-    parts.append(Part(name, kind, time.monotonic() - began, processor_seconds() - had))
+    try:
+        yield
+    finally:
+        parts.append(Part(name, kind, time.monotonic() - began, processor_seconds() - had))
 
 
 def told(parts, work=""):

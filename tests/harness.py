@@ -66,12 +66,14 @@ def program_at(path):
     before = os.environ.get("ATOMFS")
     os.environ["ATOMFS"] = str(path)
     found.cache_clear()
-    yield
-    if before is None:
-        del os.environ["ATOMFS"]
-    else:
-        os.environ["ATOMFS"] = before
-    found.cache_clear()
+    try:
+        yield
+    finally:
+        if before is None:
+            del os.environ["ATOMFS"]
+        else:
+            os.environ["ATOMFS"] = before
+        found.cache_clear()
 
 
 def library_at():
@@ -163,6 +165,8 @@ class Case(unittest.TestCase):
         self.row = None
         if only and not looked_at:
             self.skipTest(f"no row of it is called {only}")
+        if not looked_at:
+            self.fail("the test has no rows")
 
     def alone(self):
         """The command that looks at this row, or at this test, by itself, and at the same program."""
