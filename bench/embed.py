@@ -1,6 +1,7 @@
-"""The same calls as embed.c, from Python: embed.py LIBRARY CALLS, or embed.py LIBRARY --long CALLS.
+"""The same calls as embed.c, from Python: embed.py LIBRARY CALLS, or embed.py LIBRARY --long CALLS. With --checkpoints CALLS, of the long ones those with
+checkpoints alone.
 
-Without --long also what files of others take by the same words: a directory on tmpfs, pyfakefs, PyFilesystem2's and fsspec's memory, each beside
+With CALLS alone also what files of others take by the same words: a directory on tmpfs, pyfakefs, PyFilesystem2's and fsspec's memory, each beside
 the tree by these words. Of them those are left out, and told, that are not there: Debian's python3-pyfakefs, python3-fs, python3-fsspec.
 """
 import builtins
@@ -256,6 +257,8 @@ if sys.argv[2] == "--long":
     given = int(sys.argv[3])
     for journal, calls in ((FORGOTTEN, given), (HANDED_OUT, given), (KEPT, min(given, MOST_KEPT))):
         run_long(calls, journal)
+elif sys.argv[2] == "--checkpoints":
+    run_long(int(sys.argv[3]), HANDED_OUT)
 else:
     measure_all(int(sys.argv[2]))
     measure_others(int(sys.argv[2]))
