@@ -3,10 +3,10 @@
 use std::sync::{Arc, Mutex, MutexGuard, PoisonError};
 
 use crate::call::{Call, Did, Reply, Seat, Stat};
-use crate::error::{Error, ErrorKind};
+use crate::error::Error;
 use crate::path::AsPath;
 use crate::tree::Tree;
-use crate::whole::Calls;
+use crate::whole::{self, Calls};
 
 /// A thread's way into a shared tree: a seat of its own.
 ///
@@ -92,26 +92,17 @@ impl Session {
 
     /// What stands at a path.
     pub fn stat(&mut self, path: impl AsPath) -> Result<Stat, Error> {
-        match self.call(&Call::stat(&path))? {
-            Reply::Stat(stat) => Ok(stat),
-            _ => Err(ErrorKind::NoReply.into()),
-        }
+        whole::stat(self, path.path_bytes())
     }
 
     /// The names of a directory, in byte order.
     pub fn readdir(&mut self, path: impl AsPath) -> Result<Vec<Vec<u8>>, Error> {
-        match self.call(&Call::readdir(&path))? {
-            Reply::Names(names) => Ok(names),
-            _ => Err(ErrorKind::NoReply.into()),
-        }
+        whole::readdir(self, path.path_bytes())
     }
 
     /// At most `count` bytes of a file from an offset on.
     pub fn read(&mut self, path: impl AsPath, offset: u64, count: u64) -> Result<Vec<u8>, Error> {
-        match self.call(&Call::read(&path, offset, count))? {
-            Reply::Bytes(bytes) => Ok(bytes),
-            _ => Err(ErrorKind::NoReply.into()),
-        }
+        whole::read(self, path.path_bytes(), offset, count)
     }
 
     /// Writes bytes into a file at an offset, all of them or none, and tells how many.
@@ -121,10 +112,7 @@ impl Session {
         offset: u64,
         bytes: impl AsRef<[u8]>,
     ) -> Result<u64, Error> {
-        match self.call(&Call::write(&path, offset, &bytes))? {
-            Reply::Wrote(count) => Ok(count),
-            _ => Err(ErrorKind::NoReply.into()),
-        }
+        whole::write(self, path.path_bytes(), offset, bytes.as_ref())
     }
 
     /// Cuts a file to a size, or adds zeros up to it.

@@ -3,7 +3,7 @@
 use std::sync::{Arc, Mutex, MutexGuard};
 
 use crate::call::{Call, Reply, Stat};
-use crate::error::{Error, ErrorKind};
+use crate::error::Error;
 use crate::file::{File, OpenOptions};
 use crate::limits::Limits;
 use crate::path::AsPath;
@@ -107,26 +107,17 @@ impl SharedTree {
 
     /// What stands at a path.
     pub fn stat(&self, path: impl AsPath) -> Result<Stat, Error> {
-        match self.call(&Call::stat(&path))? {
-            Reply::Stat(stat) => Ok(stat),
-            _ => Err(ErrorKind::NoReply.into()),
-        }
+        whole::stat(&mut &*self, path.path_bytes())
     }
 
     /// The names of a directory, in byte order.
     pub fn readdir(&self, path: impl AsPath) -> Result<Vec<Vec<u8>>, Error> {
-        match self.call(&Call::readdir(&path))? {
-            Reply::Names(names) => Ok(names),
-            _ => Err(ErrorKind::NoReply.into()),
-        }
+        whole::readdir(&mut &*self, path.path_bytes())
     }
 
     /// At most `count` bytes of a file from an offset on.
     pub fn read(&self, path: impl AsPath, offset: u64, count: u64) -> Result<Vec<u8>, Error> {
-        match self.call(&Call::read(&path, offset, count))? {
-            Reply::Bytes(bytes) => Ok(bytes),
-            _ => Err(ErrorKind::NoReply.into()),
-        }
+        whole::read(&mut &*self, path.path_bytes(), offset, count)
     }
 
     /// Writes bytes into a file at an offset, all of them or none, and tells how many.
@@ -136,10 +127,7 @@ impl SharedTree {
         offset: u64,
         bytes: impl AsRef<[u8]>,
     ) -> Result<u64, Error> {
-        match self.call(&Call::write(&path, offset, &bytes))? {
-            Reply::Wrote(count) => Ok(count),
-            _ => Err(ErrorKind::NoReply.into()),
-        }
+        whole::write(&mut &*self, path.path_bytes(), offset, bytes.as_ref())
     }
 
     /// Cuts a file to a size, or adds zeros up to it.
