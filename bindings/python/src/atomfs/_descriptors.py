@@ -14,7 +14,7 @@ import os
 from typing import TYPE_CHECKING, Any, Callable, ContextManager, Dict, NoReturn, Optional, TypeVar, cast
 
 from ._errors import file_too_large
-from ._values import room_of
+from ._file import RawFile
 
 if TYPE_CHECKING:
     from ._tree import Tree
@@ -255,79 +255,54 @@ class Descriptors:
         return at
 
 
-class DescribedFile(io.RawIOBase):
+class DescribedFile(RawFile):
     """A file object without a buffer over a descriptor."""
 
     def __init__(self, files: Descriptors, descriptor: int, name: Any, mode: str, closefd: bool) -> None:
-        super().__init__()
-        self.name, self.mode, self.closefd = name, mode, closefd
+        super().__init__(name, mode)
+        self.closefd = closefd
         self._files, self._descriptor = files, descriptor
-        self._reads, self._writes = "r" in mode or "+" in mode, "r" not in mode or "+" in mode
         if "a" in mode:
             self.seek(0, os.SEEK_END)
-
-    def _check(self, may: bool = True, what: str = "") -> int:
-        if self.closed:
-            raise ValueError("I/O operation on closed file")
-        if not may:
-            raise io.UnsupportedOperation(f"File not open for {what}")
-        return self._descriptor
 
     def _told(self) -> ContextManager[None]:
         """An error tells the name with which the file was opened, where it is a path."""
         return told(self.name) if isinstance(self.name, (str, bytes)) else contextlib.nullcontext()
 
-    def readable(self) -> bool:
-        self._check()
-        return self._reads
-
-    def writable(self) -> bool:
-        self._check()
-        return self._writes
-
-    def seekable(self) -> bool:
-        self._check()
-        return True
-
     def fileno(self) -> int:
-        return self._check()
+        self._check()
+        return self._descriptor
 
     def isatty(self) -> bool:
         self._check()
         return False
 
-    def readinto(self, buffer: Any) -> int:
-        descriptor = self._check(self._reads, "reading")
-        room = room_of(buffer)
+    def _next(self, count: int) -> bytes:
         with self._told():
-            data = self._files.read(descriptor, len(room))
-        room[: len(data)] = data
-        return len(data)
+            return self._files.read(self._descriptor, count)
 
     def readall(self) -> bytes:
-        descriptor = self._check(self._reads, "reading")
-        with self._told():
-            data = self._files.read(descriptor, READ)
-            if len(data) == READ:
-                data += self._files.read(descriptor, self._files.tree.limits.file_bytes)
-        return data
+        self._check(self._reads, "reading")
+        data = self._next(READ)
+        return data + self._next(self._files.tree.limits.file_bytes) if len(data) == READ else data
 
     def write(self, data: Any) -> int:
-        descriptor = self._check(self._writes, "writing")
+        self._check(self._writes, "writing")
         with self._told():
-            return self._files.write(descriptor, data)
+            return self._files.write(self._descriptor, data)
 
     def seek(self, offset: int, whence: int = os.SEEK_SET) -> int:
-        return self._files.seek(self._check(), offset, whence)
+        self._check()
+        return self._files.seek(self._descriptor, offset, whence)
 
     def tell(self) -> int:
-        return self._files.seek(self._check(), 0, os.SEEK_CUR)
+        return self.seek(0, os.SEEK_CUR)
 
     def truncate(self, size: Optional[int] = None) -> int:
-        descriptor = self._check(self._writes, "writing")
+        self._check(self._writes, "writing")
         size = self.tell() if size is None else size
         with self._told():
-            self._files.truncate(descriptor, size)
+            self._files.truncate(self._descriptor, size)
         return size
 
     def close(self) -> None:

@@ -9,7 +9,7 @@ from __future__ import annotations
 import io
 import operator
 import os
-from typing import TYPE_CHECKING, Any, Union
+from typing import TYPE_CHECKING, Any, Optional, Union
 
 from ._values import room_of
 
@@ -17,28 +17,19 @@ if TYPE_CHECKING:
     from ._tree import Tree
 
 
-class TreeFile(io.RawIOBase):
-    """The file at a path without a buffer: `mode` is one of `open`, and `create_file` has made the file before."""
+class RawFile(io.RawIOBase):
+    """A file object without a buffer, which reads and writes as its mode says."""
 
-    def __init__(self, tree: Tree, path: str, mode: str) -> None:
+    def __init__(self, name: Any, mode: str) -> None:
         super().__init__()
-        self.name, self.mode = path, mode.replace("t", "").replace("b", "") + "b"
-        self._tree, self._at = tree, 0
+        self.name, self.mode = name, mode
         self._reads, self._writes = "r" in mode or "+" in mode, "r" not in mode or "+" in mode
-        self._appends = "a" in mode
-        if self._appends:
-            self._at = self.size
-
-    @property
-    def size(self) -> int:
-        """How many bytes the file has now."""
-        return self._tree.stat(self.name).size
 
     def _check(self, may: bool = True, what: str = "") -> None:
         if self.closed:
             raise ValueError("I/O operation on closed file")
         if not may:
-            raise io.UnsupportedOperation(f"not {what}")
+            raise io.UnsupportedOperation(f"File not open for {what}")
 
     def readable(self) -> bool:
         self._check()
@@ -53,23 +44,44 @@ class TreeFile(io.RawIOBase):
         return True
 
     def readinto(self, buffer: Any) -> int:
-        self._check(self._reads, "readable")
+        self._check(self._reads, "reading")
         room = room_of(buffer)
-        with self._tree.lock:
-            data = self._tree.read(self.name, self._at, len(room))
-            self._at += len(data)
+        data = self._next(len(room))
         room[: len(data)] = data
         return len(data)
 
-    def readall(self) -> bytes:
-        self._check(self._reads, "readable")
+    def _next(self, count: int) -> bytes:
+        """At most so many bytes from where the file is, which goes on behind them."""
+        raise NotImplementedError
+
+
+class TreeFile(RawFile):
+    """The file at a path without a buffer: `mode` is one of `open`, and `create_file` has made the file before."""
+
+    def __init__(self, tree: Tree, path: str, mode: str) -> None:
+        super().__init__(path, mode.replace("t", "").replace("b", "") + "b")
+        self._tree, self._at = tree, 0
+        self._appends = "a" in mode
+        if self._appends:
+            self._at = self.size
+
+    @property
+    def size(self) -> int:
+        """How many bytes the file has now."""
+        return self._tree.stat(self.name).size
+
+    def _next(self, count: Optional[int]) -> bytes:
         with self._tree.lock:
-            data = self._tree.read(self.name, self._at)
+            data = self._tree.read(self.name, self._at, count)
             self._at += len(data)
         return data
 
+    def readall(self) -> bytes:
+        self._check(self._reads, "reading")
+        return self._next(None)
+
     def write(self, data: Any) -> int:
-        self._check(self._writes, "writable")
+        self._check(self._writes, "writing")
         with self._tree.lock:
             if self._appends:
                 self._at = self.size
@@ -94,9 +106,9 @@ class TreeFile(io.RawIOBase):
         self._check()
         return self._at
 
-    def truncate(self, size: Union[int, None] = None) -> int:
+    def truncate(self, size: Optional[int] = None) -> int:
         """Cuts the file, or adds zeros, and leaves the position."""
-        self._check(self._writes, "writable")
+        self._check(self._writes, "writing")
         size = self._at if size is None else size
         if size < 0:
             raise ValueError(f"negative size {size}")

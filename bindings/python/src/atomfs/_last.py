@@ -2,7 +2,7 @@
 from __future__ import annotations
 
 import contextlib
-from typing import TYPE_CHECKING, Dict, Iterable, List, Set, Tuple, Type
+from typing import TYPE_CHECKING, Iterable, List, Set, Tuple, Type
 
 from ._journal import NONE
 from ._library import NODE_LIMIT, Limits
