@@ -159,12 +159,11 @@ class Specs(unittest.TestCase):
             self.assertEqual(files.cat("/old"), b"old")
         self.assertEqual((files.cat("/new"), files.cat("/old"), files.cat("/text")), (b"new", b"old+", b"text"))
         self.assertEqual(files.cat("/lines"), b"ONE\ntwo\n")
-        with self.assertRaises(ZeroDivisionError):
-            with files.transaction:
-                for path, mode in (("/new", "wb"), ("/lines", "r+b")):
-                    with files.open(path, mode) as file:
-                        file.write(b"lost")
-                raise ZeroDivisionError
+        with self.assertRaises(ZeroDivisionError), files.transaction:
+            for path, mode in (("/new", "wb"), ("/lines", "r+b")):
+                with files.open(path, mode) as file:
+                    file.write(b"lost")
+            raise ZeroDivisionError
         self.assertEqual((files.cat("/new"), files.cat("/lines")), (b"new", b"ONE\ntwo\n"))
         self.assertEqual(files.ls("/", detail=False), ["/lines", "/new", "/old", "/text"])
 

@@ -215,11 +215,16 @@ def from_directory(tree: Tree, top: StrPath, on_error: OnError) -> None:
             found = sorted(entries, key=lambda entry: entry.name)
         for entry in found:
             with _told(on_error, entry.path):
-                if entry.is_dir(follow_symlinks=False):
-                    tree.mkdir(above + b"/" + entry.name)
-                    waiting.append((entry.path, above + b"/" + entry.name))
-                else:
-                    tree.write_bytes(above + b"/" + entry.name, _bytes_of(tree, entry))
+                waiting += _put_entry(tree, above + b"/" + entry.name, entry)
+
+
+def _put_entry(tree: Tree, path: bytes, entry: os.DirEntry[bytes]) -> List[Tuple[bytes, bytes]]:
+    """Makes what an entry of the disk is. Of a directory it answers where it stands on the disk and in the tree."""
+    if entry.is_dir(follow_symlinks=False):
+        tree.mkdir(path)
+        return [(entry.path, path)]
+    tree.write_bytes(path, _bytes_of(tree, entry))
+    return []
 
 
 @contextlib.contextmanager
@@ -259,12 +264,13 @@ def from_zip(tree: Tree, file: Union[StrPath, IO[bytes]]) -> None:
     """Makes what a zip has."""
     with zipfile.ZipFile(file) as archive:
         for info in archive.infolist():
-            path = "/" + info.filename.strip("/")
-            if info.is_dir():
-                put(tree, path, None)
-            else:
-                with archive.open(info) as member:
-                    put(tree, path, member.read(tree.limits.file_bytes + 1))
+            put(tree, "/" + info.filename.strip("/"), None if info.is_dir() else _bytes_in(archive, info, tree.limits))
+
+
+def _bytes_in(archive: zipfile.ZipFile, info: zipfile.ZipInfo, limits: Limits) -> bytes:
+    """The bytes of a file in a zip, at most one more than a file of these limits may have."""
+    with archive.open(info) as member:
+        return member.read(limits.file_bytes + 1)
 
 
 def to_zip(tree: Tree, file: Union[StrPath, IO[bytes]]) -> None:
