@@ -694,8 +694,6 @@ class Errors(OfPatch):
             lambda at: open(f"{at}/f", "wb").read(),
             lambda at: open(f"{at}/f", "wb").write("x"),
             lambda at: open(f"{at}/f", "rb", 0).readinto(b"abc"),
-            lambda at: open(f"{at}/f", "rb", 0).seek(1.5),
-            lambda at: os.lseek(os.open(f"{at}/f", os.O_RDONLY), 1.5, os.SEEK_SET),
             lambda at: os.write(os.open(f"{at}/f", os.O_WRONLY), "x"),
             lambda at: os.mkdir(f"{at}/x", no=1) if sys.flags.optimize else os.mkdir(),
         ):
@@ -715,6 +713,14 @@ class Errors(OfPatch):
             with self.subTest(kinds[0]):
                 self.assertEqual(kinds[1], kinds[0])
                 self.assertIn(self.tree.tree(), (before, before.replace("f 68656c6c6f", "f -")))
+
+    def test_places_that_are_no_whole_numbers(self):
+        """They are refused as those of the disk are from 3.10 on."""
+        with atomfs.patch(self.tree, at=AT):
+            filled(AT)
+            with open(f"{AT}/f", "rb", 0) as file:
+                self.assertRaises(TypeError, file.seek, 1.5)
+                self.assertRaises(TypeError, os.lseek, file.fileno(), 1.5, os.SEEK_SET)
 
     def test_limits(self):
         """The error has the path as it was given, and the limit."""
