@@ -1,6 +1,8 @@
 """How far a long command is, told on a terminal: tests/data/progress has what stands there, with every number as N, and each text once where it is
 repeated. What is written to standard output is the same with a terminal and without one.
 """
+import concurrent.futures
+import contextlib
 import os
 import pty
 import re
@@ -43,23 +45,30 @@ ROWS = (
 )
 
 
+def told_on(terminal):
+    """What is told on a terminal until nobody has it any more."""
+    told = b""
+    with contextlib.suppress(OSError):
+        while more := os.read(terminal, 65_536):
+            told += more
+    return told
+
+
 def on_terminal(given, *words):
     """The status, standard output, and what stood on the terminal that standard error was."""
     ours, theirs = pty.openpty()
-    with subprocess.Popen([program(), *words], stdin=subprocess.PIPE, stdout=subprocess.PIPE, stderr=theirs) as process:
+    pipes = {"stdin": subprocess.PIPE, "stdout": subprocess.PIPE, "stderr": theirs}
+    with concurrent.futures.ThreadPoolExecutor(1) as pool, subprocess.Popen([program(), *words], **pipes) as process:
         os.close(theirs)
-        output, _ = process.communicate(given, timeout=MOST_SECONDS)
-        told = b""
-        while True:
-            try:
-                more = os.read(ours, 65_536)
-            except OSError:
-                break
-            if not more:
-                break
-            told += more
+        # A terminal holds few bytes: a program of which nobody reads what it tells stands still.
+        told = pool.submit(told_on, ours)
+        try:
+            output, _ = process.communicate(given, timeout=MOST_SECONDS)
+        except BaseException:
+            process.kill()
+            raise
     os.close(ours)
-    return process.returncode, output, told
+    return process.returncode, output, told.result()
 
 
 def shown(told):
