@@ -59,8 +59,10 @@ impl fmt::Display for Linearized {
 /// use atomfs::Linearized;
 /// let begun = "atomfs-journal 1\nbegin 1 0 stat /a\nbegin 2 1 mkdir /a\nreturn 2 ok\n";
 /// let found = atomfs::linearize(format!("{begun}return 1 failed ?\n"), None)?;
-/// let Linearized::Lawful(journal) = found else { panic!("{found}") };
-/// assert_eq!(atomfs::check(journal)?, "lawful");
+/// match found {
+///     Linearized::Lawful(journal) => assert_eq!(atomfs::check(journal)?, "lawful"),
+///     other => panic!("{other}"),
+/// }
 /// let found = atomfs::linearize(format!("{begun}return 1 stat file 0\n"), None)?;
 /// assert_eq!(found.to_string(), "none 4 1");
 /// # Ok::<(), atomfs::Error>(())

@@ -66,8 +66,9 @@ const BEGUN: &str = "atomfs-journal 1\nbegin 1 0 mkdir /a\nbegin 2 1 stat /a\n";
 #[test]
 fn histories() {
     let history = format!("{BEGUN}return 2 stat dir ?\nreturn 1 ok\n");
-    let Linearized::Lawful(journal) = linearize(&history, None).unwrap() else {
-        panic!("it is lawful")
+    let journal = match linearize(&history, None).unwrap() {
+        Linearized::Lawful(journal) => journal,
+        other => panic!("it is lawful, and not {other}"),
     };
     assert_eq!(check(&journal).unwrap(), "lawful");
     assert_eq!(journal.matches("commit ").count(), 2);
