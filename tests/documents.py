@@ -565,9 +565,16 @@ class Commands(Page):
         self.each(self.of_a_shell(r"python3 tests/model\.py \S+"), self.output)
 
     def test_of_a_row(self):
-        """The command that looks at one row."""
+        """The command that is told of a row that failed looks at this row, and at none where none is called so."""
         harness.takes_a_process()
-        self.each(self.of_a_shell(r"ROW=.* python3 tests/\w+\.py .*"), self.output)
+        self.each((("a row", "BadHex", "OK"), ("no row", "no word", "OK (skipped=1)")), self.look_at_row)
+
+    def look_at_row(self, row, told):
+        case = Explained("test_each_kind")
+        case.row = row
+        end = {"cwd": ROOT, "stdin": subprocess.DEVNULL, "capture_output": True, "text": True, "timeout": harness.MOST_SECONDS}
+        done = subprocess.run(["bash", "-c", case.alone()], **end)
+        self.same(case.alone(), (done.returncode, done.stderr.splitlines()[-1]), (0, told))
 
     def test_examples_run(self):
         """The program that is built here runs the worked example, or the script that is named."""
