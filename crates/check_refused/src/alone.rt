@@ -123,11 +123,11 @@ fn in_all(bytes: &[u8]) -> u64 {
     sum
 }
 
-fn show_bytes(rt: &impl Print, bytes: &[u8]) -> io::Result<()> {
+pub fn show_bytes(rt: &impl Print, bytes: &[u8]) -> io::Result<()> {
     println!(rt; "bytes: {}, in all {}", bytes.len(), in_all(bytes))
 }
 
-fn show(rt: &impl Print, reply: &Reply) -> io::Result<()> {
+pub fn show(rt: &impl Print, reply: &Reply) -> io::Result<()> {
     match reply {
         Reply::Done => println!(rt; "done"),
         Reply::Stat(Kind::Dir, entries) => println!(rt; "a directory of {entries}"),

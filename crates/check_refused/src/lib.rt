@@ -1,11 +1,12 @@
 //! Does each thing that takes memory, and once more where memory was refused: on shared trees sessions, told calls,
-//! observers, jobs, checkpoints and lists of calls, and by one thread alone the sequential tree, a core, its texts and
-//! `Memory`. Neither the program nor the library for C has sessions, observers and pools, and both have a sequential tree
+//! observers, jobs, checkpoints and lists of calls, and by one thread alone the sequential tree, a file in blocks, a core, its
+//! texts and `Memory`. Neither the program nor the library for C has sessions, observers and pools, and both have a sequential tree
 //! only inside a check, which ends where memory is refused. But for the last line, what is written is the same whichever
 //! growth is refused.
 #![tactic(auto)]
 
 mod alone;
+mod blocks;
 mod counted;
 mod lists;
 mod shared;
@@ -23,7 +24,7 @@ use std::thread::Threads;
 use std::time::Clock;
 
 /// The calls of a session, those of which others are told, and those of the sequential tree, which grow all that it holds:
-/// nodes, entries, bytes and replies; at last looks at that tree.
+/// nodes, entries, bytes and replies; looks at that tree; and those of a file in blocks, at their edges and the limit.
 const CALLS: &[u8] = b"\
 atomfs 1
 thread session
@@ -77,6 +78,18 @@ thread looks
 stat /d
 readdir /d
 read /d/e/a 3 5
+thread blocks
+write /f 16382 68656c6c6f
+write /f 40000 68656c6c6f
+truncate /f 16384
+truncate /f 49153
+write /f 32766 68656c6c6f
+truncate /f 16383
+write /f 65531 68656c6c6f
+write /f 65532 68656c6c6f
+truncate /f 65535
+truncate /f 65537
+write /f 0 68656c6c6f
 schedule
 ";
 
@@ -161,10 +174,11 @@ pub fn run<R: Print + Threads + Wait + Clock + Sync>(rt: &R, alloc: Global) -> a
         println!(rt; "stopped")?;
     }
     let refused = alone::run(rt, alloc, calls(&script, 2), calls(&script, 3))?;
+    let finished = blocks::run(rt, alloc, calls(&script, 4))?;
     let asked = counted::ask(alloc)?;
     let begun = count(rt, alloc, calls(&script, 2))?;
     let written = say_texts(rt, alloc, calls(&script, 0))?;
     let refused = asked.wrapping_add(begun).wrapping_add(refused as u64);
-    let refused = refused.wrapping_add(written);
+    let refused = refused.wrapping_add(finished).wrapping_add(written);
     Ok(println!(rt; "refused: {refused}, jobs {}", jobs.unwrap_or(0))?)
 }

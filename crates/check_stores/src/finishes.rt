@@ -30,13 +30,13 @@ const COUNTS: [usize; 4] = [0, 1, BLOCK, BLOCK + 1];
 
 /// A file, alone in its store.
 #[derive(Drop)]
-struct Held {
+pub struct Held {
     store: Store,
     file: NodeNo,
 }
 
 impl Held {
-    fn new(alloc: Global, in_blocks: bool) -> Result<Held> {
+    pub fn new(alloc: Global, in_blocks: bool) -> Result<Held> {
         let mut store = Store::with_form(alloc, 2, in_blocks)?;
         let Ok(file) = store.reserve(Kind::File) else {
             bail!("no number is left")
@@ -44,8 +44,13 @@ impl Held {
         Ok(Held { store, file })
     }
 
+    /// How many bytes it has.
+    pub fn len(&self) -> usize {
+        self.store.len(self.file)
+    }
+
     /// The room for a call is made, and the call finishes in it.
-    fn finish(&mut self, alloc: Global, call: &Call) -> Result<Reply> {
+    pub fn finish(&mut self, alloc: Global, call: &Call) -> Result<Reply> {
         let in_blocks = self.store.is_in_blocks();
         let room = Room::new(alloc, &mut Memory::new(), in_blocks, LIMITS, call)?;
         let replies = match call {
@@ -64,8 +69,8 @@ impl Held {
     }
 
     /// All its bytes.
-    fn bytes(&self, alloc: Global) -> Result<Vec<u8>> {
-        let count = self.store.len(self.file);
+    pub fn bytes(&self, alloc: Global) -> Result<Vec<u8>> {
+        let count = self.len();
         let mut bytes = Vec::with_capacity(alloc, count)?;
         self.store.read(self.file, 0, count as u64, &mut bytes);
         Ok(bytes)

@@ -12,7 +12,7 @@
 mod crowded;
 mod drawing;
 mod files;
-mod finishes;
+pub mod finishes;
 mod swaps;
 mod tally;
 mod twins;
