@@ -872,7 +872,7 @@ def limits():
     of_searches = "fs_outcomes/src/running.rt", "fs_find/src/finding.rt", "fs_shrink/src/limits.rt", "fs_recorded/src/linearizing.rt"
     found = {name: [value] for file in ("fs_names/src/limits.rt", *of_texts, *of_searches) for name, value in constants(file).items()}
     values = [int(value) for value in re.findall(r"Limits::V[12] => ([\d_]+)", source("fs_names/src/limits.rt"))]
-    return found | {"name_limit": values[:2], "entry_limit": values[2:4], "file_limit": values[4:]}
+    return found | {"path_limit": values[:2], "name_limit": values[2:4], "entry_limit": values[4:6], "file_limit": values[6:]}
 
 
 @functools.cache
@@ -898,7 +898,8 @@ class Touched(Sentences):
     # Where calls and limits stand that no compiler and no prover points to.
     HAVE = (
         *(("rename", file) for file in ("crates/fs_calls/src/table.rt", "crates/fs_calls/specs/Rows.antt", "crates/fs_machine/specs/Moves.antt", "tests/model.py", "embed/atomfs.h")),
-        *(("PATH_LIMIT", file) for file in ("crates/fs_walk/src/walk.rt", "crates/fs_names/proofs/ReadingLemmas.antt", "tests/data/explained/TooManyNames")),
+        *(("PATH_LIMIT", file) for file in ("crates/fs_walk/src/walk.rt", "crates/fs_names/specs/Keys.antt", "tests/data/explained/TooManyNames")),
+        *(("path_limit", file) for file in ("crates/fs_names/specs/Reading.antt", "crates/fs_text/specs/Fits.antt", "tests/data/explained/TooManyNames")),
         *(("entry_limit", file) for file in ("crates/fs_calls/specs/Forms.antt", "crates/fs_calls/specs/Examples.antt", "crates/fs_seq/specs/Rows.antt", "tests/data/transcripts/trees")),
         *(("NODE_LIMIT", file) for file in ("crates/fs_nodes/src/store.rt", "crates/fs_laws/specs/Events.antt", "embed/atomfs.h", "docs/SPECIFICATION.md")),
         *(("TEXT_LIMIT", file) for file in ("crates/fs_io/specs/Devices.antt", "crates/fs_words/proofs/ReadLemmas.antt", "docs/FORMATS.md", "tests/data/explained/TooLarge")),
@@ -1095,12 +1096,12 @@ class Numbers(Sentences):
         limits = constants("fs_names/src/limits.rt")
         rows = {spans(name)[0]: (first, second) for _, first, second, name in table(SPECIFICATION, "What", "`V1`", "`V2`", "Named by")}
         self.agrees("the limits", {name: number(first) for name, (first, _) in rows.items() if name in limits}, limits)
-        (name, longer), (fewer, entries), (file, larger) = (map(number, rows[f"Limits::{what}"]) for what in ("name", "entries", "file"))
+        (path, deeper), (name, longer), (fewer, entries), (file, larger) = (map(number, rows[f"Limits::{what}"]) for what in ("path_names", "name", "entries", "file"))
         source = (CRATES / "fs_names" / "src" / "limits.rt").read_text()
         found = [int(value) for value in re.findall(r"Limits::V[12] => ([\d_]+)", source)]
-        self.agrees("the two sets of limits", [name, longer, fewer, entries, file, larger], found)
-        names, nodes = limits["PATH_LIMIT"], limits["NODE_LIMIT"]
-        self.says(README, f"names of {longer} bytes, files of {larger:,}, {entries} entries in a directory, paths of {names} names, {nodes:,} nodes")
+        self.agrees("the two sets of limits", [path, deeper, name, longer, fewer, entries, file, larger], found)
+        nodes = limits["NODE_LIMIT"]
+        self.says(README, f"names of {longer} bytes, files of {larger:,}, {entries} entries in a directory, paths of {deeper} names, {nodes:,} nodes")
         self.says(README, f"Scripts `atomfs 1` and `atomfs_open` have names of {name} bytes and files of {file:,}")
         self.says(CHOOSING, f"{entries} entries in a directory, {larger:,} bytes in a file, {longer} in a name")
         header = (ROOT / "embed" / "atomfs.h").read_text()

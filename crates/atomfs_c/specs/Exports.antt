@@ -8,7 +8,6 @@ use Rattle.fs_nodes.specs.Graphs.{graph_shapes}
 use Rattle.fs_nodes.specs.Stores.{graph_of}
 use Rattle.fs_timeline.specs.Timeline as timeline
 use Rattle.fs_names.specs.Keys.{Key}
-use Rattle.fs_names.specs.Limits.{name_limit}
 use Rattle.fs_names.specs.Reading.{reading}
 use Rattle.fs_names.specs.declared.fault.PathFault.{PathFault}
 use Rattle.fs_names.specs.declared.limits.TheConstants.{NODE_LIMIT}
@@ -35,7 +34,7 @@ reading_status (Err fault) = path_status fault
 -- what a status says of bytes as a path by the limits of a version: that they are one, why they are none, or out of memory
 abbrev pub TellsPath : Option Limits → List ℕ → ℕ → Type 0
 TellsPath None bytes status = status ≡ BAD_VERSION
-TellsPath (Some limits) bytes status = (status ≡ reading_status (reading (name_limit limits) bytes)) ⊎ (status ≡ NO_MEMORY)
+TellsPath (Some limits) bytes status = (status ≡ reading_status (reading limits bytes)) ⊎ (status ≡ NO_MEMORY)
 
 -- a core before anything began, without seats
 abbrev pub IsOpened : Limits → ℕ → CoreValue → Type 0

@@ -13,7 +13,6 @@ use Rattle.fs_machine.specs.declared.answers.Refusal.TheVariants.{OutOfMemory, S
 use Rattle.fs_machine.specs.declared.answers.Stepped.{Stepped}
 use Rattle.fs_machine.specs.declared.answers.Stepped.TheVariants.{Idle, Took, Busy, LetGo, Helped, Committed, CarriedOut, Returned}
 use Rattle.fs_embed.specs.Requests.{Asked}
-use Rattle.fs_embed.specs.Looks.{most_of}
 use Rattle.fs_embed.specs.declared.calls.NotBegun.{NotBegun}
 use Rattle.fs_embed.specs.declared.calls.NotBegun.TheVariants as not_begun
 use Rattle.fs_embed.specs.declared.calls.NotReturned.{NotReturned}
@@ -21,7 +20,7 @@ use Rattle.fs_embed.specs.declared.calls.NotReturned.TheVariants as not_returned
 
 -- the call that is asked for begins on a seat under a number, and this is the state after
 abbrev pub Opens : CoreValue → ℕ → Asked → ℕ → State → Type 0
-Opens old seat given number first = (call : Call) × (given (most_of old) ≡ Ok call) × Begins (state_of old) seat call (Ok number) first
+Opens old seat given number first = (call : Call) × (given old.start.limits ≡ Ok call) × Begins (state_of old) seat call (Ok number) first
 
 -- the same, nothing else happens, and no memory was refused
 abbrev pub BeginsCall : CoreValue → ℕ → Asked → ℕ → CoreValue → Type 0
@@ -41,8 +40,8 @@ IsCounted Full old new = new ≡ old
 -- why the call that is asked for did not begin, and that nothing changed
 abbrev pub IsNotBegun : CoreValue → ℕ → Asked → NotBegun → CoreValue → Type 0
 IsNotBegun old seat given not_begun.NoSeat new = (length old.seats ≤ seat) × (new ≡ old)
-IsNotBegun old seat given (not_begun.Unread k) new = IsNoCall (given (most_of old)) k × (new ≡ old)
-IsNotBegun old seat given (not_begun.Refused refusal) new = (call : Call) × (given (most_of old) ≡ Ok call) × Begins (state_of old) seat call (Err refusal) (state_of new) × IsCounted refusal old.refusals new.refusals
+IsNotBegun old seat given (not_begun.Unread k) new = IsNoCall (given old.start.limits) k × (new ≡ old)
+IsNotBegun old seat given (not_begun.Refused refusal) new = (call : Call) × (given old.start.limits ≡ Ok call) × Begins (state_of old) seat call (Err refusal) (state_of new) × IsCounted refusal old.refusals new.refusals
 
 -- steps of a seat, none or more, of which none returns
 pub data Steps (seat : ℕ) : State → State → Type 0 where

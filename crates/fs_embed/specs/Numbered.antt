@@ -17,7 +17,7 @@ asked_with_more number path other off size bytes =
     else (if number == 8 then on_path (λ p. Read p off size) path
     else (if number == 9 then on_path (λ p. Write p off bytes) path
     else (if number == 10 then on_path (λ p. Truncate p size) path
-    else λ most. Err kind.BadLine))))
+    else λ limits. Err kind.BadLine))))
 
 -- the call of a number, with the parts that it has of those that may stand with it
 abbrev pub asked_by : ℕ → List ℕ → List ℕ → ℕ → ℕ → List ℕ → Asked

@@ -3,7 +3,7 @@
 ghost use Rattle.std.specs.Prelude.{◌≡◌, IfOk, IfErr};
 ghost use Rattle.fs_nodes.specs.Stores as stores;
 ghost use Rattle.fs_nodes.specs.Stores.{shape};
-ghost use Rattle.fs_embed.specs.Looks.{most_of, Leads, IsNoPath};
+ghost use Rattle.fs_embed.specs.Looks.{Leads, IsNoPath};
 
 use fs_core::Core;
 use fs_names::Kind;
@@ -29,7 +29,7 @@ fn kind_at(store: &Store, node: NodeNo) -> Option<Kind>
 /// and no entry is made, so it says nothing of the order of the calls under way.
 pub fn kind_of(alloc: Global, core: &Core, word: &[u8]) -> Result<Option<Kind>, FaultKind>
     ensures ok { IfOk result (λ kind. Leads core.now word.now kind) }
-    ensures err { IfErr result (IsNoPath (most_of core.now) word.now) }
+    ensures err { IfErr result (IsNoPath core.now.start.limits word.now) }
 {
     let path = match path_at(alloc, core.start().limits(), word) {
         Ok(path) => path,

@@ -1,7 +1,6 @@
 //! What a caller asks for: a call by its line, or by its parts.
 
 ghost use Rattle.std.specs.Prelude.{◌≡◌, Ok, IsOk, MatchOption};
-ghost use Rattle.fs_names.specs.Limits.{name_limit};
 ghost use Rattle.fs_names.specs.Reading.{reading, FailsWith};
 ghost use Rattle.fs_words.specs.Reading.{or_bad_path};
 ghost use Rattle.fs_words.specs.code.Answers.{Gives};
@@ -47,7 +46,7 @@ pub enum Request<'a> {
 
 /// The call that a line spells.
 fn call_in(alloc: Global, limits: Limits, line: &[u8]) -> Result<Call, FaultKind>
-    ensures { Gives (λ call. call) result (call_in line.now (name_limit limits)) }
+    ensures { Gives (λ call. call) result (call_in line.now limits) }
 {
     let mut words = Vec::new(alloc);
     if let Err(kind) = cut_words(line, &mut words) {
@@ -58,7 +57,7 @@ fn call_in(alloc: Global, limits: Limits, line: &[u8]) -> Result<Call, FaultKind
 
 /// The path that bytes spell.
 fn path_in(alloc: Global, limits: Limits, bytes: &[u8]) -> Result<Path, FaultKind>
-    ensures { Gives (λ path. path) result (or_bad_path (reading (name_limit limits) bytes.now)) }
+    ensures { Gives (λ path. path) result (or_bad_path (reading limits bytes.now)) }
 {
     match Path::parse_with(alloc, bytes, limits) {
         Ok(path) => Ok(path),
@@ -69,7 +68,7 @@ fn path_in(alloc: Global, limits: Limits, bytes: &[u8]) -> Result<Path, FaultKin
 
 /// What is wrong with bytes as a path by these limits, or out of memory; `None` where they spell one.
 pub fn path_fault(alloc: Global, limits: Limits, bytes: &[u8]) -> Option<PathFault>
-    ensures { MatchOption result (IsOk (reading (name_limit limits) bytes.now)) (λ fault. FailsWith fault (reading (name_limit limits) bytes.now)) }
+    ensures { MatchOption result (IsOk (reading limits bytes.now)) (λ fault. FailsWith fault (reading limits bytes.now)) }
 {
     match Path::parse_with(alloc, bytes, limits) {
         Ok(_) => None,
@@ -84,7 +83,7 @@ fn both_in(
     bytes: &[u8],
     other: &[u8],
 ) -> Result<(Path, Path), FaultKind>
-    ensures { Gives (λ both. (both.0, both.1)) result (both_in bytes.now other.now (name_limit limits)) }
+    ensures { Gives (λ both. (both.0, both.1)) result (both_in bytes.now other.now limits) }
 {
     let path = match path_in(alloc, limits, bytes) {
         Ok(path) => path,
@@ -109,7 +108,7 @@ fn copied(alloc: Global, bytes: &[u8]) -> Result<Data, FaultKind>
 impl<'a> Request<'a> {
     /// The call that is asked for, read by these limits.
     pub fn call(self, alloc: Global, limits: Limits) -> Result<Call, FaultKind>
-        ensures { Gives (λ call. call) result (asked self.entry (name_limit limits)) }
+        ensures { Gives (λ call. call) result (asked self.entry limits) }
     {
         match self {
             Request::Line(line) => call_in(alloc, limits, line),

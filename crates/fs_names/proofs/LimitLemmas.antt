@@ -1,9 +1,31 @@
 -- What the limits of every set are, decided set by set.
-use Rattle.std.proofs.Common.{◌≡◌, ◌≤◌, ◌<◌, ◌^◌, false, None, refl, arith}
-use Rattle.fs_names.specs.Limits.{entry_limit, file_limit}
+use Rattle.std.proofs.Common.{◌≡◌, ◌≤◌, ◌<◌, ◌^◌, true, false, None, refl, arith}
+use Rattle.fs_names.specs.Limits.{largest, same_limits, path_limit, name_limit, entry_limit, file_limit}
 use Rattle.fs_names.specs.Shapes.{is_full}
 use Rattle.fs_names.specs.declared.limits.Limits.{Limits}
+use Rattle.fs_names.specs.declared.limits.TheConstants.{PATH_LIMIT}
 use Rattle.fs_names.specs.declared.limits.Limits.TheVariants.{V1, V2}
+
+-- sets that are the same are one
+pub one_set : (a b : Limits) → same_limits a b ≡ true → a ≡ b
+one_set V1 V1 e = refl
+one_set V1 V2 e = absurd (cc)
+one_set V2 V1 e = absurd (cc)
+one_set V2 V2 e = refl
+
+-- a path of each set has room
+pub paths_have_room : (limits : Limits) → path_limit limits ≤ PATH_LIMIT
+paths_have_room V1 = omega arith
+paths_have_room V2 = omega arith
+
+-- each path that there is room for is one of the largest set
+pub room_is_largest : PATH_LIMIT ≤ path_limit largest
+room_is_largest = omega arith
+
+-- the names of the largest set are the longest
+pub longest_names : (limits : Limits) → name_limit limits ≤ name_limit largest
+longest_names V1 = omega arith
+longest_names V2 = omega arith
 
 -- a directory may have an entry
 pub some_entries : (limits : Limits) → 1 ≤ entry_limit limits

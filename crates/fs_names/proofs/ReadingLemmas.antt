@@ -8,14 +8,14 @@ use Rattle.std.proofs.lemmas.List.{map-append}
 use Rattle.std.proofs.lemmas.List.Elements.{All-nil, All-cons, All-filter, All-get_or, recursion_from_All}
 use Rattle.fs_names.specs.Names.{Name, may_stand, can_name, is_dots, AreBytes, IsName}
 use Rattle.fs_names.specs.Keys.{Key}
-use Rattle.fs_names.specs.Limits.{name_limit}
+use Rattle.fs_names.specs.Limits.{largest, name_limit, path_limit}
 use Rattle.fs_names.specs.declared.limits.Limits.{Limits}
-use Rattle.fs_names.specs.declared.limits.Limits.TheVariants.{V1, V2}
 use Rattle.fs_names.specs.declared.fault.PathFault.{PathFault}
 use Rattle.fs_names.specs.declared.fault.PathFault.TheVariants.{NotAbsolute, Nul, TooManyNames, NameTooLong, Dot}
 use Rattle.fs_names.specs.Reading.{names, is_slash, is_zero, has_bytes, starts_at_root, first_fault, name_fault, path_fault, if_sound, reading}
 use Rattle.fs_names.specs.Failures.{check, or_else}
 use Rattle.fs_names.proofs.FailureLemmas.{check-none, or_else-none}
+use Rattle.fs_names.proofs.LimitLemmas.{longest_names}
 
 -- where neither of two tests holds, the first does not
 or_first : (a b : Bool) → (a || b) ≡ false → a ≡ false
@@ -53,57 +53,57 @@ none-or_else : {F : Type 0} (a b : Option F) → a ≡ None → b ≡ None → o
 none-or_else a b e f = ap (λ z. or_else z b) e ∙ f
 
 -- one name more is right
-right_from : (most n : ℕ) (key : Key) (k : ℕ) (x : Name) → k < length key → x ≡ get_or key k x → first_fault most n (take k key) ≡ None → name_fault most (n + k) x ≡ None
-    → first_fault most n (take (suc k) key) ≡ None
-right_from most n [] k x h e before here = absurd (omega arith)
-right_from most n (y ∷ key) zero x h e before here =
+right_from : (limits : Limits) (n : ℕ) (key : Key) (k : ℕ) (x : Name) → k < length key → x ≡ get_or key k x → first_fault limits n (take k key) ≡ None → name_fault limits (n + k) x ≡ None
+    → first_fault limits n (take (suc k) key) ≡ None
+right_from limits n [] k x h e before here = absurd (omega arith)
+right_from limits n (y ∷ key) zero x h e before here =
     let start : n ≡ n + 0 = omega arith in
-    none-or_else (name_fault most n y) None (ap (λ z. name_fault most z y) start ∙ ap (name_fault most (n + 0)) (sym e) ∙ here) refl
-right_from most n (y ∷ key) (suc k) x h e before here =
-    let both = or_else-none (name_fault most n y) (first_fault most (n + 1) (take k key)) before in
+    none-or_else (name_fault limits n y) None (ap (λ z. name_fault limits z y) start ∙ ap (name_fault limits (n + 0)) (sym e) ∙ here) refl
+right_from limits n (y ∷ key) (suc k) x h e before here =
+    let both = or_else-none (name_fault limits n y) (first_fault limits (n + 1) (take k key)) before in
     let start : (n + 1) + k ≡ n + suc k = omega arith in
-    none-or_else (name_fault most n y) _ both.0 (right_from most (n + 1) key k x (omega arith) e both.1 (ap (λ z. name_fault most z x) start ∙ here))
+    none-or_else (name_fault limits n y) _ both.0 (right_from limits (n + 1) key k x (omega arith) e both.1 (ap (λ z. name_fault limits z x) start ∙ here))
 
 -- where the names before it are right, a wrong name is the first
-fault_from : (most n : ℕ) (key : Key) (k : ℕ) (x : Name) (fault : PathFault) → k < length key → x ≡ get_or key k x → first_fault most n (take k key) ≡ None → name_fault most (n + k) x ≡ Some fault
-    → first_fault most n key ≡ Some fault
-fault_from most n [] k x fault h e before here = absurd (omega arith)
-fault_from most n (y ∷ key) zero x fault h e before here =
+fault_from : (limits : Limits) (n : ℕ) (key : Key) (k : ℕ) (x : Name) (fault : PathFault) → k < length key → x ≡ get_or key k x → first_fault limits n (take k key) ≡ None → name_fault limits (n + k) x ≡ Some fault
+    → first_fault limits n key ≡ Some fault
+fault_from limits n [] k x fault h e before here = absurd (omega arith)
+fault_from limits n (y ∷ key) zero x fault h e before here =
     let start : n ≡ n + 0 = omega arith in
-    ap (λ z. or_else z (first_fault most (n + 1) key)) (ap (λ z. name_fault most z y) start ∙ ap (name_fault most (n + 0)) (sym e) ∙ here)
-fault_from most n (y ∷ key) (suc k) x fault h e before here =
-    let both = or_else-none (name_fault most n y) (first_fault most (n + 1) (take k key)) before in
+    ap (λ z. or_else z (first_fault limits (n + 1) key)) (ap (λ z. name_fault limits z y) start ∙ ap (name_fault limits (n + 0)) (sym e) ∙ here)
+fault_from limits n (y ∷ key) (suc k) x fault h e before here =
+    let both = or_else-none (name_fault limits n y) (first_fault limits (n + 1) (take k key)) before in
     let start : (n + 1) + k ≡ n + suc k = omega arith in
-    ap (λ z. or_else z (first_fault most (n + 1) key)) both.0
-    ∙ fault_from most (n + 1) key k x fault (omega arith) e both.1 (ap (λ z. name_fault most z x) start ∙ here)
+    ap (λ z. or_else z (first_fault limits (n + 1) key)) both.0
+    ∙ fault_from limits (n + 1) key k x fault (omega arith) e both.1 (ap (λ z. name_fault limits z x) start ∙ here)
 
 -- a turn of the reader: a right name comes behind the others
-pub read_one : (most : ℕ) (all read new : Key) (k : ℕ) (x : Name) → read ≡ take k all → length read ≡ k → (k < length all) × (x ≡ get_or all k x) → new ≡ read ++ x ∷ [] → first_fault most 0 read ≡ None → name_fault most (length read) x ≡ None
-    → (new ≡ take (k + 1) all) × (first_fault most 0 new ≡ None)
-read_one most all read new k x e count at f before here =
+pub read_one : (limits : Limits) (all read new : Key) (k : ℕ) (x : Name) → read ≡ take k all → length read ≡ k → (k < length all) × (x ≡ get_or all k x) → new ≡ read ++ x ∷ [] → first_fault limits 0 read ≡ None → name_fault limits (length read) x ≡ None
+    → (new ≡ take (k + 1) all) × (first_fault limits 0 new ≡ None)
+read_one limits all read new k x e count at f before here =
     let place : 0 + k ≡ length read = omega arith in
     let taken : new ≡ take (suc k) all = f ∙ ap (λ z. z ++ x ∷ []) e ∙ ap (λ z. take k all ++ z ∷ []) at.1 ∙ sym (take-suc all k x at.0) in
-    (taken ∙ ap (λ n. take n all) (sym (add-one k)), ap (first_fault most 0) taken ∙ right_from most 0 all k x at.0 at.1 (ap (first_fault most 0) (sym e) ∙ before) (ap (λ n. name_fault most n x) place ∙ here))
+    (taken ∙ ap (λ n. take n all) (sym (add-one k)), ap (first_fault limits 0) taken ∙ right_from limits 0 all k x at.0 at.1 (ap (first_fault limits 0) (sym e) ∙ before) (ap (λ n. name_fault limits n x) place ∙ here))
 
 -- a turn of the reader: a wrong name is the first that is wrong
-pub fault_one : (most : ℕ) (all read : Key) (k : ℕ) (x : Name) (fault : PathFault) → read ≡ take k all → length read ≡ k → (k < length all) × (x ≡ get_or all k x) → first_fault most 0 read ≡ None → name_fault most (length read) x ≡ Some fault → first_fault most 0 all ≡ Some fault
-fault_one most all read k x fault e count at before here =
+pub fault_one : (limits : Limits) (all read : Key) (k : ℕ) (x : Name) (fault : PathFault) → read ≡ take k all → length read ≡ k → (k < length all) × (x ≡ get_or all k x) → first_fault limits 0 read ≡ None → name_fault limits (length read) x ≡ Some fault → first_fault limits 0 all ≡ Some fault
+fault_one limits all read k x fault e count at before here =
     let place : 0 + k ≡ length read = omega arith in
-    fault_from most 0 all k x fault at.0 at.1 (ap (first_fault most 0) (sym e) ∙ before) (ap (λ n. name_fault most n x) place ∙ here)
+    fault_from limits 0 all k x fault at.0 at.1 (ap (first_fault limits 0) (sym e) ∙ before) (ap (λ n. name_fault limits n x) place ∙ here)
 
 -- a name that is right stands within the limit
-pub within : (most n : ℕ) (x : Name) → name_fault most n x ≡ None → n < 64
-within most n x e =
-    let few : nat_le 64 n ≡ false = check-none _ TooManyNames (or_else-none (check (nat_le 64 n) TooManyNames) _ e).0 in
+pub within : (limits : Limits) (n : ℕ) (x : Name) → name_fault limits n x ≡ None → n < path_limit limits
+within limits n x e =
+    let few : nat_le (path_limit limits) n ≡ false = check-none _ TooManyNames (or_else-none (check (nat_le (path_limit limits) n) TooManyNames) _ e).0 in
     grind (arith, nat_tests)
 
 -- names of which none is wrong are no more than the limit
-pub not_too_many : (most n : ℕ) (key : Key) → n ≤ 64 → first_fault most n key ≡ None → n + length key ≤ 64
-not_too_many most n [] h e = omega arith
-not_too_many most n (x ∷ key) h e =
-    let both = or_else-none (name_fault most n x) (first_fault most (n + 1) key) e in
-    let room = within most n x both.0 in
-    let rest : (n + 1) + length key ≤ 64 = not_too_many most (n + 1) key (omega arith) both.1 in
+pub not_too_many : (limits : Limits) (n : ℕ) (key : Key) → n ≤ path_limit limits → first_fault limits n key ≡ None → n + length key ≤ path_limit limits
+not_too_many limits n [] h e = omega arith
+not_too_many limits n (x ∷ key) h e =
+    let both = or_else-none (name_fault limits n x) (first_fault limits (n + 1) key) e in
+    let room = within limits n x both.0 in
+    let rest : (n + 1) + length key ≤ path_limit limits = not_too_many limits (n + 1) key (omega arith) both.1 in
     omega arith
 
 -- the names that are read stand at the front of all
@@ -117,14 +117,15 @@ place_of all read more x e =
     (omega (arith, ap length e, long), sym (get_or-append_seam read x more x) ∙ ap (λ z. get_or z (length read) x) e)
 
 -- bytes that may stand, of which none is wrong as a name, are a name
-pub right_name : (most n : ℕ) (x : Name) → most ≤ name_limit V2 → 0 < length x → list_all may_stand x ≡ true → name_fault most n x ≡ None → IsTrue (can_name x)
-right_name most n x fits some stands e =
-    let behind = (or_else-none (check (nat_le 64 n) TooManyNames) _ e).1 in
-    let both = or_else-none (check (nat_lt most (length x)) NameTooLong) _ behind in
-    let short : nat_lt most (length x) ≡ false = check-none _ NameTooLong both.0 in
+pub right_name : (limits : Limits) (n : ℕ) (x : Name) → 0 < length x → list_all may_stand x ≡ true → name_fault limits n x ≡ None → IsTrue (can_name x)
+right_name limits n x some stands e =
+    let fits = longest_names limits in
+    let behind = (or_else-none (check (nat_le (path_limit limits) n) TooManyNames) _ e).1 in
+    let both = or_else-none (check (nat_lt (name_limit limits) (length x)) NameTooLong) _ behind in
+    let short : nat_lt (name_limit limits) (length x) ≡ false = check-none _ NameTooLong both.0 in
     let dots : is_dots x ≡ false = check-none _ Dot (or_else-none (check (is_dots x) Dot) None both.1).0 in
     let low : nat_le 1 (length x) ≡ true = grind (arith, nat_tests) in
-    let high : nat_le (length x) (name_limit V2) ≡ true = grind (arith, nat_tests) in
+    let high : nat_le (length x) (name_limit largest) ≡ true = grind (arith, nat_tests) in
     rw (low, high, stands, dots) refl
 
 -- ---- the names that are read
@@ -171,44 +172,45 @@ kept_some ([] ∷ pieces) = kept_some pieces
 kept_some ((b ∷ bs) ∷ pieces) = (omega arith, kept_some pieces)
 
 -- names of which none is wrong may each be one
-right_names : (most n : ℕ) (key : Key) → most ≤ name_limit V2 → AllByRecursion (λ (x : Name). list_all may_stand x ≡ true) key → AllByRecursion (λ (x : Name). 0 < length x) key → AllByRecursion AreBytes key → first_fault most n key ≡ None → AllByRecursion IsName key
-right_names most n [] fits stands some bytes e = tt
-right_names most n (x ∷ key) fits stands some bytes e =
-    let both = or_else-none (name_fault most n x) (first_fault most (n + 1) key) e in
-    (record { test = right_name most n x fits some.0 stands.0 both.0; bytes = bytes.0 }, right_names most (n + 1) key fits stands.1 some.1 bytes.1 both.1)
+right_names : (limits : Limits) (n : ℕ) (key : Key) → AllByRecursion (λ (x : Name). list_all may_stand x ≡ true) key → AllByRecursion (λ (x : Name). 0 < length x) key → AllByRecursion AreBytes key → first_fault limits n key ≡ None → AllByRecursion IsName key
+right_names limits n [] stands some bytes e = tt
+right_names limits n (x ∷ key) stands some bytes e =
+    let both = or_else-none (name_fault limits n x) (first_fault limits (n + 1) key) e in
+    (record { test = right_name limits n x some.0 stands.0 both.0; bytes = bytes.0 }, right_names limits (n + 1) key stands.1 some.1 bytes.1 both.1)
 
 -- so may the names of bytes without zeros
-pub names_read : (most : ℕ) (bytes : List ℕ) → most ≤ name_limit V2 → AreBytes bytes → list_any is_zero bytes ≡ false → first_fault most 0 (names bytes) ≡ None → AllByRecursion IsName (names bytes)
-names_read most bytes fits small zeros e =
+pub names_read : (limits : Limits) (bytes : List ℕ) → AreBytes bytes → list_any is_zero bytes ≡ false → first_fault limits 0 (names bytes) ≡ None → AllByRecursion IsName (names bytes)
+names_read limits bytes small zeros e =
     let pieces = slice_split is_slash bytes in
     let stands = recursion_from_All (λ (x : Name). list_all may_stand x ≡ true) (names bytes) (All-filter has_bytes (λ p. list_all may_stand p ≡ true) pieces (pieces_holdings bytes zeros)) in
-    right_names most 0 (names bytes) fits stands (kept_some pieces) (kept_bytes pieces (pieces_bytes bytes small)) e
+    right_names limits 0 (names bytes) stands (kept_some pieces) (kept_bytes pieces (pieces_bytes bytes small)) e
 
 -- ---- names that were read keep the limit
 
-first_short : (most n : ℕ) (key : Key) → first_fault most n key ≡ None → AllByRecursion (λ (x : Name). length x ≤ most) key
-first_short most n [] e = tt
-first_short most n (x ∷ key) e =
-    let both = or_else-none (name_fault most n x) (first_fault most (n + 1) key) e in
-    let behind = (or_else-none (check (nat_le 64 n) TooManyNames) _ both.0).1 in
-    let short : nat_lt most (length x) ≡ false = check-none _ NameTooLong (or_else-none (check (nat_lt most (length x)) NameTooLong) _ behind).0 in
-    let less : length x ≤ most = grind (arith, nat_tests, short) in
-    (omega (arith, less), first_short most (n + 1) key both.1)
+first_short : (limits : Limits) (n : ℕ) (key : Key) → first_fault limits n key ≡ None → AllByRecursion (λ (x : Name). length x ≤ name_limit limits) key
+first_short limits n [] e = tt
+first_short limits n (x ∷ key) e =
+    let both = or_else-none (name_fault limits n x) (first_fault limits (n + 1) key) e in
+    let behind = (or_else-none (check (nat_le (path_limit limits) n) TooManyNames) _ both.0).1 in
+    let short : nat_lt (name_limit limits) (length x) ≡ false = check-none _ NameTooLong (or_else-none (check (nat_lt (name_limit limits) (length x)) NameTooLong) _ behind).0 in
+    let less : length x ≤ name_limit limits = grind (arith, nat_tests, short) in
+    (omega (arith, less), first_short limits (n + 1) key both.1)
 
-pub read_short : (most : ℕ) (bytes : List ℕ) (key : Key) → reading most bytes ≡ Ok key → AllByRecursion (λ (x : Name). length x ≤ most) key
+-- no more names than a set allows, each of no more bytes
+pub record KeepsLimits (limits : Limits) (key : Key) : Type 0 where
+  pub few : length key ≤ path_limit limits
+  pub short : AllByRecursion (λ (x : Name). length x ≤ name_limit limits) key
+
+pub read_short : (limits : Limits) (bytes : List ℕ) (key : Key) → reading limits bytes ≡ Ok key → KeepsLimits limits key
 unfolding reading
-read_short most bytes key is = go (path_fault most bytes) refl is
+read_short limits bytes key is = go (path_fault limits bytes) refl is
   where
-    go : (f : Option PathFault) → path_fault most bytes ≡ f → if_sound f (names bytes) ≡ Ok key → AllByRecursion (λ (x : Name). length x ≤ most) key
+    go : (f : Option PathFault) → path_fault limits bytes ≡ f → if_sound f (names bytes) ≡ Ok key → KeepsLimits limits key
     go (Some f) e h = absurd (cc)
     go None e h =
         let root = or_else-none (check (not (starts_at_root bytes)) NotAbsolute) _ e in
         let zeros = or_else-none (check (list_any is_zero bytes) Nul) _ root.1 in
-        let faults = or_else-none (first_fault most 0 (names bytes)) _ zeros.1 in
+        let faults = or_else-none (first_fault limits 0 (names bytes)) _ zeros.1 in
         let same : names bytes ≡ key = cc in
-        subst (AllByRecursion (λ (x : Name). length x ≤ most)) same (first_short most 0 (names bytes) faults.0)
-
--- the limit of the second version is the greatest
-pub greatest : (limits : Limits) → name_limit limits ≤ name_limit V2
-greatest V1 = omega arith
-greatest V2 = omega arith
+        let few : 0 + length (names bytes) ≤ path_limit limits = not_too_many limits 0 (names bytes) (omega arith) faults.0 in
+        subst (KeepsLimits limits) same (record { few = omega (arith, few); short = first_short limits 0 (names bytes) faults.0 })

@@ -3,6 +3,7 @@ use Rattle.std.proofs.Common.{◌≡◌, ℕ, zero, suc, ◌+◌, ◌<◌, ◌�
 use Rattle.std.proofs.lemmas.Bool.Decides.{nat_tests}
 use Rattle.fs_names.specs.Names.{Name, can_name}
 use Rattle.fs_names.specs.Keys.{Key, names_text}
+use Rattle.fs_names.specs.Limits.{largest, name_limit}
 
 -- the name at an index
 pub name_at : (p : Key) (i : ℕ) (x : Name) → i < length p → x ≡ get_or p i x → slice_get p i ≡ Some x
@@ -34,7 +35,7 @@ name_written line middle new p i x at slash name =
     ∙ append_assoc line (47 ∷ x) (names_text (drop (i + 1) p)) ∙ ap (λ z. line ++ z) (sym (names_text-drop p i x at))
 
 -- a name has no more bytes than the limit
-pub name_short : (x : Name) → IsTrue (can_name x) → length x ≤ 64
+pub name_short : (x : Name) → IsTrue (can_name x) → length x ≤ name_limit largest
 name_short x h = grind (arith, nat_tests)
 
 -- what holds of a success and what of a refusal, where it is a success

@@ -1,7 +1,22 @@
 -- The two sets of limits.
-use Rattle.std.specs.Prelude.{ℕ, Bool, false}
+use Rattle.std.specs.Prelude.{ℕ, Bool, true, false}
 use Rattle.fs_names.specs.declared.limits.Limits.{Limits}
 use Rattle.fs_names.specs.declared.limits.Limits.TheVariants.{V1, V2}
+
+-- the set that no other exceeds in names and paths
+abbrev pub largest : Limits
+largest = V2
+
+-- whether two sets are the same
+abbrev pub same_limits : Limits → Limits → Bool
+same_limits V1 V1 = true
+same_limits V2 V2 = true
+same_limits a b = false
+
+-- the most names of a path in a text
+abbrev pub path_limit : Limits → ℕ
+path_limit V1 = 64
+path_limit V2 = 64
 
 -- the most bytes of a name in a text
 abbrev pub name_limit : Limits → ℕ

@@ -5,8 +5,7 @@ use Rattle.std.specs.Ordering.{nat_cmp, eq_by_cmp, is_lt}
 use Rattle.std.specs.declared.cmp.Ordering.{Ordering}
 use Rattle.std.specs.List.{AllByRecursion, list_all}
 use Rattle.std.specs.Cmp.Lexicographic.{slice_cmp}
-use Rattle.fs_names.specs.Limits.{name_limit}
-use Rattle.fs_names.specs.declared.limits.Limits.TheVariants.{V2}
+use Rattle.fs_names.specs.Limits.{largest, name_limit}
 
 -- a name is its bytes
 abbrev pub Name : Type 0
@@ -25,7 +24,7 @@ is_dots (a ∷ b ∷ c ∷ more) = false
 
 -- one byte or more, and no more than the greatest limit, that may stand, and neither one dot nor two
 abbrev pub can_name : Name → Bool
-can_name name = nat_le 1 (length name) && nat_le (length name) (name_limit V2) && list_all may_stand name && not (is_dots name)
+can_name name = nat_le 1 (length name) && nat_le (length name) (name_limit largest) && list_all may_stand name && not (is_dots name)
 
 -- each is below 256
 abbrev pub AreBytes : List ℕ → Type 0

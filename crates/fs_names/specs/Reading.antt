@@ -4,9 +4,10 @@ use Rattle.std.specs.List.{slice_split, list_any}
 use Rattle.fs_names.specs.Failures.{check, or_else, first_failure}
 use Rattle.fs_names.specs.Names.{Name, is_dots}
 use Rattle.fs_names.specs.Keys.{Key}
-use Rattle.fs_names.specs.declared.limits.TheConstants.{PATH_LIMIT}
 use Rattle.fs_names.specs.declared.fault.PathFault.{PathFault}
 use Rattle.fs_names.specs.declared.fault.PathFault.TheVariants.{NotAbsolute, Nul, NameTooLong, TooManyNames, Dot, TrailingSlash, OutOfMemory}
+use Rattle.fs_names.specs.Limits.{name_limit, path_limit}
+use Rattle.fs_names.specs.declared.limits.Limits.{Limits}
 
 -- the byte zero
 abbrev pub is_zero : ℕ → Bool
@@ -39,25 +40,25 @@ starts_at_root (b ∷ bs) = b == 47
 abbrev pub ends_in_slash : List ℕ → Bool
 ends_in_slash bytes = slice_index bytes (length bytes - 1) == 47
 
--- what is wrong with a name that may have this most bytes, and before which so many stand
-abbrev pub name_fault : ℕ → ℕ → Name → Option PathFault
-name_fault most before name = first_failure
-    (check (nat_le PATH_LIMIT before) TooManyNames
-    ∷ check (nat_lt most (length name)) NameTooLong
+-- what is wrong by these limits with a name before which so many stand
+abbrev pub name_fault : Limits → ℕ → Name → Option PathFault
+name_fault limits before name = first_failure
+    (check (nat_le (path_limit limits) before) TooManyNames
+    ∷ check (nat_lt (name_limit limits) (length name)) NameTooLong
     ∷ check (is_dots name) Dot
     ∷ [])
 
--- what is wrong with the first wrong name, from left to right
-abbrev pub first_fault : ℕ → ℕ → Key → Option PathFault
-first_fault most before [] = None
-first_fault most before (name ∷ more) = or_else (name_fault most before name) (first_fault most (before + 1) more)
+-- what is wrong by these limits with the first wrong name, from left to right
+abbrev pub first_fault : Limits → ℕ → Key → Option PathFault
+first_fault limits before [] = None
+first_fault limits before (name ∷ more) = or_else (name_fault limits before name) (first_fault limits (before + 1) more)
 
--- the first check that the bytes fail
-abbrev pub path_fault : ℕ → List ℕ → Option PathFault
-path_fault most bytes = first_failure
+-- the first check that the bytes fail by these limits
+abbrev pub path_fault : Limits → List ℕ → Option PathFault
+path_fault limits bytes = first_failure
     (check (not (starts_at_root bytes)) NotAbsolute
     ∷ check (list_any is_zero bytes) Nul
-    ∷ first_fault most 0 (names bytes)
+    ∷ first_fault limits 0 (names bytes)
     ∷ check (has_names (names bytes) && ends_in_slash bytes) TrailingSlash
     ∷ [])
 
@@ -66,9 +67,9 @@ abbrev pub if_sound : Option PathFault → Key → Result Key PathFault
 if_sound None key = Ok key
 if_sound (Some fault) key = Err fault
 
--- the names that the bytes spell, each of so many bytes at most, or the first check that fails
-unfoldable pub reading : ℕ → List ℕ → Result Key PathFault
-reading most bytes = if_sound (path_fault most bytes) (names bytes)
+-- the names that the bytes spell, by these limits, or the first check that fails
+unfoldable pub reading : Limits → List ℕ → Result Key PathFault
+reading limits bytes = if_sound (path_fault limits bytes) (names bytes)
 
 -- the fault is what reading finds; out of memory says nothing of the bytes
 abbrev pub FailsWith : PathFault → Result Key PathFault → Type 0

@@ -1,9 +1,9 @@
 //! The limits of names, paths, directories, files and trees, each named in this one place.
 
 ghost use Rattle.std.specs.Prelude.{◌≡◌};
-ghost use Rattle.fs_names.specs.Limits.{name_limit, entry_limit, file_limit, in_blocks};
+ghost use Rattle.fs_names.specs.Limits.{same_limits, path_limit, name_limit, entry_limit, file_limit, in_blocks};
 
-/// The most names that a path has.
+/// The most names that a path of any set of limits has.
 pub const PATH_LIMIT: usize = 64;
 
 /// The most node numbers that are in use at once, the root's included.
@@ -13,13 +13,32 @@ pub const NODE_LIMIT: usize = 1_048_576;
 /// all other limits the two are one.
 #[derive(Clone, Copy, Debug, PartialEq, Eq)]
 pub enum Limits {
-    /// A name in a text has at most 32 bytes, a file at most 65,536.
+    /// A path in a text has at most 64 names, each of at most 32 bytes, a file at most 65,536 bytes.
     V1,
-    /// A name in a text has at most 64 bytes, a file at most 1,048,576.
+    /// A path in a text has at most 64 names, each of at most 64 bytes, a file at most 1,048,576 bytes.
     V2,
 }
 
 impl Limits {
+    /// Whether both are the same set.
+    #[inline]
+    pub fn same(self, other: Limits) -> bool
+        ensures { result ≡ same_limits self other }
+    {
+        self == other
+    }
+
+    /// The most names that a path in a text has.
+    #[inline]
+    pub fn path_names(self) -> usize
+        ensures { result ≡ path_limit self }
+    {
+        match self {
+            Limits::V1 => 64,
+            Limits::V2 => 64,
+        }
+    }
+
     /// The most bytes that a name in a text has.
     #[inline]
     pub fn name(self) -> usize

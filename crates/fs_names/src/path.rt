@@ -3,13 +3,12 @@
 ghost use Rattle.std.specs.Prelude.{◌≡◌, ◌≢◌, ◌↔◌, ◌≤◌, ◌<◌, ◌+◌, ◌++◌, [], false, IsTrue, None, Some, Ok, Err, IsOk, IfOk, IfErr, OnOk, OnErr, length, map, slice_get, is_some, vec_len, vec_capacity};
 ghost use Rattle.std.specs.List.{list_any, AllByRecursion};
 ghost use Rattle.fs_names.specs.Names.{IsName};
-ghost use Rattle.fs_names.specs.Limits.{name_limit};
 ghost use Rattle.fs_names.specs.declared.limits.Limits.TheVariants.{V2};
 ghost use Rattle.fs_names.specs.Keys.{IsPath, common_len, after_prefix, path_text};
 ghost use Rattle.fs_names.specs.Reading.{reading, names, first_fault, name_fault, is_zero, starts_at_root, ends_in_slash, FailsWith};
 
 use crate::fault::PathFault;
-use crate::limits::{Limits, PATH_LIMIT};
+use crate::limits::Limits;
 use crate::name::{Name, only_dots};
 use crate::scan::{after_slashes, cut_name};
 use fs_memory::Memory;
@@ -48,15 +47,15 @@ impl Model for Path {
     ghost invariant = { λ p. IsPath (shared_names (option_map arc_value p.names)) };
 }
 
-/// What is wrong with the bytes of a name that may have this most bytes, and before which so many stand.
+/// What is wrong by these limits with the bytes of a name before which so many stand.
 #[inline]
-fn name_fault(most: usize, before: usize, bytes: &[u8]) -> Option<PathFault>
-    ensures { result ≡ name_fault most before bytes.now }
+fn name_fault(limits: Limits, before: usize, bytes: &[u8]) -> Option<PathFault>
+    ensures { result ≡ name_fault limits before bytes.now }
 {
-    if before >= PATH_LIMIT {
+    if before >= limits.path_names() {
         return Some(PathFault::TooManyNames);
     }
-    if bytes.len() > most {
+    if bytes.len() > limits.name() {
         return Some(PathFault::NameTooLong);
     }
     if only_dots(bytes) {
@@ -68,21 +67,21 @@ fn name_fault(most: usize, before: usize, bytes: &[u8]) -> Option<PathFault>
 /// Cuts bytes without zeros into names, one after the other, up to the first that is wrong. It allocates only for more names
 /// than fit on the stack.
 fn cut_names<'a>(
-    most: usize,
+    limits: Limits,
     bytes: &'a [u8],
     cut: &mut SmallVec<&'a [u8], CUT_NAMES>,
 ) -> Result<(), PathFault>
     requires zeros { list_any is_zero bytes.now ≡ false }
     requires empty { cut.old.items ≡ [] }
     requires stack { CUT_NAMES ≤ cut.old.capacity }
-    ensures names { OnOk result ((map (λ text. text.now) cut.new.items ≡ names bytes.now) × (first_fault most 0 (names bytes.now) ≡ None)) }
-    ensures fault { IfErr result (λ fault. fault ≢ PathFault.OutOfMemory → first_fault most 0 (names bytes.now) ≡ Some fault) }
+    ensures names { OnOk result ((map (λ text. text.now) cut.new.items ≡ names bytes.now) × (first_fault limits 0 (names bytes.now) ≡ None)) }
+    ensures fault { IfErr result (λ fault. fault ≢ PathFault.OutOfMemory → first_fault limits 0 (names bytes.now) ≡ Some fault) }
     ensures memory { result ≡ Err PathFault.OutOfMemory → CUT_NAMES < length (names bytes.now) }
 {
     let mut left = after_slashes(bytes);
     while !left.is_empty() {
         let (name, rest) = cut_name(left);
-        if let Some(fault) = name_fault(most, cut.len(), name) {
+        if let Some(fault) = name_fault(limits, cut.len(), name) {
             return Err(fault);
         }
         let Ok(()) = cut.push(name) else {
@@ -151,8 +150,8 @@ fn has_zero(bytes: &[u8]) -> bool
 impl Path {
     /// Reads a path by the limits of the second version, as `parse_with` does.
     pub fn parse(alloc: Global, bytes: &[u8]) -> Result<Path, PathFault>
-        ensures path { IfOk result (λ path. reading (name_limit V2) bytes.now ≡ Ok path) }
-        ensures fault { IfErr result (λ fault. FailsWith fault (reading (name_limit V2) bytes.now)) }
+        ensures path { IfOk result (λ path. reading V2 bytes.now ≡ Ok path) }
+        ensures fault { IfErr result (λ fault. FailsWith fault (reading V2 bytes.now)) }
         ensures memory { result ≡ Err PathFault.OutOfMemory → INLINE_NAMES < length (names bytes.now) }
     {
         Path::parse_with(alloc, bytes, Limits::V2)
@@ -163,8 +162,8 @@ impl Path {
     /// once all are read and none is wrong; and from the eighth on, for where they are kept until then.
     #[tactic(auto, unfolding(crate::specs::Reading::reading))]
     pub fn parse_with(alloc: Global, bytes: &[u8], limits: Limits) -> Result<Path, PathFault>
-        ensures path { IfOk result (λ path. reading (name_limit limits) bytes.now ≡ Ok path) }
-        ensures fault { IfErr result (λ fault. FailsWith fault (reading (name_limit limits) bytes.now)) }
+        ensures path { IfOk result (λ path. reading limits bytes.now ≡ Ok path) }
+        ensures fault { IfErr result (λ fault. FailsWith fault (reading limits bytes.now)) }
         ensures memory { result ≡ Err PathFault.OutOfMemory → INLINE_NAMES < length (names bytes.now) }
     {
         if !starts_at_root(bytes) {
@@ -174,7 +173,7 @@ impl Path {
             return Err(PathFault::Nul);
         }
         let mut cut = SmallVec::new(alloc);
-        if let Err(fault) = cut_names(limits.name(), bytes, &mut cut) {
+        if let Err(fault) = cut_names(limits, bytes, &mut cut) {
             return Err(fault);
         }
         if !cut.is_empty() && ends_in_slash(bytes) {

@@ -6,8 +6,7 @@ use Rattle.std.specs.List.{list_all}
 use Rattle.std.proofs.lemmas.Cmp.{tied_itself}
 use Rattle.std.proofs.Math.Seq.{take-add}
 use Rattle.fs_names.specs.Names.{Name, name_cmp, may_stand, is_dots, can_name}
-use Rattle.fs_names.specs.Limits.{name_limit}
-use Rattle.fs_names.specs.declared.limits.Limits.TheVariants.{V2}
+use Rattle.fs_names.specs.Limits.{largest, name_limit}
 use Rattle.fs_names.proofs.Lemmas.{name_total}
 use Rattle.fs_graph.proofs.EqualLemmas.{both_true}
 use Rattle.fs_places.specs.code.Heads.{first, rest, number_with, AreBytes, IsHead}
@@ -99,8 +98,8 @@ whole (suc k) (x ∷ xs) h = ap (λ (l : List ℕ). x ∷ l) (whole k xs (omega 
 -- what may stand in a name
 named : (x : Name) → IsTrue (can_name x) → list_all may_stand x ≡ true
 named x h =
-    let one : ((nat_le 1 (length x) && nat_le (length x) (name_limit V2) && list_all may_stand x) ≡ true) × (not (is_dots x) ≡ true) = both_true (nat_le 1 (length x) && nat_le (length x) (name_limit V2) && list_all may_stand x) (not (is_dots x)) h in
-    (both_true (nat_le 1 (length x) && nat_le (length x) (name_limit V2)) (list_all may_stand x) one.0).1
+    let one : ((nat_le 1 (length x) && nat_le (length x) (name_limit largest) && list_all may_stand x) ≡ true) × (not (is_dots x) ≡ true) = both_true (nat_le 1 (length x) && nat_le (length x) (name_limit largest) && list_all may_stand x) (not (is_dots x)) h in
+    (both_true (nat_le 1 (length x) && nat_le (length x) (name_limit largest)) (list_all may_stand x) one.0).1
 
 -- names with the same number begin with the same eight bytes
 pub head_front : (a b : ℕ) (x y : Name) → IsHead a x → IsHead b y → IsTrue (can_name x) → IsTrue (can_name y) → b ≤ a → a ≤ b → take 8 x ≡ take 8 y

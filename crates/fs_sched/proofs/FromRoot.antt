@@ -1,6 +1,5 @@
 -- A core at the root alone: what is said of a run from there is said of a run of the script.
 use Rattle.std.proofs.Common.{◌≡◌, ◌≤◌, ℕ, length, List, sym, ap, ap₂, ◌∙◌, subst, Ok}
-use Rattle.fs_names.specs.Limits.{name_limit}
 use Rattle.fs_names.specs.declared.limits.TheConstants.{NODE_LIMIT}
 use Rattle.fs_calls.specs.Starts.{Start}
 use Rattle.fs_nodes.specs.Stores.{graph_of}
@@ -30,10 +29,10 @@ module _ (schedule : Schedule) (script : Script) (core : CoreValue) (root : stat
 
   -- its tree has no names
   pub root_again : (input : List ℕ) → script_of input ≡ Ok script
-      → (IsRead script → core.start.limits ≡ script.limits → HasShortNames (name_limit script.limits) core.start.tree → SomeIsReadAgain schedule script (before_all (state_of core) (length script.lists))) → EachIsReadAgain schedule input
+      → (IsRead script → core.start.limits ≡ script.limits → HasShortNames script.limits core.start.tree → SomeIsReadAgain schedule script (before_all (state_of core) (length script.lists))) → EachIsReadAgain schedule input
   root_again input is again =
       let start : core.start ≡ (empty script.limits NODE_LIMIT).start = ap (λ (s : State). s.start) root in
-      let names : HasShortNames (name_limit script.limits) core.start.tree = subst (λ (t : Start). HasShortNames (name_limit script.limits) t.tree) (sym start) (tt, tt) in
+      let names : HasShortNames script.limits core.start.tree = subst (λ (t : Start). HasShortNames script.limits t.tree) (sym start) (tt, tt) in
       let some : SomeIsReadAgain schedule script (before_all (state_of core) (length script.lists)) = again (input, is) (ap (λ (t : Start). t.limits) start) names in
       script_again schedule input script is (each_again schedule script (subst (λ (s : State). SomeIsReadAgain schedule script (before_all s (length script.lists))) root some))
 

@@ -1,11 +1,12 @@
--- The names of a run are those of its script's calls, so they keep the limit by which these were read.
+-- The paths of a run are those of its script's calls, so they keep the limits by which these were read, and all names do.
 use Rattle.std.proofs.Common.{◌≡◌, ℕ, zero, suc, Bool, true, false, List, [], ◌∷◌, ◌++◌, length, get_or, replicate, Option, Some, None, slice_get, sym, ap, ◌∙◌, subst, Ok}
 use Rattle.std.specs.List.{AllByRecursion, range_with_len}
 use Rattle.fs_names.specs.Names.{Name}
-use Rattle.fs_names.specs.Limits.{name_limit}
+use Rattle.fs_names.specs.Keys.{Key}
+use Rattle.fs_names.specs.Limits.{largest}
 use Rattle.fs_names.specs.Shapes.{Shape}
 use Rattle.fs_names.specs.declared.limits.Limits.{Limits}
-use Rattle.fs_names.specs.declared.limits.Limits.TheVariants.{V2}
+use Rattle.fs_names.proofs.ReadingLemmas.{KeepsLimits}
 use Rattle.fs_calls.specs.Forms.{reserved_by}
 use Rattle.fs_calls.specs.Starts.{Start}
 use Rattle.fs_calls.specs.Tree.{Tree, Dir, File}
@@ -35,23 +36,23 @@ use Rattle.fs_sched.specs.EachRun.{IsReadAgain}
 use Rattle.fs_sched.specs.Schedules.{words_by, goes_on}
 use Rattle.fs_sched.specs.declared.schedule.Schedule.{Schedule}
 
-module _ (P : Name → Type 0) (limits : Limits) where
-  -- what a stage has begun has such names, and its start tree too
+module _ (P : Name → Type 0) (Q : Key → Type 0) (named : (k : Key) → Q k → AllByRecursion P k) (limits : Limits) where
+  -- what a stage has begun has such keys, and its start tree such names
   record Named (s : Stage) : Type 0 where
-    begun : AllByRecursion (NamesBegun P) s.state.timeline
+    begun : AllByRecursion (NamesBegun Q) s.state.timeline
     tree : NamesTree P s.state.start.tree
     kept : s.state.start.limits ≡ limits
 
-  -- the calls of lists have such names
+  -- the calls of lists have such keys
   abbrev Lists : List (List Call) → Type 0
-  Lists lists = AllByRecursion (λ (calls : List Call). AllByRecursion (NamesCall P) calls) lists
+  Lists lists = AllByRecursion (λ (calls : List Call). AllByRecursion (NamesCall Q) calls) lists
 
-  call_at : (calls : List Call) (n : ℕ) (call : Call) → AllByRecursion (NamesCall P) calls → slice_get calls n ≡ Some call → NamesCall P call
+  call_at : (calls : List Call) (n : ℕ) (call : Call) → AllByRecursion (NamesCall Q) calls → slice_get calls n ≡ Some call → NamesCall Q call
   call_at [] n call h is = absurd (cc)
-  call_at (c ∷ calls) zero call h is = let same : c ≡ call = cc in subst (NamesCall P) same h.0
+  call_at (c ∷ calls) zero call h is = let same : c ≡ call = cc in subst (NamesCall Q) same h.0
   call_at (c ∷ calls) (suc n) call h is = call_at calls n call h.1 is
 
-  list_at : (lists : List (List Call)) (seat : ℕ) → Lists lists → AllByRecursion (NamesCall P) (get_or lists seat [])
+  list_at : (lists : List (List Call)) (seat : ℕ) → Lists lists → AllByRecursion (NamesCall Q) (get_or lists seat [])
   list_at [] seat h = tt
   list_at (calls ∷ lists) zero h = h.0
   list_at (calls ∷ lists) (suc seat) h = list_at lists seat h.1
@@ -59,14 +60,14 @@ module _ (P : Name → Type 0) (limits : Limits) where
   -- a state with this start and this timeline
   same_named : (old new : Stage) → new.state.start ≡ old.state.start → new.state.timeline ≡ old.state.timeline → Named old → Named new
   same_named old new a b h = record {
-    begun = subst (AllByRecursion (NamesBegun P)) (sym b) h.begun;
+    begun = subst (AllByRecursion (NamesBegun Q)) (sym b) h.begun;
     tree = subst (λ (s : Start). NamesTree P s.tree) (sym a) h.tree;
     kept = ap (λ (s : Start). s.limits) a ∙ h.kept;
   }
 
-  more_named : (old new : Stage) (e : Entry) → new.state.start ≡ old.state.start → new.state.timeline ≡ old.state.timeline ++ e ∷ [] → NamesBegun P e → Named old → Named new
+  more_named : (old new : Stage) (e : Entry) → new.state.start ≡ old.state.start → new.state.timeline ≡ old.state.timeline ++ e ∷ [] → NamesBegun Q e → Named old → Named new
   more_named old new e a b g h = record {
-    begun = subst (AllByRecursion (NamesBegun P)) (sym b) (one_more P old.state.timeline e h.begun g);
+    begun = subst (AllByRecursion (NamesBegun Q)) (sym b) (one_more P Q named old.state.timeline e h.begun g);
     tree = subst (λ (s : Start). NamesTree P s.tree) (sym a) h.tree;
     kept = ap (λ (s : Start). s.limits) a ∙ h.kept;
   }
@@ -106,7 +107,7 @@ module _ (P : Name → Type 0) (limits : Limits) where
   does_named lists (words.Events seat times) told old new all (events, none) h = events_named lists (replicate times seat) old new all events h
   does_named lists words.Checkpoint told old new all (idle, is, again) h = subst Named (sym again) (record {
     begun = tt;
-    tree = spelled_kept P old.state.start old.state.timeline h.tree h.begun;
+    tree = spelled_kept P Q named old.state.start old.state.timeline h.tree h.begun;
     kept = h.kept;
   })
   does_named lists words.Finish told old new all (same, none) h = subst Named (sym same) h
@@ -128,19 +129,21 @@ module _ (P : Name → Type 0) (limits : Limits) where
 
 -- what the last stage of a run of a script that was read names, by the limits of the script
 pub record Short (limits : Limits) (s : State) : Type 0 where
-  pub entries : AllByRecursion (NamesEntry (IsShort (name_limit limits))) s.timeline
-  pub tree : NamesTree (IsShort (name_limit limits)) s.start.tree
+  pub entries : AllByRecursion (NamesEntry (IsShort limits) (KeepsLimits limits)) s.timeline
+  pub tree : NamesTree (IsShort limits) s.start.tree
   pub kept : s.start.limits ≡ limits
 
-pub short_from : (schedule : Schedule) (input : List ℕ) (script : Script) (limit : ℕ) (first : Start) (graph : Graph) (told : List Entry) (last : Stage) → script_of input ≡ Ok script → NamesTree (IsShort (name_limit script.limits)) first.tree → first.limits ≡ script.limits → Run last.state
+pub short_from : (schedule : Schedule) (input : List ℕ) (script : Script) (limit : ℕ) (first : Start) (graph : Graph) (told : List Entry) (last : Stage) → script_of input ≡ Ok script → NamesTree (IsShort script.limits) first.tree → first.limits ≡ script.limits → Run last.state
     → RunsFrom schedule script (before_all (fresh limit first graph) (length script.lists)) told last → Short script.limits last.state
 short_from schedule input script limit first graph told last is tree kept run (middle, done, ends) =
     let all : ShortLists script = short_lists input script is in
-    let names : Name → Type 0 = IsShort (name_limit script.limits) in
-    let h = ends_named names script.limits (goes_on schedule script.words) script.lists middle last all ends
-    (words_named names script.limits script.lists (words_by schedule script.words (length script.lists)) told (before_all (fresh limit first graph) (length script.lists)) middle all done (fresh_named names script.limits limit first graph (length script.lists) tree kept)) in
+    let names : Name → Type 0 = IsShort script.limits in
+    let keys : Key → Type 0 = KeepsLimits script.limits in
+    let named : (k : Key) → keys k → AllByRecursion names k = λ k h. h.short in
+    let h = ends_named names keys named script.limits (goes_on schedule script.words) script.lists middle last all ends
+    (words_named names keys named script.limits script.lists (words_by schedule script.words (length script.lists)) told (before_all (fresh limit first graph) (length script.lists)) middle all done (fresh_named names keys named script.limits limit first graph (length script.lists) tree kept)) in
     record {
-      entries = lawful_kept names last.state.start last.state.timeline (linearizes last.state run).lawful h.tree h.begun;
+      entries = lawful_kept names keys named last.state.start last.state.timeline (linearizes last.state run).lawful h.tree h.begun;
       tree = h.tree;
       kept = h.kept;
     }
@@ -149,18 +152,18 @@ short_from schedule input script limit first graph told last is tree kept run (m
 
 -- where a start tree is told, its nodes are such as the code has
 abbrev pub IsToldFit : Start → Type 0
-IsToldFit start = is_told start.limits (length start.tree) ≡ true → AllByRecursion (FitsNode (name_limit V2)) start.tree
+IsToldFit start = is_told start.limits (length start.tree) ≡ true → AllByRecursion (FitsNode largest) start.tree
 
-short_nodes : (more most : ℕ) (t : Tree) → AllByRecursion (FitsNode more) t → NamesTree (IsShort most) t → AllByRecursion (FitsNode most) t
-short_nodes more most [] h s = tt
-short_nodes more most ((key, Dir) ∷ t) h s = (short_names more most key h.0 s.0, short_nodes more most t h.1 s.1)
-short_nodes more most ((key, File bytes) ∷ t) h s = ((short_names more most key h.0.0 s.0, h.0.1), short_nodes more most t h.1 s.1)
+short_nodes : (more limits : Limits) (t : Tree) → AllByRecursion (FitsNode more) t → NamesTree (IsShort limits) t → AllByRecursion (FitsNode limits) t
+short_nodes more limits [] h s = tt
+short_nodes more limits ((key, Dir) ∷ t) h s = (short_names more limits key h.0 s.0, short_nodes more limits t h.1 s.1)
+short_nodes more limits ((key, File bytes) ∷ t) h s = ((short_names more limits key h.0.0 s.0, h.0.1), short_nodes more limits t h.1 s.1)
 
-pub again_short : (limits : Limits) (start : Start) (es : List Entry) → IsWithinLimits start.limits start.tree → IsToldFit start → AllFit (name_limit V2) es
-    → AllByRecursion (NamesEntry (IsShort (name_limit limits))) es → NamesTree (IsShort (name_limit limits)) start.tree → start.limits ≡ limits → IsReadAgain start es
+pub again_short : (limits : Limits) (start : Start) (es : List Entry) → IsWithinLimits start.limits start.tree → IsToldFit start → AllFit largest es
+    → AllByRecursion (NamesEntry (IsShort limits) (KeepsLimits limits)) es → NamesTree (IsShort limits) start.tree → start.limits ≡ limits → IsReadAgain start es
 again_short limits start es within told fit entries tree kept short =
-    let named = subst (λ (l : Limits). AllByRecursion (NamesEntry (IsShort (name_limit l))) es) (sym kept) entries in
-    let nodes = subst (λ (l : Limits). NamesTree (IsShort (name_limit l)) start.tree) (sym kept) tree in
+    let named = subst (λ (l : Limits). AllByRecursion (NamesEntry (IsShort l) (KeepsLimits l)) es) (sym kept) entries in
+    let nodes = subst (λ (l : Limits). NamesTree (IsShort l) start.tree) (sym kept) tree in
     reads_journals_back start es
-    (record { within = within; told = λ is. short_nodes (name_limit V2) (name_limit start.limits) start.tree (told is) nodes })
-    (all_short (name_limit V2) (name_limit start.limits) es fit named) short
+    (record { within = within; told = λ is. short_nodes largest start.limits start.tree (told is) nodes })
+    (all_short largest start.limits es fit named) short

@@ -3,8 +3,7 @@
 ghost use Rattle.std.specs.Prelude.{◌≡◌, ◌++◌, true, List, length, OnOk, IfOk, decimal};
 ghost use Rattle.std.specs.List.{AllByRecursion};
 ghost use Rattle.fs_nodes.specs.Stores.{graph_of};
-ghost use Rattle.fs_names.specs.Limits.{name_limit};
-ghost use Rattle.fs_names.specs.declared.limits.Limits.TheVariants.{V2};
+ghost use Rattle.fs_names.specs.Limits.{largest};
 ghost use Rattle.fs_text.specs.Fits.{AllFit};
 ghost use Rattle.fs_timeline.specs.declared.entry.Entry.{Entry};
 ghost use Rattle.fs_script.specs.Journals.{is_told, journal_text};
@@ -104,8 +103,8 @@ fn journal_text(
 ) -> Result<CountedText, AllocError>
     ensures text { IfOk result (λ made. made.text.items ≡ journal_text start.now entries.now) }
     ensures counts { IfOk result (λ made. AreCounts made.counts entries.now) }
-    ensures fit { OnOk result (AllFit (name_limit V2) entries.now) }
-    ensures told { OnOk result (is_told start.now.limits (length start.now.tree) ≡ true → AllByRecursion (FitsNode (name_limit V2)) start.now.tree) }
+    ensures fit { OnOk result (AllFit largest entries.now) }
+    ensures told { OnOk result (is_told start.now.limits (length start.now.tree) ≡ true → AllByRecursion (FitsNode largest) start.now.tree) }
 {
     let mut text = Vec::new(alloc);
     write_opening(alloc, start, &mut text)?;
@@ -171,8 +170,8 @@ pub(crate) fn counted_text(
 ) -> Result<CountedText, AllocError>
     ensures text { IfOk result (λ made. IsRunText start.now entries.now (graph_of store.now) made.text.items) }
     ensures counts { IfOk result (λ made. AreCounts made.counts entries.now) }
-    ensures fit { OnOk result (AllFit (name_limit V2) entries.now) }
-    ensures told { OnOk result (is_told start.now.limits (length start.now.tree) ≡ true → AllByRecursion (FitsNode (name_limit V2)) start.now.tree) }
+    ensures fit { OnOk result (AllFit largest entries.now) }
+    ensures told { OnOk result (is_told start.now.limits (length start.now.tree) ≡ true → AllByRecursion (FitsNode largest) start.now.tree) }
 {
     let mut made = journal_text(alloc, start, entries)?;
     write_tree(alloc, store, &mut made.text)?;

@@ -2,7 +2,6 @@
 
 ghost use Rattle.std.specs.Prelude.{◌≡◌, ◌≢◌, ◌+◌, ◌-◌, ◌<◌, ◌≤◌, ◌^◌, ℕ, [], List, length, min, map, Ok, Err, IfOk, OnOk, OnErr, IfErr, IfSome, IsErrOf};
 ghost use Rattle.std.specs.Io.KnownBytes.{Appends, IsAtEnd};
-ghost use Rattle.fs_names.specs.Limits.{name_limit};
 ghost use Rattle.fs_names.specs.declared.limits.TheConstants.{NODE_LIMIT};
 ghost use Rattle.fs_timeline.specs.declared.entry.Entry.{Entry};
 ghost use Rattle.fs_nodes.specs.Stores.{graph_of};
@@ -121,7 +120,7 @@ pub fn run_on<Listener: Witness>(
     requires seats { core.seats ≡ [] }
     requires fresh { state_of core ≡ fresh NODE_LIMIT core.start (graph_of core.store) }
     ensures output { IfOk result (λ made. IsOutputFrom schedule script (before_all (state_of core) (length script.lists)) made.end made.text.items) }
-    ensures again { OnOk result (IsRead script → core.start.limits ≡ script.limits → HasShortNames (name_limit script.limits) core.start.tree → SomeIsReadAgain schedule script (before_all (state_of core) (length script.lists))) }
+    ensures again { OnOk result (IsRead script → core.start.limits ≡ script.limits → HasShortNames script.limits core.start.tree → SomeIsReadAgain schedule script (before_all (state_of core) (length script.lists))) }
     ensures why { IfErr result (IsWhy (StopsFrom schedule script (before_all (state_of core) (length script.lists)))) }
 {
     core.told();

@@ -2,7 +2,6 @@
 use Rattle.std.proofs.Common.{◌≡◌, ℕ, Bool, true, false, cond, List, length, Result, Ok, Err, sym, ap, refl, ◌∙◌, codes}
 use Rattle.std.specs.Prelude.{nat_lt}
 use Rattle.std.proofs.lemmas.Bool.{cond-true, cond-false}
-use Rattle.fs_names.specs.Limits.{name_limit}
 use Rattle.fs_names.specs.declared.limits.Limits.{Limits}
 use Rattle.fs_names.specs.declared.limits.Limits.TheVariants.{V1, V2}
 use Rattle.fs_calls.specs.Tree.{root_tree}
@@ -64,7 +63,7 @@ started_lines limits lines = behind_line (codes "start") (behind_line (codes "di
 
 from_root_long : (text : List ℕ) → nat_lt 16777216 (length text) ≡ true → with_start (root_start V1) (entries_of text) ≡ Err (fault_at 1 kind.TooLarge)
 unfolding entries_of
-from_root_long text long = ap (λ r. with_start (root_start V1) (r >>= entries_from (name_limit V1) 2)) (cond-true _ _ _ long)
+from_root_long text long = ap (λ r. with_start (root_start V1) (r >>= entries_from V1 2)) (cond-true _ _ _ long)
 
 pub told_by : (limits : Limits) (text : List ℕ) (other : Read) (lines : List (List ℕ)) → behind_header (started_header limits) text ≡ Ok lines → started_or limits text other ≡ started_lines limits lines
 told_by limits text other lines is = chosen (started_header limits) text (started_lines limits) other lines is

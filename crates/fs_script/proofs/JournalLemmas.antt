@@ -11,7 +11,6 @@ use Rattle.percent_encoding.specs.Percent.{percent_encode_byte}
 use Rattle.percent_encoding.proofs.PercentLemmas.{IsEscapeByte, All-percent_encode_byte}
 use Rattle.fs_names.specs.Names.{Name, IsName}
 use Rattle.fs_names.specs.Keys.{Key}
-use Rattle.fs_names.specs.Limits.{name_limit}
 use Rattle.fs_names.specs.declared.limits.Limits.{Limits}
 use Rattle.fs_names.specs.declared.limits.Limits.TheVariants.{V1, V2}
 use Rattle.fs_names.specs.Reading.{is_slash}
@@ -73,18 +72,18 @@ no_root : (xs ys : List ℕ) → 0 < length xs → bytes_eq (47 ∷ (xs ++ ys)) 
 no_root [] ys some = absurd (omega (arith, some))
 no_root (x ∷ xs) ys some = refl
 
-are_names : (most : ℕ) (ns : Key) → AllByRecursion (FitsName most) ns → AllByRecursion IsName ns
-are_names most [] h = tt
-are_names most (n ∷ ns) h = (h.0.is_name, are_names most ns h.1)
+are_names : (limits : Limits) (ns : Key) → AllByRecursion (FitsName limits) ns → AllByRecursion IsName ns
+are_names limits [] h = tt
+are_names limits (n ∷ ns) h = (h.0.is_name, are_names limits ns h.1)
 
-some_key : (most : ℕ) (n : Name) (ns : Key) → FitsName most n → AllByRecursion (FitsName most) ns → key_at most (47 ∷ (escaped n ++ spelled ns)) ≡ Ok (n ∷ ns)
-some_key most n ns h all =
+some_key : (limits : Limits) (n : Name) (ns : Key) → FitsName limits n → AllByRecursion (FitsName limits) ns → key_at limits (47 ∷ (escaped n ++ spelled ns)) ≡ Ok (n ∷ ns)
+some_key limits n ns h all =
     cond-false _ _ _ (no_root (escaped n) (spelled ns) (IsWord_escaped n (name_facts n h.is_name.test).some).some)
-    ∙ ap (names_at most) (cut_again n ns h.is_name (are_names most ns all)) ∙ names_read most (n ∷ ns) (h, all)
+    ∙ ap (names_at limits) (cut_again n ns h.is_name (are_names limits ns all)) ∙ names_read limits (n ∷ ns) (h, all)
 
-pub key_read : (most : ℕ) (key : Key) → AllByRecursion (FitsName most) key → key_at most (path_word key) ≡ Ok key
-key_read most [] h = ap (key_at most) (root_word [] refl)
-key_read most (n ∷ ns) h = ap (key_at most) (path_spelled n ns) ∙ some_key most n ns h.0 h.1
+pub key_read : (limits : Limits) (key : Key) → AllByRecursion (FitsName limits) key → key_at limits (path_word key) ≡ Ok key
+key_read limits [] h = ap (key_at limits) (root_word [] refl)
+key_read limits (n ∷ ns) h = ap (key_at limits) (path_spelled n ns) ∙ some_key limits n ns h.0 h.1
 
 -- ---- the line of a node
 
@@ -101,9 +100,9 @@ told_node : (e : Key × Node) → ◌≡◌ {A = Key × Node} ((told_of e).0, no
 told_node (key, Dir) = refl
 told_node (key, File bytes) = refl
 
-words_good : (most : ℕ) (e : Key × Node) → FitsNode most e → AllByRecursion IsWord (node_words e.0 e.1)
-words_good most (key, Dir) h = (kind_good kinds.Dir, (IsWord_path key, tt))
-words_good most (key, File bytes) h = (kind_good kinds.File, (IsWord_path key, (IsWord_hex bytes h.1, tt)))
+words_good : (limits : Limits) (e : Key × Node) → FitsNode limits e → AllByRecursion IsWord (node_words e.0 e.1)
+words_good limits (key, Dir) h = (kind_good kinds.Dir, (IsWord_path key, tt))
+words_good limits (key, File bytes) h = (kind_good kinds.File, (IsWord_path key, (IsWord_hex bytes h.1, tt)))
 
 some_words : (e : Key × Node) → 0 < length (node_words e.0 e.1)
 some_words (key, Dir) = omega arith
@@ -115,9 +114,9 @@ words_cut ws good some =
     let whole : has_empty (pieces_of (join_with_byte 32 ws)) ≡ false = ap has_empty cut ∙ has_no_empty ws good in
     cond-false _ _ _ whole ∙ ap Ok cut
 
-node_told : (most : ℕ) (e : Key × Node) → FitsNode most e → node_at most (node_words e.0 e.1) ≡ Ok (told_of e)
-node_told most (key, Dir) h = ap (λ r. r >>= λ k. Ok (k, kinds.Dir, [])) (key_read most key h)
-node_told most (key, File bytes) h = rw (key_read most key h.0, hex_read bytes h.1) refl
+node_told : (limits : Limits) (e : Key × Node) → FitsNode limits e → node_at limits (node_words e.0 e.1) ≡ Ok (told_of e)
+node_told limits (key, Dir) h = ap (λ r. r >>= λ k. Ok (k, kinds.Dir, [])) (key_read limits key h)
+node_told limits (key, File bytes) h = rw (key_read limits key h.0, hex_read bytes h.1) refl
 
 bytes_same : (xs : List ℕ) → bytes_eq xs xs ≡ true
 bytes_same [] = refl
@@ -127,10 +126,10 @@ strictly : (e : Key × Node) → cond {A = Result (Key × Kind × List ℕ) Faul
 strictly (key, Dir) = cond-true _ _ _ (bytes_same (line_of (key, Dir)))
 strictly (key, File bytes) = cond-true _ _ _ (bytes_same (line_of (key, File bytes)))
 
-pub node_again : (most : ℕ) (e : Key × Node) → FitsNode most e → node_in_line most (line_of e) ≡ Ok (told_of e)
-node_again most e h =
-    ap (λ r. r >>= node_at most >>= λ n. cond {A = Result (Key × Kind × List ℕ) FaultKind} (bytes_eq (line_of e) (join_with_byte 32 (node_words n.0 (node_of_kind n.1 n.2)))) (Ok n) (Err kind.BadStart)) (words_cut (node_words e.0 e.1) (words_good most e h) (some_words e))
-    ∙ ap (λ r. r >>= λ n. cond {A = Result (Key × Kind × List ℕ) FaultKind} (bytes_eq (line_of e) (join_with_byte 32 (node_words n.0 (node_of_kind n.1 n.2)))) (Ok n) (Err kind.BadStart)) (node_told most e h)
+pub node_again : (limits : Limits) (e : Key × Node) → FitsNode limits e → node_in_line limits (line_of e) ≡ Ok (told_of e)
+node_again limits e h =
+    ap (λ r. r >>= node_at limits >>= λ n. cond {A = Result (Key × Kind × List ℕ) FaultKind} (bytes_eq (line_of e) (join_with_byte 32 (node_words n.0 (node_of_kind n.1 n.2)))) (Ok n) (Err kind.BadStart)) (words_cut (node_words e.0 e.1) (words_good limits e h) (some_words e))
+    ∙ ap (λ r. r >>= λ n. cond {A = Result (Key × Kind × List ℕ) FaultKind} (bytes_eq (line_of e) (join_with_byte 32 (node_words n.0 (node_of_kind n.1 n.2)))) (Ok n) (Err kind.BadStart)) (node_told limits e h)
     ∙ strictly e
 
 not_passed : (e : Key × Node) → is_passed_over (line_of e) ≡ false
@@ -144,7 +143,7 @@ not_entries (key, File bytes) = refl
 -- ---- the lines of a start tree
 
 abbrev Told : Limits → List (Key × Node) → Type 0
-Told limits u = AllByRecursion (FitsNode (name_limit limits)) u
+Told limits u = AllByRecursion (FitsNode limits) u
 
 grows : (limits : Limits) (first : Key × Node) (t : Tree) (e : Key × Node) (u : Tree) → IsWithinLimits limits (first ∷ (t ++ e ∷ u)) → grown limits (first ∷ t) (told_of e) ≡ Ok (first ∷ (t ++ e ∷ []))
 grows limits first t (key, Dir) u within = cond-true _ _ _ (node_fits limits first t key kinds.Dir [] u within refl)
@@ -153,14 +152,14 @@ grows limits first t (key, File bytes) u within = cond-true _ _ _ (node_fits lim
 abbrev rest_lines : List (Key × Node) → List Entry → List (List ℕ)
 rest_lines u es = map line_of u ++ codes "entries" ∷ map joined es
 
-started_again : (limits : Limits) (first : Key × Node) (t u : Tree) (n : ℕ) (es : List Entry) → IsWithinLimits limits (first ∷ (t ++ u)) → Told limits u → AllFit (name_limit limits) es
+started_again : (limits : Limits) (first : Key × Node) (t u : Tree) (n : ℕ) (es : List Entry) → IsWithinLimits limits (first ∷ (t ++ u)) → Told limits u → AllFit limits es
     → started_from limits (first ∷ t) n (rest_lines u es) ≡ Ok (starting limits (first ∷ (t ++ u)), es)
 unfolding started_from
 started_again limits first t [] n es within told fit =
-    ap (with_start (starting limits (first ∷ t))) (lines_again (name_limit limits) (n + 1) es fit) ∙ ap (λ (z : Tree). Ok (starting limits (first ∷ z), es)) (sym (append-nil t))
+    ap (with_start (starting limits (first ∷ t))) (lines_again limits (n + 1) es fit) ∙ ap (λ (z : Tree). Ok (starting limits (first ∷ z), es)) (sym (append-nil t))
 started_again limits first t (e ∷ u) n es within told fit =
     cond-false _ _ _ (not_passed e) ∙ cond-false _ _ _ (not_entries e)
-    ∙ ap (λ r. in_start n (r >>= grown limits (first ∷ t)) >>= λ v. started_from limits v (n + 1) (rest_lines u es)) (node_again (name_limit limits) e told.0)
+    ∙ ap (λ r. in_start n (r >>= grown limits (first ∷ t)) >>= λ v. started_from limits v (n + 1) (rest_lines u es)) (node_again limits e told.0)
     ∙ ap (λ r. in_start n r >>= λ v. started_from limits v (n + 1) (rest_lines u es)) (grows limits first t e u within)
     ∙ started_again limits first (t ++ e ∷ []) u (n + 1) es (subst (λ (z : Tree). IsWithinLimits limits (first ∷ z)) (sym (append_assoc t (e ∷ []) u)) within) told.1 fit
     ∙ ap (λ (z : Tree). Ok (starting limits (first ∷ z), es)) (append_assoc t (e ∷ []) u)
@@ -196,7 +195,7 @@ text_of_lines start es told =
 
 nodes_are_lines : (limits : Limits) (u : List (Key × Node)) (more : List (List ℕ)) → Told limits u → AllByRecursion IsLine more → AllByRecursion IsLine (map line_of u ++ more)
 nodes_are_lines limits [] more told h = h
-nodes_are_lines limits (e ∷ u) more told h = (IsLine_joined (node_words e.0 e.1) (words_good (name_limit limits) e told.0), nodes_are_lines limits u more told.1 h)
+nodes_are_lines limits (e ∷ u) more told h = (IsLine_joined (node_words e.0 e.1) (words_good limits e told.0), nodes_are_lines limits u more told.1 h)
 
 is_line : (w : List ℕ) → AllByRecursion (λ b. 31 < b) w → IsLine w
 is_line w h = All-from_recursion (λ b. 31 < b) w h
@@ -205,11 +204,11 @@ header_is_line : (limits : Limits) → IsLine (started_header limits)
 header_is_line V1 = is_line (codes "atomfs-journal 2") (search rules)
 header_is_line V2 = is_line (codes "atomfs-journal 3") (search rules)
 
-text_lines : (start : Start) (es : List Entry) → AreTold start → Told start.limits start.tree → AllFit (name_limit start.limits) es → lines_of (journal_text start es) ≡ all_lines start es
+text_lines : (start : Start) (es : List Entry) → AreTold start → Told start.limits start.tree → AllFit start.limits es → lines_of (journal_text start es) ≡ all_lines start es
 text_lines start es is told fit =
     ap lines_of (text_of_lines start es is)
     ∙ lines_of_ended (all_lines start es)
-    (header_is_line start.limits, (is_line (codes "start") (search rules), nodes_are_lines start.limits start.tree (codes "entries" ∷ map joined es) told (is_line (codes "entries") (search rules), are_lines (name_limit start.limits) es fit)))
+    (header_is_line start.limits, (is_line (codes "start") (search rules), nodes_are_lines start.limits start.tree (codes "entries" ∷ map joined es) told (is_line (codes "entries") (search rules), are_lines start.limits es fit)))
 
 -- ---- the whole text
 
@@ -229,7 +228,7 @@ unfolding journal_of
 read_by V1 text more lines are is = cond-false _ _ _ (ap (first_is (started_header V2)) are) ∙ told_by V1 text _ lines is
 read_by V2 text more lines are is = told_by V2 text _ lines is
 
-told_again : (limits : Limits) (u : Tree) (es : List Entry) → IsWithinLimits limits (([], Dir) ∷ u) → AreTold (starting limits (([], Dir) ∷ u)) → Told limits (([], Dir) ∷ u) → AllFit (name_limit limits) es
+told_again : (limits : Limits) (u : Tree) (es : List Entry) → IsWithinLimits limits (([], Dir) ∷ u) → AreTold (starting limits (([], Dir) ∷ u)) → Told limits (([], Dir) ∷ u) → AllFit limits es
     → length (journal_text (starting limits (([], Dir) ∷ u)) es) ≤ 16777216 → journal_of (journal_text (starting limits (([], Dir) ∷ u)) es) ≡ Ok (starting limits (([], Dir) ∷ u), es)
 told_again limits u es within is told fit short =
     let start : Start = starting limits (([], Dir) ∷ u) in
@@ -242,19 +241,19 @@ told_again limits u es within is told fit short =
     ∙ wanted_again (codes "dir /") (started_from limits root_tree) 3 (line_of ([], Dir)) (rest_lines u es) refl root_line
     ∙ started_again limits ([], Dir) [] u 4 es within told.1 fit
 
-root_again : (es : List Entry) → AllFit (name_limit V1) es → length (journal_text (root_start V1) es) ≤ 16777216 → journal_of (journal_text (root_start V1) es) ≡ Ok (root_start V1, es)
+root_again : (es : List Entry) → AllFit V1 es → length (journal_text (root_start V1) es) ≤ 16777216 → journal_of (journal_text (root_start V1) es) ≡ Ok (root_start V1, es)
 unfolding journal_of
 root_again es fit short =
     let is : journal_text (root_start V1) es ≡ text.journal_text es = from_the_root es in
     let other : (limits : Limits) → first_is (started_header limits) (text.journal_header ∷ map joined es) ≡ false → first_is (started_header limits) (lines_of (journal_text (root_start V1) es)) ≡ false =
-    λ limits no. ap (λ t. first_is (started_header limits) (lines_of t)) is ∙ ap (first_is (started_header limits)) (journal_lines (name_limit V1) es fit) ∙ no in
+    λ limits no. ap (λ t. first_is (started_header limits) (lines_of t)) is ∙ ap (first_is (started_header limits)) (journal_lines V1 es fit) ∙ no in
     cond-false _ _ _ (other V2 refl) ∙ cond-false _ _ _ (other V1 refl)
     ∙ ap (λ t. with_start (root_start V1) (entries_of t)) is
     ∙ ap (with_start (root_start V1)) (journal_again es fit (subst (λ (t : List ℕ). length t ≤ 16777216) is short))
 
 -- what is to be shown of a start
 abbrev IsAgain : List Entry → Start → Type 0
-IsAgain es start = FitsStart start → AllFit (name_limit start.limits) es → length (journal_text start es) ≤ 16777216 → journal_of (journal_text start es) ≡ Ok (start, es)
+IsAgain es start = FitsStart start → AllFit start.limits es → length (journal_text start es) ≤ 16777216 → journal_of (journal_text start es) ≡ Ok (start, es)
 
 two_told : (n : ℕ) → 1 < n → is_told V1 n ≡ true
 two_told n h = let other : eqb n 1 ≡ false = grind (arith, nat_tests, h) in ap not other

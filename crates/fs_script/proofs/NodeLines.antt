@@ -4,8 +4,7 @@ use Rattle.std.specs.Prelude.{◌==◌}
 use Rattle.std.specs.List.{AllByRecursion, flat_map}
 use Rattle.std.proofs.lemmas.Grind.{flat_map-append}
 use Rattle.fs_names.specs.Names.{Name}
-use Rattle.fs_names.specs.Limits.{name_limit}
-use Rattle.fs_names.specs.declared.limits.Limits.TheVariants.{V2}
+use Rattle.fs_names.specs.Limits.{largest}
 use Rattle.fs_text.specs.Fits.{FitsName}
 use Rattle.fs_names.specs.Keys.{Key, names_text, is_root}
 use Rattle.fs_words.specs.Words.{escaped, path_word}
@@ -52,7 +51,7 @@ steps_lead [] names some = absurd (cc)
 steps_lead (s ∷ steps) names some = refl
 
 -- the key of the root has no names
-pub root_fits : (steps : List Step) (names : Key) → is_root (key_above steps ++ names) ≡ true → AllByRecursion (FitsName (name_limit V2)) names
+pub root_fits : (steps : List Step) (names : Key) → is_root (key_above steps ++ names) ≡ true → AllByRecursion (FitsName largest) names
 root_fits [] [] root = tt
 root_fits [] (x ∷ names) root = absurd (cc)
 root_fits (s ∷ steps) names root = absurd (cc)

@@ -3,6 +3,7 @@ use Rattle.std.proofs.Common.{refl, ◌≡◌, ℕ, true, false, List, ◌++◌,
 use Rattle.std.specs.List.{AllByRecursion, flat_map}
 use Rattle.std.proofs.lemmas.Bool.{cond-true, cond-false}
 use Rattle.fs_names.specs.declared.limits.Limits.TheVariants.{V1}
+use Rattle.fs_names.specs.declared.limits.Limits.{Limits}
 use Rattle.fs_calls.specs.Tree.{Tree}
 use Rattle.fs_calls.specs.Starts.{Start, root_start}
 use Rattle.fs_timeline.specs.declared.entry.Entry.{Entry}
@@ -54,9 +55,9 @@ header_pushed line new start rows are untold e =
     e ∙ ap (λ (z : List ℕ). line ++ z) (sym (cond-false _ _ _ (sym (ap (is_told start.limits) (nodes_counted start rows are)) ∙ untold)))
 
 -- what holds of rows holds of their nodes
-pub nodes_fit : (most : ℕ) (start : Tree) (rows shown : List Row) → map row_of rows ≡ start → shown ≡ rows → AllByRecursion (λ r. FitsNode most (row_of r)) shown → AllByRecursion (FitsNode most) start
-nodes_fit most start rows shown are same all = subst (λ (t : Tree). AllByRecursion (FitsNode most) t) (ap (map row_of) same ∙ are) (mapped shown all)
+pub nodes_fit : (limits : Limits) (start : Tree) (rows shown : List Row) → map row_of rows ≡ start → shown ≡ rows → AllByRecursion (λ r. FitsNode limits (row_of r)) shown → AllByRecursion (FitsNode limits) start
+nodes_fit limits start rows shown are same all = subst (λ (t : Tree). AllByRecursion (FitsNode limits) t) (ap (map row_of) same ∙ are) (mapped shown all)
   where
-    mapped : (rows : List Row) → AllByRecursion (λ r. FitsNode most (row_of r)) rows → AllByRecursion (FitsNode most) (map row_of rows)
+    mapped : (rows : List Row) → AllByRecursion (λ r. FitsNode limits (row_of r)) rows → AllByRecursion (FitsNode limits) (map row_of rows)
     mapped [] h = tt
     mapped (row ∷ rows) h = (h.0, mapped rows h.1)

@@ -4,7 +4,7 @@ use Rattle.std.specs.Prelude.{MatchResult}
 use Rattle.std.specs.Str.{bytes_eq}
 use Rattle.std.proofs.lemmas.Bool.{cond-true, cond-false}
 use Rattle.fs_names.specs.Keys.{Key, is_root}
-use Rattle.fs_names.specs.Limits.{name_limit, entry_limit, file_limit}
+use Rattle.fs_names.specs.Limits.{entry_limit, file_limit}
 use Rattle.fs_names.specs.declared.limits.Limits.{Limits}
 use Rattle.fs_names.specs.declared.kind.Kind.{Kind}
 use Rattle.fs_names.specs.declared.kind.Kind.TheVariants.{Dir}
@@ -69,7 +69,7 @@ grown_or : {X : Type 0} (b : Bool) (n : ℕ) (k : FaultKind) (x : Tree) (f : Tre
 grown_or true n k x f = refl
 grown_or false n k x f = refl
 
-step_row : (limits : Limits) (t : Tree) (n : ℕ) (line : List ℕ) (more : List (List ℕ)) (row : Row) → is_passed_over line ≡ false → bytes_eq line (codes "entries") ≡ false → node_in_line (name_limit limits) line ≡ Ok (node_of_row row)
+step_row : (limits : Limits) (t : Tree) (n : ℕ) (line : List ℕ) (more : List (List ℕ)) (row : Row) → is_passed_over line ≡ false → bytes_eq line (codes "entries") ≡ false → node_in_line limits line ≡ Ok (node_of_row row)
     → started_from limits t n (line ∷ more) ≡ cond {A = Read} (fits limits t row) (started_from limits (t ++ row_of row ∷ []) (n + 1) more) (Err (fault_at n kind.BadStart))
 unfolding started_from
 step_row limits t n line more row p other is =
@@ -77,11 +77,11 @@ step_row limits t n line more row p other is =
     ∙ ap (λ r. in_start n (r >>= grown limits t) >>= λ u. started_from limits u (n + 1) more) is
     ∙ grown_or (fits limits t row) n kind.BadStart (t ++ row_of row ∷ []) (λ u. started_from limits u (n + 1) more)
 
-step_wrong : (limits : Limits) (t : Tree) (n : ℕ) (line : List ℕ) (more : List (List ℕ)) (k : FaultKind) → is_passed_over line ≡ false → bytes_eq line (codes "entries") ≡ false → node_in_line (name_limit limits) line ≡ Err k → started_from limits t n (line ∷ more) ≡ Err (fault_at n kind.BadStart)
+step_wrong : (limits : Limits) (t : Tree) (n : ℕ) (line : List ℕ) (more : List (List ℕ)) (k : FaultKind) → is_passed_over line ≡ false → bytes_eq line (codes "entries") ≡ false → node_in_line limits line ≡ Err k → started_from limits t n (line ∷ more) ≡ Err (fault_at n kind.BadStart)
 unfolding started_from
 step_wrong limits t n line more k p other is = cond-false _ _ _ p ∙ cond-false _ _ _ other ∙ ap (λ r. in_start n (r >>= grown limits t) >>= λ u. started_from limits u (n + 1) more) is
 
-step_entries : (limits : Limits) (t : Tree) (n : ℕ) (line : List ℕ) (more : List (List ℕ)) → is_passed_over line ≡ false → bytes_eq line (codes "entries") ≡ true → started_from limits t n (line ∷ more) ≡ with_start (starting limits t) (entries_from (name_limit limits) (n + 1) more)
+step_entries : (limits : Limits) (t : Tree) (n : ℕ) (line : List ℕ) (more : List (List ℕ)) → is_passed_over line ≡ false → bytes_eq line (codes "entries") ≡ true → started_from limits t n (line ∷ more) ≡ with_start (starting limits t) (entries_from limits (n + 1) more)
 unfolding started_from
 step_entries limits t n line more p is = cond-false _ _ _ p ∙ cond-true _ _ _ is
 
@@ -114,7 +114,7 @@ next_line : (limits : Limits) (t : Tree) (left new : LinesLeft) (line : Line) �
 next_line limits t left new line next = next_read (started_from limits t) (started_passes limits t) left new line next
 
 pub row_taken : (limits : Limits) (old left new : LinesLeft) (before rows after : List Row) (numbers more_numbers : List ℕ) (line : Line) (row : Row) → AreTaken limits old before rows numbers (At left) → IsNext left line new
-    → bytes_eq line.text.now (codes "entries") ≡ false → node_in_line (name_limit limits) line.text.now ≡ Ok (node_of_row row) → after ≡ rows ++ row ∷ [] → more_numbers ≡ numbers ++ line.number ∷ [] → AreTaken limits old before after more_numbers (At new)
+    → bytes_eq line.text.now (codes "entries") ≡ false → node_in_line limits line.text.now ≡ Ok (node_of_row row) → after ≡ rows ++ row ∷ [] → more_numbers ≡ numbers ++ line.number ∷ [] → AreTaken limits old before after more_numbers (At new)
 row_taken limits old left new before rows after numbers more_numbers line row taken next other is added numbered = record {
   more = taken.more ++ row ∷ [];
   added = added ∙ ap (λ (z : List Row). z ++ row ∷ []) taken.added ∙ append_assoc before taken.more (row ∷ []);
@@ -135,12 +135,12 @@ row_taken limits old left new before rows after numbers more_numbers line row ta
 pub ends_so : (limits : Limits) (old : LinesLeft) (before rows : List Row) (numbers : List ℕ) (f g : Start → Read) → AreTaken limits old before rows numbers f → ((u : Tree) → f (starting limits u) ≡ g (starting limits u)) → AreTaken limits old before rows numbers g
 ends_so limits old before rows numbers f g taken same = record { more = taken.more; added = taken.added; each = taken.each; read = λ t. taken.read t ∙ rest_same limits t numbers taken.more f g same }
 
-pub at_entries : (limits : Limits) (left new : LinesLeft) (line : Line) → IsNext left line new → bytes_eq line.text.now (codes "entries") ≡ true → (u : Tree) → At left (starting limits u) ≡ with_start (starting limits u) (entries_from (name_limit limits) new.number new.lines)
+pub at_entries : (limits : Limits) (left new : LinesLeft) (line : Line) → IsNext left line new → bytes_eq line.text.now (codes "entries") ≡ true → (u : Tree) → At left (starting limits u) ≡ with_start (starting limits u) (entries_from limits new.number new.lines)
 at_entries limits left new line next is u =
     next_line limits u left new line next ∙ step_entries limits u line.number line.text.now new.lines next.taken is
-    ∙ ap (λ n. with_start (starting limits u) (entries_from (name_limit limits) n new.lines)) (sym next.number)
+    ∙ ap (λ n. with_start (starting limits u) (entries_from limits n new.lines)) (sym next.number)
 
-pub at_wrong : (limits : Limits) (left new : LinesLeft) (line : Line) (k : FaultKind) → IsNext left line new → bytes_eq line.text.now (codes "entries") ≡ false → node_in_line (name_limit limits) line.text.now ≡ Err k → (u : Tree) → At left (starting limits u) ≡ Err (fault_at line.number kind.BadStart)
+pub at_wrong : (limits : Limits) (left new : LinesLeft) (line : Line) (k : FaultKind) → IsNext left line new → bytes_eq line.text.now (codes "entries") ≡ false → node_in_line limits line.text.now ≡ Err k → (u : Tree) → At left (starting limits u) ≡ Err (fault_at line.number kind.BadStart)
 at_wrong limits left new line k next other is u = next_line limits u left new line next ∙ step_wrong limits u line.number line.text.now new.lines k next.taken other is
 
 pub at_end : (limits : Limits) (left new : LinesLeft) → AreOver left new → (u : Tree) → At left (starting limits u) ≡ Err (fault_at new.number kind.BadStart)

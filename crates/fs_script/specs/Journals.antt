@@ -3,7 +3,7 @@ use Rattle.std.specs.Prelude.{ℕ, ◌+◌, ◌-◌, slice_index, take, drop, Bo
 use Rattle.std.specs.List.{flat_map, join_with_byte, slice_split}
 use Rattle.std.specs.Str.{bytes_eq}
 use Rattle.fs_names.specs.Keys.{Key}
-use Rattle.fs_names.specs.Limits.{name_limit}
+use Rattle.fs_names.specs.Limits.{same_limits}
 use Rattle.fs_names.specs.declared.limits.Limits.{Limits}
 use Rattle.fs_names.specs.declared.limits.Limits.TheVariants.{V1, V2}
 use Rattle.fs_names.specs.Reading.{is_slash}
@@ -47,23 +47,23 @@ journal_text start es = opening start ++ flat_map entry_line es
 
 -- ---- read
 
--- the key that a word spells, as a path of any number of names with so many bytes at most: what stands behind each slash
-abbrev pub key_at : ℕ → Word → Result Key FaultKind
-key_at most word = if bytes_eq word (codes "/") then Ok [] else names_at most (behind_first (slice_split is_slash word))
+-- the key that a word spells, as a path of any number of names by these limits: what stands behind each slash
+abbrev pub key_at : Limits → Word → Result Key FaultKind
+key_at limits word = if bytes_eq word (codes "/") then Ok [] else names_at limits (behind_first (slice_split is_slash word))
 
 -- the key, the kind and the bytes of a file, by two words
-abbrev pub file_at : ℕ → Word → Word → Result (Key × Kind × List ℕ) FaultKind
-file_at most path hex = key_at most path >>= λ key. hex_at hex >>= λ bytes. Ok (key, File, bytes)
+abbrev pub file_at : Limits → Word → Word → Result (Key × Kind × List ℕ) FaultKind
+file_at limits path hex = key_at limits path >>= λ key. hex_at hex >>= λ bytes. Ok (key, File, bytes)
 
 -- those of a node that words could tell: a directory by two, a file by three
-abbrev pub node_at : ℕ → List Word → Result (Key × Kind × List ℕ) FaultKind
-node_at most (k ∷ path ∷ []) = key_at most path >>= λ key. Ok (key, Dir, [])
-node_at most (k ∷ path ∷ hex ∷ []) = file_at most path hex
-node_at most _ = Err kind.BadStart
+abbrev pub node_at : Limits → List Word → Result (Key × Kind × List ℕ) FaultKind
+node_at limits (k ∷ path ∷ []) = key_at limits path >>= λ key. Ok (key, Dir, [])
+node_at limits (k ∷ path ∷ hex ∷ []) = file_at limits path hex
+node_at limits _ = Err kind.BadStart
 
 -- the node that a line tells: the line has to be the very one that is written of it
-abbrev pub node_in_line : ℕ → List ℕ → Result (Key × Kind × List ℕ) FaultKind
-node_in_line most line = words_of line >>= node_at most >>= λ n. if bytes_eq line (join_with_byte 32 (node_words n.0 (node_of_kind n.1 n.2))) then Ok n else Err kind.BadStart
+abbrev pub node_in_line : Limits → List ℕ → Result (Key × Kind × List ℕ) FaultKind
+node_in_line limits line = words_of line >>= node_at limits >>= λ n. if bytes_eq line (join_with_byte 32 (node_words n.0 (node_of_kind n.1 n.2))) then Ok n else Err kind.BadStart
 
 -- the tree with one node more, where it fits by these limits
 abbrev pub grown : Limits → Tree → Key × Kind × List ℕ → Result Tree FaultKind
@@ -87,8 +87,8 @@ unfoldable pub started_from : Limits → Tree → ℕ → List (List ℕ) → Re
 started_from limits t n [] = Err (fault_at n kind.BadStart)
 started_from limits t n (line ∷ more) =
     if is_passed_over line then started_from limits t (n + 1) more
-    else (if bytes_eq line (codes "entries") then with_start (record { limits = limits; tree = t }) (entries_from (name_limit limits) (n + 1) more)
-    else (in_start n (node_in_line (name_limit limits) line >>= grown limits t) >>= λ u. started_from limits u (n + 1) more))
+    else (if bytes_eq line (codes "entries") then with_start (record { limits = limits; tree = t }) (entries_from limits (n + 1) more)
+    else (in_start n (node_in_line limits line >>= grown limits t) >>= λ u. started_from limits u (n + 1) more))
 
 -- what the lines tell behind the first that is not passed over, which has to be this one
 unfoldable pub behind_line : List ℕ → (ℕ → List (List ℕ) → Read) → ℕ → List (List ℕ) → Read
@@ -134,7 +134,7 @@ tree_of limits text =
 
 -- the start at which a journal by these limits begins: one by others has another first line
 abbrev pub by_limits : Limits → Read → Result Start ScriptFault
-by_limits limits (Ok read) = if name_limit limits == name_limit read.0.limits then Ok (read.0) else Err (fault_at 1 kind.BadHeader)
+by_limits limits (Ok read) = if same_limits limits read.0.limits then Ok (read.0) else Err (fault_at 1 kind.BadHeader)
 by_limits limits (Err f) = Err f
 
 -- what reading the tree gives at which something starts by these limits: from the text of a tree, or from that of a journal

@@ -2,7 +2,6 @@
 use Rattle.std.specs.Prelude.{ℕ, ◌+◌, Bool, true, false, not, ◌&&◌, ◌||◌, ◌==◌, nat_lt, nat_le, List, [], ◌∷◌, ◌++◌, length, take, drop, Result, Ok, Err, Option, Some, None, if◌then◌else◌, codes, position}
 use Rattle.std.specs.List.{list_all, list_any}
 use Rattle.std.specs.Str.{bytes_eq}
-use Rattle.fs_names.specs.Limits.{name_limit}
 use Rattle.fs_names.specs.declared.limits.Limits.{Limits}
 use Rattle.fs_names.specs.declared.limits.Limits.TheVariants.{V1, V2}
 use Rattle.fs_calls.specs.declared.call.Call.{Call}
@@ -73,7 +72,7 @@ new_call s c = if nat_le CALL_LIMIT (calls_in s.lists) then Err kind.TooLarge el
 
 -- no call stands before the first thread; a call is read by the limits of the script
 abbrev pub call_line : Script → List Word → Result Script FaultKind
-call_line s words = if length s.lists == 0 then Err kind.BadLine else (call_of (name_limit s.limits) words >>= new_call s)
+call_line s words = if length s.lists == 0 then Err kind.BadLine else (call_of s.limits words >>= new_call s)
 
 -- a line of blocks: a thread, or a call of the last thread
 unfoldable pub block_line : Script → List Word → Result Script FaultKind

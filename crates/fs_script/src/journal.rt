@@ -4,7 +4,6 @@ ghost use Rattle.std.specs.Prelude.{◌≡◌, ◌∷◌, ◌++◌, ◌==◌, �
 ghost use Rattle.std.specs.List.{slice_split, join_with_byte};
 ghost use Rattle.std.specs.Str.{bytes_eq};
 ghost use Rattle.fs_names.specs.Reading.{is_slash};
-ghost use Rattle.fs_names.specs.Limits.{name_limit};
 ghost use Rattle.fs_seq.specs.Rows.{key_of, node_of_kind, row_of, is_first, IsWithinLimits};
 ghost use Rattle.fs_names.specs.declared.limits.Limits.TheVariants.{V1};
 ghost use Rattle.fs_calls.specs.Tree.{root_tree};
@@ -42,7 +41,7 @@ fn pieces(alloc: Global, path: &[u8]) -> Result<Vec<&[u8]>, AllocError>
 
 /// The names behind the first piece.
 fn names_behind(alloc: Global, limits: Limits, pieces: &[&[u8]]) -> Result<Vec<Name>, FaultKind>
-    ensures { Gives (λ names. names.items) result (names_at (name_limit limits) (behind_first (map (λ p. p.now) pieces.now))) }
+    ensures { Gives (λ names. names.items) result (names_at limits (behind_first (map (λ p. p.now) pieces.now))) }
 {
     match pieces {
         [] => Ok(Vec::new(alloc)),
@@ -52,7 +51,7 @@ fn names_behind(alloc: Global, limits: Limits, pieces: &[&[u8]]) -> Result<Vec<N
 
 /// The key that a word spells, as a path of any number of names.
 fn key_at(alloc: Global, limits: Limits, word: &[u8]) -> Result<Vec<Name>, FaultKind>
-    ensures { Gives (λ key. key.items) result (key_at (name_limit limits) word.now) }
+    ensures { Gives (λ key. key.items) result (key_at limits word.now) }
 {
     if is_word(word, b"/") {
         return Ok(Vec::new(alloc));
@@ -77,7 +76,7 @@ fn dir_row(alloc: Global, key: Vec<Name>) -> Row
 /// The row of a file, by two words.
 #[tactic(auto, using(fs_words::proofs::ReadLemmas::fails_bind))]
 fn file_at(alloc: Global, limits: Limits, path: &[u8], bytes: &[u8]) -> Result<Row, FaultKind>
-    ensures { Gives node_of_row result (file_at (name_limit limits) path.now bytes.now) }
+    ensures { Gives node_of_row result (file_at limits path.now bytes.now) }
 {
     let key = match key_at(alloc, limits, path) {
         Ok(key) => key,
@@ -96,7 +95,7 @@ fn file_at(alloc: Global, limits: Limits, path: &[u8], bytes: &[u8]) -> Result<R
 /// The row that words could tell.
 #[tactic(auto, using(fs_words::proofs::ReadLemmas::fails_bind))]
 fn row_at(alloc: Global, limits: Limits, words: &[&[u8]]) -> Result<Row, FaultKind>
-    ensures { Gives node_of_row result (node_at (name_limit limits) (map (λ w. w.now) words.now)) }
+    ensures { Gives node_of_row result (node_at limits (map (λ w. w.now) words.now)) }
 {
     match words {
         [_, path] => {
@@ -127,7 +126,7 @@ fn row_in<'a>(
     line: &'a [u8],
     words: &mut Vec<&'a [u8]>,
 ) -> Result<Row, FaultKind>
-    ensures { Gives node_of_row result (node_in_line (name_limit limits) line.now) }
+    ensures { Gives node_of_row result (node_in_line limits line.now) }
 {
     if let Err(kind) = cut_words(line, words) {
         return Err(kind);
@@ -150,7 +149,7 @@ fn told<'a>(
     line: &'a [u8],
     words: &mut Vec<&'a [u8]>,
 ) -> Result<Option<Row>, AllocError>
-    ensures { IfOk result (λ row. IsToldBy row (node_in_line (name_limit limits) line.now)) }
+    ensures { IfOk result (λ row. IsToldBy row (node_in_line limits line.now)) }
 {
     match row_in(alloc, limits, line, words) {
         Ok(row) => Ok(Some(row)),

@@ -2,8 +2,7 @@
 
 ghost use Rattle.std.specs.Prelude.{◌≡◌, ◌++◌, ◌∷◌, [], OnOk};
 ghost use Rattle.std.specs.List.{AllByRecursion, flat_map, join_with_byte};
-ghost use Rattle.fs_names.specs.Limits.{name_limit};
-ghost use Rattle.fs_names.specs.declared.limits.Limits.TheVariants.{V2};
+ghost use Rattle.fs_names.specs.Limits.{largest};
 ghost use Rattle.fs_text.specs.Fits.{FitsName};
 ghost use Rattle.fs_names.specs.Keys.{is_root};
 ghost use Rattle.fs_words.specs.Words.{escaped, path_word};
@@ -33,7 +32,7 @@ fn push_steps(alloc: Global, above: &[Step], line: &mut Addition) -> Result<(), 
 #[tactic(auto, using(fs_text::proofs::FitLemmas::name_is))]
 fn push_names(alloc: Global, names: &[Name], line: &mut Addition) -> Result<(), AllocError>
     ensures ok { OnOk result (line.new.added ≡ line.old.added ++ flat_map (λ n. 47 ∷ escaped n) names.now) }
-    ensures fits { OnOk result (AllByRecursion (FitsName (name_limit V2)) names.now) }
+    ensures fits { OnOk result (AllByRecursion (FitsName largest) names.now) }
     ensures before { line.new.before ≡ line.old.before }
 {
     for name in names {
@@ -57,7 +56,7 @@ fn push_key(
     line: &mut Addition,
 ) -> Result<(), AllocError>
     ensures ok { OnOk result (line.new.added ≡ line.old.added ++ path_word (key_above above.now ++ names.now)) }
-    ensures fits { OnOk result (AllByRecursion (FitsName (name_limit V2)) names.now) }
+    ensures fits { OnOk result (AllByRecursion (FitsName largest) names.now) }
     ensures before { line.new.before ≡ line.old.before }
 {
     if lead_nowhere(above, names) {
@@ -76,7 +75,7 @@ pub(crate) fn push_node(
     line: &mut Addition,
 ) -> Result<(), AllocError>
     ensures ok { OnOk result (line.new.added ≡ line.old.added ++ join_with_byte 32 (node_words (key_above above.now ++ names.now) (node_with bytes.entry))) }
-    ensures fits { OnOk result (FitsNode (name_limit V2) (names.now, node_with bytes.entry)) }
+    ensures fits { OnOk result (FitsNode largest (names.now, node_with bytes.entry)) }
     ensures before { line.new.before ≡ line.old.before }
 {
     match bytes {
@@ -96,7 +95,7 @@ pub(crate) fn push_node(
 /// The words of a row.
 pub(crate) fn push_row(alloc: Global, row: &Row, line: &mut Addition) -> Result<(), AllocError>
     ensures ok { OnOk result (line.new.added ≡ line.old.added ++ join_with_byte 32 (node_words (key_of row.now) (node_of_kind row.now.kind row.now.bytes.items))) }
-    ensures fits { OnOk result (FitsNode (name_limit V2) (row_of row.now)) }
+    ensures fits { OnOk result (FitsNode largest (row_of row.now)) }
     ensures before { line.new.before ≡ line.old.before }
 {
     match row.kind {

@@ -2,8 +2,7 @@
 
 ghost use Rattle.std.specs.Prelude.{◌≡◌, ◌++◌, true, OnOk, OnErr, length, map};
 ghost use Rattle.std.specs.List.{AllByRecursion, flat_map};
-ghost use Rattle.fs_names.specs.Limits.{name_limit};
-ghost use Rattle.fs_names.specs.declared.limits.Limits.TheVariants.{V2};
+ghost use Rattle.fs_names.specs.Limits.{largest};
 ghost use Rattle.fs_seq.specs.Rows.{row_of};
 ghost use Rattle.fs_script.specs.TreeText.{node_line};
 ghost use Rattle.fs_script.specs.Laws.{FitsNode};
@@ -20,7 +19,7 @@ use std::mem;
 /// A line for each row.
 fn push_rows(alloc: Global, rows: &[Row], line: &mut Addition) -> Result<(), AllocError>
     ensures ok { OnOk result (line.new.added ≡ line.old.added ++ flat_map node_line (map row_of rows.now)) }
-    ensures fits { OnOk result (AllByRecursion (λ r. FitsNode (name_limit V2) (row_of r)) rows.now) }
+    ensures fits { OnOk result (AllByRecursion (λ r. FitsNode largest (row_of r)) rows.now) }
     ensures before { line.new.before ≡ line.old.before }
 {
     for row in rows {
@@ -53,7 +52,7 @@ fn is_told(limits: Limits, nodes: usize) -> bool
 #[tactic(auto, unfolding(crate::specs::Journals::opening))]
 fn push_opening(alloc: Global, start: &SeqTree, line: &mut Addition) -> Result<(), AllocError>
     ensures ok { OnOk result (line.new.added ≡ line.old.added ++ opening start.now) }
-    ensures told { OnOk result (is_told start.now.limits (length start.now.tree) ≡ true → AllByRecursion (FitsNode (name_limit V2)) start.now.tree) }
+    ensures told { OnOk result (is_told start.now.limits (length start.now.tree) ≡ true → AllByRecursion (FitsNode largest) start.now.tree) }
     ensures before { line.new.before ≡ line.old.before }
 {
     let rows = start.rows(alloc)?;
@@ -73,7 +72,7 @@ fn push_opening(alloc: Global, start: &SeqTree, line: &mut Addition) -> Result<(
 pub fn write_opening(alloc: Global, start: &SeqTree, text: &mut Vec<u8>) -> Result<(), AllocError>
     ensures ok { OnOk result (text.new.items ≡ text.old.items ++ opening start.now) }
     ensures err { OnErr result (text.new.items ≡ text.old.items) }
-    ensures told { OnOk result (is_told start.now.limits (length start.now.tree) ≡ true → AllByRecursion (FitsNode (name_limit V2)) start.now.tree) }
+    ensures told { OnOk result (is_told start.now.limits (length start.now.tree) ≡ true → AllByRecursion (FitsNode largest) start.now.tree) }
 {
     let mut line = Addition::new(mem::replace(text, Vec::new(alloc)));
     let added = push_opening(alloc, start, &mut line);

@@ -88,7 +88,7 @@ fn start_of_journal(alloc: Global, text: &[u8], limits: Limits) -> Result<SeqTre
         Ok(journal) => journal.start,
         Err(fault) => return Err(fault),
     };
-    if limits.name() == start.limits().name() {
+    if limits.same(start.limits()) {
         Ok(start)
     } else {
         Err(bad_header())

@@ -6,7 +6,6 @@ use Rattle.std.specs.Str.{bytes_eq}
 use Rattle.std.proofs.lemmas.Bool.{cond-true, cond-false}
 use Rattle.std.proofs.lemmas.Bool.Decides.{nat_tests}
 use Rattle.std.proofs.lemmas.List.{drop-drop}
-use Rattle.fs_names.specs.Limits.{name_limit}
 use Rattle.fs_names.specs.declared.limits.Limits.{Limits}
 use Rattle.fs_names.specs.declared.limits.Limits.TheVariants.{V1, V2}
 use Rattle.fs_calls.specs.declared.call.Call.{Call}
@@ -80,9 +79,9 @@ call_again s t texts e = go (length s.lists == 0) refl
   where
     go : (b : Bool) → (length s.lists == 0) ≡ b → CallAgain s texts t
     go true f = absurd (no_ok kind.BadLine t (sym (cond-true _ _ _ f) ∙ e))
-    go false f = by (step_split (call_of (name_limit s.limits) texts) (new_call s) t (sym (cond-false _ _ _ f) ∙ e))
+    go false f = by (step_split (call_of s.limits texts) (new_call s) t (sym (cond-false _ _ _ f) ∙ e))
       where
-        by : (c : Call) × (call_of (name_limit s.limits) texts ≡ Ok c) × (new_call s c ≡ Ok t) → CallAgain s texts t
+        by : (c : Call) × (call_of s.limits texts ≡ Ok c) × (new_call s c ≡ Ok t) → CallAgain s texts t
         by (c, read, new) = room (nat_le CALL_LIMIT (calls_in s.lists)) refl
           where
             room : (d : Bool) → nat_le CALL_LIMIT (calls_in s.lists) ≡ d → CallAgain s texts t
@@ -94,7 +93,7 @@ call_again s t texts e = go (length s.lists == 0) refl
                   some = some_lists (length s.lists) f;
                   again = λ u limits same few.
                       cond-false _ _ _ (ap (λ n. n == 0) same ∙ f)
-                      ∙ ap (λ r. r >>= new_call u) (ap (λ (l : Limits). call_of (name_limit l) texts) limits ∙ read)
+                      ∙ ap (λ r. r >>= new_call u) (ap (λ (l : Limits). call_of l texts) limits ∙ read)
                       ∙ cond-false _ _ _ (fewer_room (calls_in s.lists) (calls_in u.lists) CALL_LIMIT h few);
                 }
 

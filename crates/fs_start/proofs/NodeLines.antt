@@ -10,7 +10,7 @@ use Rattle.std.proofs.Math.Seq.{get_or-append_seam}
 use Rattle.std.specs.Prelude.{take, drop, ◌==◌}
 use Rattle.std.specs.List.{slice_split, onto_first}
 use Rattle.std.specs.Str.{bytes_eq}
-use Rattle.fs_names.specs.Limits.{name_limit}
+use Rattle.fs_names.specs.Limits.{same_limits}
 use Rattle.fs_names.specs.declared.limits.Limits.{Limits}
 use Rattle.fs_names.specs.declared.limits.Limits.TheVariants.{V1, V2}
 use Rattle.fs_names.specs.declared.limits.TheConstants.{NODE_LIMIT}
@@ -88,9 +88,9 @@ at_entries : (m : ℕ) (start : Start) (entries : Result (List Entry) ScriptFaul
 at_entries m start (Ok es) h = h
 at_entries m start (Err f) h = tt
 
-one_node : (limits : Limits) (t : Tree) (n : ℕ) (line : List ℕ) → Given (λ (u : Tree). length u ≡ length t + 1) (in_start n (node_in_line (name_limit limits) line >>= grown limits t))
+one_node : (limits : Limits) (t : Tree) (n : ℕ) (line : List ℕ) → Given (λ (u : Tree). length u ≡ length t + 1) (in_start n (node_in_line limits line >>= grown limits t))
 one_node limits t n line =
-    placed (λ (u : Tree). length u ≡ length t + 1) n _ (any_then (λ (u : Tree). length u ≡ length t + 1) (node_in_line (name_limit limits) line) (grown limits t)
+    placed (λ (u : Tree). length u ≡ length t + 1) n _ (any_then (λ (u : Tree). length u ≡ length t + 1) (node_in_line limits line) (grown limits t)
     (λ e. either_by (λ (u : Tree). length u ≡ length t + 1) (fits_at limits t e.0 e.1 e.2) (Ok (t ++ (e.0, node_of_kind e.1 e.2) ∷ [])) (Err kind.BadStart) (λ h. length-append t ((e.0, node_of_kind e.1 e.2) ∷ [])) (λ h. tt)))
 
 from_most : (limits : Limits) (t : Tree) (n : ℕ) (lines : List (List ℕ)) → Given (Bounds 1 (length t + told lines)) (started_from limits t n lines)
@@ -102,8 +102,8 @@ from_most limits t n (line ∷ more) =
     (λ p. weaker (Bounds 1 (length t + told more)) P _ (λ read h. let less : told more ≤ told (line ∷ more) = told_more line more in omega (arith, h, less)) (from_most limits t (n + 1) more))
     (λ p. let one : told (line ∷ more) ≡ 1 + told more = told_one line more p in
     either_by P (bytes_eq line (codes "entries")) _ _
-    (λ e. at_entries (length t + told (line ∷ more)) (record { limits = limits; tree = t }) (entries_from (name_limit limits) (n + 1) more) (omega (arith, one)))
-    (λ e. given_then (λ (u : Tree). length u ≡ length t + 1) P (in_start n (node_in_line (name_limit limits) line >>= grown limits t)) (λ u. started_from limits u (n + 1) more) (one_node limits t n line)
+    (λ e. at_entries (length t + told (line ∷ more)) (record { limits = limits; tree = t }) (entries_from limits (n + 1) more) (omega (arith, one)))
+    (λ e. given_then (λ (u : Tree). length u ≡ length t + 1) P (in_start n (node_in_line limits line >>= grown limits t)) (λ u. started_from limits u (n + 1) more) (one_node limits t n line)
     (λ u long. weaker (Bounds 1 (length u + told more)) P _ (λ read h. omega (arith, h, long, one)) (from_most limits u (n + 1) more))))
 
 is_other : (line wanted : List ℕ) → is_passed_over wanted ≡ false → bytes_eq line wanted ≡ true → is_passed_over line ≡ false
@@ -274,7 +274,7 @@ plain_many limits text e = by (journal_of text) (journal_many text)
   where
     by : (read : Read) → Given (Many text) read → Given (HasMany text) (by_limits limits read)
     by (Err f) h = tt
-    by (Ok read) h = either_by (HasMany text) (name_limit limits == name_limit read.0.limits) (Ok (read.0)) (Err (fault_at 1 kind.BadHeader)) (λ same. behind_two text read e h) (λ other. tt)
+    by (Ok read) h = either_by (HasMany text) (same_limits limits read.0.limits) (Ok (read.0)) (Err (fault_at 1 kind.BadHeader)) (λ same. behind_two text read e h) (λ other. tt)
 
 start_many : (limits : Limits) (text : List ℕ) → Given (HasMany text) (start_of limits text)
 start_many limits text = either_by (HasMany text) (bytes_eq (take 5 text) (codes "tree\n")) _ _ (tree_many limits text) (plain_many limits text)

@@ -10,7 +10,8 @@ use Rattle.std.specs.Str.{bytes_eq}
 use Rattle.fs_names.specs.Keys.{Key}
 use Rattle.fs_names.specs.Names.{Name, can_name}
 use Rattle.fs_names.specs.Reading.{is_slash}
-use Rattle.fs_names.specs.Limits.{name_limit}
+use Rattle.fs_names.specs.Limits.{same_limits, name_limit}
+use Rattle.fs_names.proofs.LimitLemmas.{one_set}
 use Rattle.fs_names.specs.declared.kind.Kind.{Kind}
 use Rattle.fs_names.specs.declared.limits.Limits.{Limits}
 use Rattle.fs_names.specs.declared.limits.Limits.TheVariants.{V1, V2}
@@ -41,51 +42,51 @@ any_then P (Err e) f each = tt
 
 -- ---- a line
 
-module _ (most : ℕ) where
+module _ (limits : Limits) where
   abbrev Short : Key → Type 0
-  Short key = AllByRecursion (IsShort most) key
+  Short key = AllByRecursion (IsShort limits) key
 
-  name_given : (name : Name) → Given (IsShort most) (read_name most name)
-  name_given name = by (nat_le (length name) most) (can_name name) refl
+  name_given : (name : Name) → Given (IsShort limits) (read_name limits name)
+  name_given name = by (nat_le (length name) (name_limit limits)) (can_name name) refl
     where
-      by : (b c : Bool) → nat_le (length name) most ≡ b → Given (IsShort most) (cond {A = Result Name FaultKind} (b && c) (Ok name) (Err kind.BadReply))
-      by true true e = let h : length name ≤ most = grind (arith, nat_tests) in h
+      by : (b c : Bool) → nat_le (length name) (name_limit limits) ≡ b → Given (IsShort limits) (cond {A = Result Name FaultKind} (b && c) (Ok name) (Err kind.BadReply))
+      by true true e = let h : length name ≤ name_limit limits = grind (arith, nat_tests) in h
       by true false e = tt
       by false c e = tt
 
-  names_given : (ws : List Word) → Given Short (names_at most ws)
+  names_given : (ws : List Word) → Given Short (names_at limits ws)
   names_given [] = tt
-  names_given (w ∷ ws) = given_then (IsShort most) Short (name_at most w) _ (name_given _) (λ n h. given_then Short Short (names_at most ws) _ (names_given ws) (λ ns g. (h, g)))
+  names_given (w ∷ ws) = given_then (IsShort limits) Short (name_at limits w) _ (name_given _) (λ n h. given_then Short Short (names_at limits ws) _ (names_given ws) (λ ns g. (h, g)))
 
-  key_given : (w : Word) → Given Short (key_at most w)
-  key_given w = either Short (bytes_eq w (codes "/")) (Ok []) (names_at most (behind_first (slice_split is_slash w))) tt (names_given (behind_first (slice_split is_slash w)))
+  key_given : (w : Word) → Given Short (key_at limits w)
+  key_given w = either Short (bytes_eq w (codes "/")) (Ok []) (names_at limits (behind_first (slice_split is_slash w))) tt (names_given (behind_first (slice_split is_slash w)))
 
   -- the key of a node
   abbrev Keyed : Key × Kind × List ℕ → Type 0
   Keyed n = Short n.0
 
-  node_given : (ws : List Word) → Given Keyed (node_at most ws)
+  node_given : (ws : List Word) → Given Keyed (node_at limits ws)
   node_given [] = tt
   node_given (k ∷ []) = tt
-  node_given (k ∷ path ∷ []) = given_then Short Keyed (key_at most path) _ (key_given path) (λ key h. h)
-  node_given (k ∷ path ∷ hex ∷ []) = given_then Short Keyed (key_at most path) _ (key_given path) (λ key h. any_then Keyed (hex_at hex) _ (λ bytes. h))
+  node_given (k ∷ path ∷ []) = given_then Short Keyed (key_at limits path) _ (key_given path) (λ key h. h)
+  node_given (k ∷ path ∷ hex ∷ []) = given_then Short Keyed (key_at limits path) _ (key_given path) (λ key h. any_then Keyed (hex_at hex) _ (λ bytes. h))
   node_given (k ∷ path ∷ hex ∷ w ∷ ws) = tt
 
-  line_given : (line : List ℕ) → Given Keyed (node_in_line most line)
-  line_given line = given_then Keyed Keyed (words_of line >>= node_at most) _ (any_then Keyed (words_of line) (node_at most) node_given) (λ n h. either Keyed (bytes_eq line (join_with_byte 32 (node_words n.0 (node_of_kind n.1 n.2)))) (Ok n) (Err kind.BadStart) h tt)
+  line_given : (line : List ℕ) → Given Keyed (node_in_line limits line)
+  line_given line = given_then Keyed Keyed (words_of line >>= node_at limits) _ (any_then Keyed (words_of line) (node_at limits) node_given) (λ n h. either Keyed (bytes_eq line (join_with_byte 32 (node_words n.0 (node_of_kind n.1 n.2)))) (Ok n) (Err kind.BadStart) h tt)
 
 -- ---- a start
 
 -- a start by these limits, whose names are as short as they say
 abbrev pub IsShortStart : Limits → Start → Type 0
-IsShortStart limits start = (start.limits ≡ limits) × NamesTree (IsShort (name_limit limits)) start.tree
+IsShortStart limits start = (start.limits ≡ limits) × NamesTree (IsShort limits) start.tree
 
 abbrev ShortRead : Limits → Start × List Entry → Type 0
 ShortRead limits read = IsShortStart limits read.0
 
-one_more : (most : ℕ) (t : Tree) (e : Key × Node) → NamesTree (IsShort most) t → AllByRecursion (IsShort most) e.0 → NamesTree (IsShort most) (t ++ e ∷ [])
-one_more most [] e h g = (g, tt)
-one_more most (f ∷ t) e h g = (h.0, one_more most t e h.1 g)
+one_more : (limits : Limits) (t : Tree) (e : Key × Node) → NamesTree (IsShort limits) t → AllByRecursion (IsShort limits) e.0 → NamesTree (IsShort limits) (t ++ e ∷ [])
+one_more limits [] e h g = (g, tt)
+one_more limits (f ∷ t) e h g = (h.0, one_more limits t e h.1 g)
 
 entries_given : (limits : Limits) (start : Start) (entries : Result (List Entry) ScriptFault) → IsShortStart limits start → Given (ShortRead limits) (with_start start entries)
 entries_given limits start (Ok es) h = h
@@ -95,15 +96,15 @@ pub placed : {A : Type 0} (P : A → Type 0) (n : ℕ) (r : Result A FaultKind) 
 placed P n (Ok x) h = h
 placed P n (Err k) h = tt
 
-from_given : (limits : Limits) (t : Tree) (n : ℕ) (lines : List (List ℕ)) → NamesTree (IsShort (name_limit limits)) t → Given (ShortRead limits) (started_from limits t n lines)
+from_given : (limits : Limits) (t : Tree) (n : ℕ) (lines : List (List ℕ)) → NamesTree (IsShort limits) t → Given (ShortRead limits) (started_from limits t n lines)
 unfolding started_from
 from_given limits t n [] h = tt
 from_given limits t n (line ∷ more) h =
     either (ShortRead limits) (is_passed_over line) _ _ (from_given limits t (n + 1) more h)
-    (either (ShortRead limits) (bytes_eq line (codes "entries")) _ _ (entries_given limits (record { limits = limits; tree = t }) (entries_from (name_limit limits) (n + 1) more) (refl, h))
-    (given_then (NamesTree (IsShort (name_limit limits))) (ShortRead limits) (in_start n (node_in_line (name_limit limits) line >>= grown limits t)) (λ u. started_from limits u (n + 1) more)
-    (placed (NamesTree (IsShort (name_limit limits))) n _ (given_then (Keyed (name_limit limits)) (NamesTree (IsShort (name_limit limits))) (node_in_line (name_limit limits) line) (grown limits t) (line_given (name_limit limits) line)
-    (λ e g. either (NamesTree (IsShort (name_limit limits))) (fits_at limits t e.0 e.1 e.2) (Ok (t ++ (e.0, node_of_kind e.1 e.2) ∷ [])) (Err kind.BadStart) (one_more (name_limit limits) t (e.0, node_of_kind e.1 e.2) h g) tt)))
+    (either (ShortRead limits) (bytes_eq line (codes "entries")) _ _ (entries_given limits (record { limits = limits; tree = t }) (entries_from limits (n + 1) more) (refl, h))
+    (given_then (NamesTree (IsShort limits)) (ShortRead limits) (in_start n (node_in_line limits line >>= grown limits t)) (λ u. started_from limits u (n + 1) more)
+    (placed (NamesTree (IsShort limits)) n _ (given_then (Keyed limits) (NamesTree (IsShort limits)) (node_in_line limits line) (grown limits t) (line_given limits line)
+    (λ e g. either (NamesTree (IsShort limits)) (fits_at limits t e.0 e.1 e.2) (Ok (t ++ (e.0, node_of_kind e.1 e.2) ∷ [])) (Err kind.BadStart) (one_more limits t (e.0, node_of_kind e.1 e.2) h g) tt)))
     (λ u g. from_given limits u (n + 1) more g)))
 
 behind_given : (P : Start × List Entry → Type 0) (wanted : List ℕ) (read : ℕ → List (List ℕ) → Read) (n : ℕ) (lines : List (List ℕ)) → ((m : ℕ) (rest : List (List ℕ)) → Given P (read m rest)) → Given P (behind_line wanted read n lines)
@@ -117,7 +118,7 @@ abbrev AnyRead : Start × List Entry → Type 0
 AnyRead read = ShortRead read.0.limits read
 
 by_given : (limits : Limits) (read : Read) → Given (ShortRead limits) read → Given AnyRead read
-by_given limits (Ok read) (is, h) = let same : limits ≡ read.0.limits = sym is in (refl, subst (λ (l : Limits). NamesTree (IsShort (name_limit l)) read.0.tree) same h)
+by_given limits (Ok read) (is, h) = let same : limits ≡ read.0.limits = sym is in (refl, subst (λ (l : Limits). NamesTree (IsShort l) read.0.tree) same h)
 by_given limits (Err f) h = tt
 
 header_given : (limits : Limits) (text : List ℕ) → Given (ShortRead limits) (behind_header (started_header limits) text >>= behind_line (codes "start") (behind_line (codes "dir /") (started_from limits root_tree)) 2)
@@ -131,12 +132,6 @@ unfolding journal_of
 journal_given text = or_given V2 text _ (or_given V1 text _ (by_given V1 _ (entries_given V1 (root_start V1) (entries_of text) (refl, (tt, tt)))))
 
 -- ---- the tree at which something starts
-
-same_limits : (a b : Limits) → name_limit a == name_limit b ≡ true → b ≡ a
-same_limits V1 V1 e = refl
-same_limits V1 V2 e = absurd (let z : ◌≡◌ {A = Bool} false true = e in cc)
-same_limits V2 V1 e = absurd (let z : ◌≡◌ {A = Bool} false true = e in cc)
-same_limits V2 V2 e = refl
 
 or_first : (limits : Limits) (text : List ℕ) (other : Read) → first_is (started_header limits) (lines_of text) ≡ true → Given (ShortRead limits) (started_or limits text other)
 or_first limits text other e = subst (Given (ShortRead limits)) (sym (cond-true _ _ _ e)) (header_given limits text)
@@ -176,14 +171,14 @@ start_given limits (Err f) h = tt
 
 by_limits_given : (limits : Limits) (read : Read) → Given AnyRead read → Given (IsShortStart limits) (by_limits limits read)
 by_limits_given limits (Err f) h = tt
-by_limits_given limits (Ok read) h = by (name_limit limits == name_limit read.0.limits) refl
+by_limits_given limits (Ok read) h = by (same_limits limits read.0.limits) refl
   where
-    by : (b : Bool) → name_limit limits == name_limit read.0.limits ≡ b → Given (IsShortStart limits) (cond {A = Result Start ScriptFault} b (Ok (read.0)) (Err (fault_at 1 kind.BadHeader)))
-    by true e = let same : read.0.limits ≡ limits = same_limits limits read.0.limits e in (same, subst (λ (l : Limits). NamesTree (IsShort (name_limit l)) read.0.tree) same h.1)
+    by : (b : Bool) → same_limits limits read.0.limits ≡ b → Given (IsShortStart limits) (cond {A = Result Start ScriptFault} b (Ok (read.0)) (Err (fault_at 1 kind.BadHeader)))
+    by true e = let same : read.0.limits ≡ limits = sym (one_set limits read.0.limits e) in (same, subst (λ (l : Limits). NamesTree (IsShort l) read.0.tree) same h.1)
     by false e = tt
 
 text_given : (limits : Limits) (text : List ℕ) → Given (IsShortStart limits) (start_of limits text)
 text_given limits text = either (IsShortStart limits) (bytes_eq (take 5 text) (codes "tree\n")) _ _ (start_given limits (journal_of (nodes_journal limits (drop 5 text))) (nodes_given limits (drop 5 text))) (by_limits_given limits (journal_of text) (journal_given text))
 
-pub short_start : (limits : Limits) (text : List ℕ) (start : Start) → start_of limits text ≡ Ok start → (start.limits ≡ limits) × NamesTree (IsShort (name_limit limits)) start.tree
+pub short_start : (limits : Limits) (text : List ℕ) (start : Start) → start_of limits text ≡ Ok start → (start.limits ≡ limits) × NamesTree (IsShort limits) start.tree
 short_start limits text start is = given_is (IsShortStart limits) (start_of limits text) start (text_given limits text) is

@@ -1,7 +1,6 @@
 -- Runs from a tree: what is said of one is said of each.
 use Rattle.std.proofs.Common.{◌≡◌, ◌≢◌, ◌<◌, ◌^◌, ℕ, true, List, [], length, Result, Ok, refl, sym, ap, ◌∙◌, subst}
 use Rattle.std.specs.List.{list_any}
-use Rattle.fs_names.specs.Limits.{name_limit}
 use Rattle.fs_names.specs.declared.limits.TheConstants.{NODE_LIMIT}
 use Rattle.fs_calls.specs.Starts.{Start}
 use Rattle.fs_calls.specs.declared.call.Call.{Call}
@@ -96,9 +95,9 @@ module _ (schedule : Schedule) (tree input : List ℕ) (script : Script) (core :
   pub output_at : (end : RunEnd) (text : List ℕ) → IsOutputFrom schedule script (before_all (state_of core) (length script.lists)) end text → IsRunAt schedule tree input end text
   output_at end text (told, last, runs, are) = (script, core.start, are_given, told, last, (before_all (state_of core) (length script.lists), before_at, runs), are)
 
-  pub again_at : (IsRead script → core.start.limits ≡ script.limits → HasShortNames (name_limit script.limits) core.start.tree → SomeIsReadAgain schedule script (before_all (state_of core) (length script.lists))) → EachIsReadAgainAt schedule tree input
+  pub again_at : (IsRead script → core.start.limits ≡ script.limits → HasShortNames script.limits core.start.tree → SomeIsReadAgain schedule script (before_all (state_of core) (length script.lists))) → EachIsReadAgainAt schedule tree input
   again_at again =
-      let keeps : (core.start.limits ≡ script.limits) × HasShortNames (name_limit script.limits) core.start.tree = short_start script.limits tree core.start at.start in
+      let keeps : (core.start.limits ≡ script.limits) × HasShortNames script.limits core.start.tree = short_start script.limits tree core.start at.start in
       each_again_at schedule tree input script core.start (before_all (state_of core) (length script.lists)) are_given before_at (again (input, is) keeps.0 keeps.1)
 
   pub stop_at : (fault : RunFault) → IsWhy (StopsFrom schedule script (before_all (state_of core) (length script.lists))) fault → IsFaultAt schedule tree input (Runs fault)

@@ -1,6 +1,5 @@
 -- What holds of runs from a tree: laws, each proved as the contract of a function of the module `laws`.
 use Rattle.std.specs.Prelude.{ℕ, ◌≡◌, List, Ok}
-use Rattle.fs_names.specs.Limits.{name_limit}
 use Rattle.fs_names.specs.declared.limits.Limits.{Limits}
 use Rattle.fs_calls.specs.Starts.{Start}
 use Rattle.fs_nodes.specs.Graphs.{Graph}
@@ -25,4 +24,4 @@ OneRunFrom = (schedule : Schedule) (script : Script) (start : Start) (told other
 
 -- a tree that is read has the limits by which it is read, and its names keep them
 abbrev pub StartsKeepLimits : Type 0
-StartsKeepLimits = (limits : Limits) (text : List ℕ) (start : Start) → start_of limits text ≡ Ok start → (start.limits ≡ limits) × HasShortNames (name_limit limits) start.tree
+StartsKeepLimits = (limits : Limits) (text : List ℕ) (start : Start) → start_of limits text ≡ Ok start → (start.limits ≡ limits) × HasShortNames limits start.tree

@@ -4,8 +4,8 @@ use Rattle.std.specs.Prelude.{slice_get}
 use Rattle.std.specs.List.{AllByRecursion}
 use Rattle.fs_names.specs.Names.{Name, AreBytes, IsName, can_name}
 use Rattle.fs_names.specs.Keys.{Key, IsPath}
-use Rattle.fs_names.specs.Limits.{name_limit}
-use Rattle.fs_names.specs.declared.limits.Limits.TheVariants.{V2}
+use Rattle.fs_names.specs.Limits.{largest}
+use Rattle.fs_names.proofs.LimitLemmas.{room_is_largest}
 use Rattle.fs_names.proofs.TextLemmas.{name_short}
 use Rattle.fs_text.specs.Fits.{FitsName, FitsPath}
 
@@ -26,16 +26,16 @@ all_taken P (x ∷ xs) (suc i) within all = (all.0, all_taken P xs i (omega (ari
 
 -- ---- what a name and a path of the code always are
 
--- bytes that are a name are one of the second version
-pub name_fits : (n : Name) → can_name n ≡ true → AreBytes n → FitsName (name_limit V2) n
+-- bytes that are a name are one of the largest set
+pub name_fits : (n : Name) → can_name n ≡ true → AreBytes n → FitsName largest n
 name_fits n h bytes = record { is_name = record { test = h; bytes = bytes }; short = name_short n h }
 
-pub name_is : (n : Name) → IsName n → FitsName (name_limit V2) n
+pub name_is : (n : Name) → IsName n → FitsName largest n
 name_is n h = name_fits n h.test h.bytes
 
-names_fit : (ns : Key) → AllByRecursion IsName ns → AllByRecursion (FitsName (name_limit V2)) ns
+names_fit : (ns : Key) → AllByRecursion IsName ns → AllByRecursion (FitsName largest) ns
 names_fit [] h = tt
 names_fit (n ∷ ns) h = (name_is n h.0, names_fit ns h.1)
 
-pub path_fits : (key : Key) → IsPath key → FitsPath (name_limit V2) key
-path_fits key h = record { few = h.short; names = names_fit key h.names }
+pub path_fits : (key : Key) → IsPath key → FitsPath largest key
+path_fits key h = record { few = omega (arith, h.short, room_is_largest); names = names_fit key h.names }

@@ -1,18 +1,17 @@
--- Calls that are read have only names that keep the limit.
+-- Calls that are read have only paths that keep the limits.
 use Rattle.std.proofs.Common.{◌≡◌, ℕ, Bool, true, false, cond, List, [], ◌∷◌, Option, Some, None, Result, Ok, Err, refl, subst, codes}
-use Rattle.std.specs.List.{AllByRecursion}
 use Rattle.std.specs.Str.{bytes_eq}
 use Rattle.percent_encoding.specs.Percent.{percent_decode}
 use Rattle.fs_names.specs.Keys.{Key}
 use Rattle.fs_names.specs.Reading.{reading}
 use Rattle.fs_names.specs.declared.fault.PathFault.{PathFault}
-use Rattle.fs_names.proofs.ReadingLemmas.{read_short}
+use Rattle.fs_names.specs.declared.limits.Limits.{Limits}
+use Rattle.fs_names.proofs.ReadingLemmas.{KeepsLimits, read_short}
 use Rattle.fs_calls.specs.declared.call.Call.{Call}
 use Rattle.fs_calls.specs.declared.call.Call.TheVariants as call
 use Rattle.fs_timeline.proofs.KeptNames.{NamesCall}
 use Rattle.fs_words.specs.Words.{Word}
 use Rattle.fs_words.specs.Reading.{◌>>=◌, or_bad_path, path_at, number_at, hex_at}
-use Rattle.fs_words.proofs.PathLemmas.{IsShort}
 use Rattle.fs_text.specs.Calls.{CallForm, one_path, two_paths, a_number, two_numbers, number_and_bytes, longer_form_of, form_of, one_path_of, two_paths_of, a_number_of, two_numbers_of, number_and_bytes_of, arguments_at, formed_call, call_of}
 
 -- what is given, if it is something, is such
@@ -34,21 +33,21 @@ pub given_is : {A F : Type 0} (P : A → Type 0) (r : Result A F) (x : A) → Gi
 given_is P (Ok y) x h e = let same : y ≡ x = cc in subst P same h
 given_is P (Err f) x h e = absurd (cc)
 
-module _ (most : ℕ) where
+module _ (limits : Limits) where
   abbrev Short : Key → Type 0
-  Short key = AllByRecursion (IsShort most) key
+  Short key = KeepsLimits limits key
 
   abbrev Shorts : Call → Type 0
-  Shorts c = NamesCall (IsShort most) c
+  Shorts c = NamesCall (KeepsLimits limits) c
 
-  read_given : (bytes : List ℕ) (r : Result Key PathFault) → reading most bytes ≡ r → Given Short (or_bad_path r)
-  read_given bytes (Ok key) e = read_short most bytes key e
+  read_given : (bytes : List ℕ) (r : Result Key PathFault) → reading limits bytes ≡ r → Given Short (or_bad_path r)
+  read_given bytes (Ok key) e = read_short limits bytes key e
   read_given bytes (Err f) e = tt
 
-  path_given : (w : Word) → Given Short (path_at most w)
-  path_given w = read_given (percent_decode w) (reading most (percent_decode w)) refl
+  path_given : (w : Word) → Given Short (path_at limits w)
+  path_given w = read_given (percent_decode w) (reading limits (percent_decode w)) refl
 
-  -- what a form makes of short names has short names
+  -- what a form makes of paths that keep the limits has such paths
   abbrev Takes : CallForm → Type 0
   Takes (one_path make) = (p : Key) → Short p → Shorts (make p)
   Takes (two_paths make) = (p q : Key) → Short p → Short q → Shorts (make p q)
@@ -82,50 +81,50 @@ module _ (most : ℕ) where
       (or_takes (bytes_eq w (codes "readdir")) (one_path call.Readdir) (longer_form_of w) (λ p h. h) (longer_takes w))))))
 
   -- the words behind the first
-  one_given : (ws : List Word) → Given Short (one_path_of most ws)
+  one_given : (ws : List Word) → Given Short (one_path_of limits ws)
   one_given [] = tt
   one_given (p ∷ []) = path_given p
   one_given (p ∷ q ∷ ws) = tt
 
-  two_given : (ws : List Word) → Given (λ (both : Key × Key). Short both.0 × Short both.1) (two_paths_of most ws)
+  two_given : (ws : List Word) → Given (λ (both : Key × Key). Short both.0 × Short both.1) (two_paths_of limits ws)
   two_given [] = tt
   two_given (p ∷ []) = tt
-  two_given (p ∷ q ∷ []) = given_then Short _ (path_at most p) _ (path_given p) (λ x h. given_then Short _ (path_at most q) _ (path_given q) (λ y g. (h, g)))
+  two_given (p ∷ q ∷ []) = given_then Short _ (path_at limits p) _ (path_given p) (λ x h. given_then Short _ (path_at limits q) _ (path_given q) (λ y g. (h, g)))
   two_given (p ∷ q ∷ r ∷ ws) = tt
 
-  number_given : (ws : List Word) → Given (λ (found : Key × ℕ). Short found.0) (a_number_of most ws)
+  number_given : (ws : List Word) → Given (λ (found : Key × ℕ). Short found.0) (a_number_of limits ws)
   number_given [] = tt
   number_given (p ∷ []) = tt
-  number_given (p ∷ n ∷ []) = given_then Short _ (path_at most p) _ (path_given p) (λ x h. any_then _ (number_at n) _ (λ size. h))
+  number_given (p ∷ n ∷ []) = given_then Short _ (path_at limits p) _ (path_given p) (λ x h. any_then _ (number_at n) _ (λ size. h))
   number_given (p ∷ n ∷ r ∷ ws) = tt
 
-  numbers_given : (ws : List Word) → Given (λ (found : Key × ℕ × ℕ). Short found.0) (two_numbers_of most ws)
+  numbers_given : (ws : List Word) → Given (λ (found : Key × ℕ × ℕ). Short found.0) (two_numbers_of limits ws)
   numbers_given [] = tt
   numbers_given (p ∷ []) = tt
   numbers_given (p ∷ m ∷ []) = tt
-  numbers_given (p ∷ m ∷ n ∷ []) = given_then Short _ (path_at most p) _ (path_given p) (λ x h. any_then _ (number_at m) _ (λ off. any_then _ (number_at n) _ (λ count. h)))
+  numbers_given (p ∷ m ∷ n ∷ []) = given_then Short _ (path_at limits p) _ (path_given p) (λ x h. any_then _ (number_at m) _ (λ off. any_then _ (number_at n) _ (λ count. h)))
   numbers_given (p ∷ m ∷ n ∷ r ∷ ws) = tt
 
-  bytes_given : (ws : List Word) → Given (λ (found : Key × ℕ × List ℕ). Short found.0) (number_and_bytes_of most ws)
+  bytes_given : (ws : List Word) → Given (λ (found : Key × ℕ × List ℕ). Short found.0) (number_and_bytes_of limits ws)
   bytes_given [] = tt
   bytes_given (p ∷ []) = tt
   bytes_given (p ∷ n ∷ []) = tt
-  bytes_given (p ∷ n ∷ b ∷ []) = given_then Short _ (path_at most p) _ (path_given p) (λ x h. any_then _ (number_at n) _ (λ off. any_then _ (hex_at b) _ (λ bytes. h)))
+  bytes_given (p ∷ n ∷ b ∷ []) = given_then Short _ (path_at limits p) _ (path_given p) (λ x h. any_then _ (number_at n) _ (λ off. any_then _ (hex_at b) _ (λ bytes. h)))
   bytes_given (p ∷ n ∷ b ∷ r ∷ ws) = tt
 
-  arguments_given : (form : CallForm) (ws : List Word) → Takes form → Given Shorts (arguments_at most form ws)
-  arguments_given (one_path make) ws takes = given_then Short Shorts (one_path_of most ws) _ (one_given ws) takes
-  arguments_given (two_paths make) ws takes = given_then _ Shorts (two_paths_of most ws) _ (two_given ws) (λ both h. takes both.0 both.1 h.0 h.1)
-  arguments_given (a_number make) ws takes = given_then _ Shorts (a_number_of most ws) _ (number_given ws) (λ found h. takes found.0 found.1 h)
-  arguments_given (two_numbers make) ws takes = given_then _ Shorts (two_numbers_of most ws) _ (numbers_given ws) (λ found h. takes found.0 found.1 found.2 h)
-  arguments_given (number_and_bytes make) ws takes = given_then _ Shorts (number_and_bytes_of most ws) _ (bytes_given ws) (λ found h. takes found.0 found.1 found.2 h)
+  arguments_given : (form : CallForm) (ws : List Word) → Takes form → Given Shorts (arguments_at limits form ws)
+  arguments_given (one_path make) ws takes = given_then Short Shorts (one_path_of limits ws) _ (one_given ws) takes
+  arguments_given (two_paths make) ws takes = given_then _ Shorts (two_paths_of limits ws) _ (two_given ws) (λ both h. takes both.0 both.1 h.0 h.1)
+  arguments_given (a_number make) ws takes = given_then _ Shorts (a_number_of limits ws) _ (number_given ws) (λ found h. takes found.0 found.1 h)
+  arguments_given (two_numbers make) ws takes = given_then _ Shorts (two_numbers_of limits ws) _ (numbers_given ws) (λ found h. takes found.0 found.1 found.2 h)
+  arguments_given (number_and_bytes make) ws takes = given_then _ Shorts (number_and_bytes_of limits ws) _ (bytes_given ws) (λ found h. takes found.0 found.1 found.2 h)
 
-  formed_given : (form : Option CallForm) (ws : List Word) → TakesSome form → Given Shorts (formed_call most form ws)
+  formed_given : (form : Option CallForm) (ws : List Word) → TakesSome form → Given Shorts (formed_call limits form ws)
   formed_given None ws takes = tt
   formed_given (Some form) ws takes = arguments_given form ws takes
 
-  -- a call that words spell has short names
-  pub call_given : (ws : List Word) → Given (NamesCall (IsShort most)) (call_of most ws)
+  -- a call that words spell has paths that keep the limits
+  pub call_given : (ws : List Word) → Given (NamesCall (KeepsLimits limits)) (call_of limits ws)
   unfolding call_of
   call_given [] = tt
   call_given (first ∷ more) = formed_given (form_of first) more (form_takes first)

@@ -1,7 +1,9 @@
--- What fits, and has short names, fits a smaller limit.
-use Rattle.std.proofs.Common.{ℕ, List, [], ◌∷◌}
+-- What fits, and has few and short names, fits smaller limits.
+use Rattle.std.proofs.Common.{List, [], ◌∷◌}
 use Rattle.std.specs.List.{AllByRecursion}
 use Rattle.fs_names.specs.Keys.{Key}
+use Rattle.fs_names.specs.declared.limits.Limits.{Limits}
+use Rattle.fs_names.proofs.ReadingLemmas.{KeepsLimits}
 use Rattle.fs_calls.specs.declared.call.Call.{Call}
 use Rattle.fs_calls.specs.declared.call.Call.TheVariants as call
 use Rattle.fs_calls.specs.declared.reply.Reply.{Reply}
@@ -12,15 +14,15 @@ use Rattle.fs_timeline.proofs.KeptNames.{NamesCall, NamesReply, NamesEntry}
 use Rattle.fs_words.proofs.PathLemmas.{IsShort}
 use Rattle.fs_text.specs.Fits.{FitsName, FitsPath, FitsCall, FitsReply, FitsEntry, AllFit}
 
-module _ (more most : ℕ) where
-  pub short_names : (ns : Key) → AllByRecursion (FitsName more) ns → AllByRecursion (IsShort most) ns → AllByRecursion (FitsName most) ns
+module _ (more limits : Limits) where
+  pub short_names : (ns : Key) → AllByRecursion (FitsName more) ns → AllByRecursion (IsShort limits) ns → AllByRecursion (FitsName limits) ns
   short_names [] h s = tt
   short_names (n ∷ ns) h s = (record { is_name = h.0.is_name; short = s.0 }, short_names ns h.1 s.1)
 
-  short_path : (p : Key) → FitsPath more p → AllByRecursion (IsShort most) p → FitsPath most p
-  short_path p h s = record { few = h.few; names = short_names p h.names s }
+  short_path : (p : Key) → FitsPath more p → KeepsLimits limits p → FitsPath limits p
+  short_path p h s = record { few = s.few; names = short_names p h.names s.short }
 
-  short_call : (c : Call) → FitsCall more c → NamesCall (IsShort most) c → FitsCall most c
+  short_call : (c : Call) → FitsCall more c → NamesCall (KeepsLimits limits) c → FitsCall limits c
   short_call (call.Mkdir p) h s = short_path p h s
   short_call (call.Mknod p) h s = short_path p h s
   short_call (call.Unlink p) h s = short_path p h s
@@ -33,7 +35,7 @@ module _ (more most : ℕ) where
   short_call (call.Write p off bytes) h s = (short_path p h.0 s, h.1, h.2)
   short_call (call.Truncate p size) h s = (short_path p h.0 s, h.1)
 
-  short_reply : (r : Reply) → FitsReply more r → NamesReply (IsShort most) r → FitsReply most r
+  short_reply : (r : Reply) → FitsReply more r → NamesReply (IsShort limits) r → FitsReply limits r
   short_reply reply.Done h s = h
   short_reply (reply.Stat k size) h s = h
   short_reply (reply.Names names) h s = short_names names h s
@@ -41,12 +43,12 @@ module _ (more most : ℕ) where
   short_reply (reply.Wrote size) h s = h
   short_reply (reply.Failed e) h s = h
 
-  short_entry : (e : Entry) → FitsEntry more e → NamesEntry (IsShort most) e → FitsEntry most e
+  short_entry : (e : Entry) → FitsEntry more e → NamesEntry (IsShort limits) (KeepsLimits limits) e → FitsEntry limits e
   short_entry (Begin c s x) h g = (h.0, h.1, short_call x h.2 g)
   short_entry (Commit c) h g = h
   short_entry (Return c r) h g = (h.0, short_reply r h.1 g)
 
-  -- entries that fit, and whose names are short
-  pub all_short : (es : List Entry) → AllFit more es → AllByRecursion (NamesEntry (IsShort most)) es → AllFit most es
+  -- entries that fit, and whose names are few and short
+  pub all_short : (es : List Entry) → AllFit more es → AllByRecursion (NamesEntry (IsShort limits) (KeepsLimits limits)) es → AllFit limits es
   all_short [] h s = tt
   all_short (e ∷ es) h s = (short_entry e h.0 s.0, all_short es h.1 s.1)

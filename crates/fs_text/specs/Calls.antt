@@ -2,6 +2,7 @@
 use Rattle.std.specs.Prelude.{ℕ, Bool, false, ◌==◌, List, [], ◌∷◌, length, Result, Ok, Err, Option, Some, None, if◌then◌else◌, codes, decimal}
 use Rattle.std.specs.Str.{bytes_eq}
 use Rattle.fs_names.specs.Keys.{Key}
+use Rattle.fs_names.specs.declared.limits.Limits.{Limits}
 use Rattle.fs_calls.specs.declared.call.Call.{Call}
 use Rattle.fs_calls.specs.declared.call.Call.TheVariants.{Mkdir, Mknod, Unlink, Rmdir, Rename, Exchange, Stat, Readdir, Read, Write, Truncate}
 use Rattle.fs_words.specs.Words.{Word, hex_word, path_word}
@@ -56,54 +57,54 @@ form_of word =
     else (if bytes_eq word (codes "readdir") then Some (one_path Readdir)
     else longer_form_of word)))))
 
--- the words behind the first, read from left to right, with names of so many bytes at most
-abbrev pub one_path_of : ℕ → List Word → Result Key FaultKind
-one_path_of most (p ∷ []) = path_at most p
-one_path_of most _ = Err kind.BadLine
+-- the words behind the first, read from left to right, by these limits
+abbrev pub one_path_of : Limits → List Word → Result Key FaultKind
+one_path_of limits (p ∷ []) = path_at limits p
+one_path_of limits _ = Err kind.BadLine
 
 -- two words as two paths
-abbrev pub two_paths_at : ℕ → Word → Word → Result (Key × Key) FaultKind
-two_paths_at most p q = path_at most p >>= λ from. path_at most q >>= λ to. Ok (from, to)
+abbrev pub two_paths_at : Limits → Word → Word → Result (Key × Key) FaultKind
+two_paths_at limits p q = path_at limits p >>= λ from. path_at limits q >>= λ to. Ok (from, to)
 
 -- the words of two paths; another number of words is a bad line
-abbrev pub two_paths_of : ℕ → List Word → Result (Key × Key) FaultKind
-two_paths_of most (p ∷ q ∷ []) = two_paths_at most p q
-two_paths_of most _ = Err kind.BadLine
+abbrev pub two_paths_of : Limits → List Word → Result (Key × Key) FaultKind
+two_paths_of limits (p ∷ q ∷ []) = two_paths_at limits p q
+two_paths_of limits _ = Err kind.BadLine
 
 -- two words as a path and a number
-abbrev pub a_number_at : ℕ → Word → Word → Result (Key × ℕ) FaultKind
-a_number_at most p n = path_at most p >>= λ key. number_at n >>= λ size. Ok (key, size)
+abbrev pub a_number_at : Limits → Word → Word → Result (Key × ℕ) FaultKind
+a_number_at limits p n = path_at limits p >>= λ key. number_at n >>= λ size. Ok (key, size)
 
 -- the words of a path and a number; another number of words is a bad line
-abbrev pub a_number_of : ℕ → List Word → Result (Key × ℕ) FaultKind
-a_number_of most (p ∷ n ∷ []) = a_number_at most p n
-a_number_of most _ = Err kind.BadLine
+abbrev pub a_number_of : Limits → List Word → Result (Key × ℕ) FaultKind
+a_number_of limits (p ∷ n ∷ []) = a_number_at limits p n
+a_number_of limits _ = Err kind.BadLine
 
 -- three words as a path and two numbers
-abbrev pub two_numbers_at : ℕ → Word → Word → Word → Result (Key × ℕ × ℕ) FaultKind
-two_numbers_at most p m n = path_at most p >>= λ key. number_at m >>= λ off. number_at n >>= λ count. Ok (key, off, count)
+abbrev pub two_numbers_at : Limits → Word → Word → Word → Result (Key × ℕ × ℕ) FaultKind
+two_numbers_at limits p m n = path_at limits p >>= λ key. number_at m >>= λ off. number_at n >>= λ count. Ok (key, off, count)
 
 -- the words of a path and two numbers; another number of words is a bad line
-abbrev pub two_numbers_of : ℕ → List Word → Result (Key × ℕ × ℕ) FaultKind
-two_numbers_of most (p ∷ m ∷ n ∷ []) = two_numbers_at most p m n
-two_numbers_of most _ = Err kind.BadLine
+abbrev pub two_numbers_of : Limits → List Word → Result (Key × ℕ × ℕ) FaultKind
+two_numbers_of limits (p ∷ m ∷ n ∷ []) = two_numbers_at limits p m n
+two_numbers_of limits _ = Err kind.BadLine
 
 -- three words as a path, a number and bytes
-abbrev pub number_and_bytes_at : ℕ → Word → Word → Word → Result (Key × ℕ × List ℕ) FaultKind
-number_and_bytes_at most p n h = path_at most p >>= λ key. number_at n >>= λ off. hex_at h >>= λ bytes. Ok (key, off, bytes)
+abbrev pub number_and_bytes_at : Limits → Word → Word → Word → Result (Key × ℕ × List ℕ) FaultKind
+number_and_bytes_at limits p n h = path_at limits p >>= λ key. number_at n >>= λ off. hex_at h >>= λ bytes. Ok (key, off, bytes)
 
 -- the words of a path, a number and bytes; another number of words is a bad line
-abbrev pub number_and_bytes_of : ℕ → List Word → Result (Key × ℕ × List ℕ) FaultKind
-number_and_bytes_of most (p ∷ n ∷ h ∷ []) = number_and_bytes_at most p n h
-number_and_bytes_of most _ = Err kind.BadLine
+abbrev pub number_and_bytes_of : Limits → List Word → Result (Key × ℕ × List ℕ) FaultKind
+number_and_bytes_of limits (p ∷ n ∷ h ∷ []) = number_and_bytes_at limits p n h
+number_and_bytes_of limits _ = Err kind.BadLine
 
 -- the call of a form, with the arguments that the words spell
-abbrev pub arguments_at : ℕ → CallForm → List Word → Result Call FaultKind
-arguments_at most (one_path make) words = one_path_of most words >>= λ key. Ok (make key)
-arguments_at most (two_paths make) words = two_paths_of most words >>= λ both. Ok (make both.0 both.1)
-arguments_at most (a_number make) words = a_number_of most words >>= λ found. Ok (make found.0 found.1)
-arguments_at most (two_numbers make) words = two_numbers_of most words >>= λ found. Ok (make found.0 found.1 found.2)
-arguments_at most (number_and_bytes make) words = number_and_bytes_of most words >>= λ found. Ok (make found.0 found.1 found.2)
+abbrev pub arguments_at : Limits → CallForm → List Word → Result Call FaultKind
+arguments_at limits (one_path make) words = one_path_of limits words >>= λ key. Ok (make key)
+arguments_at limits (two_paths make) words = two_paths_of limits words >>= λ both. Ok (make both.0 both.1)
+arguments_at limits (a_number make) words = a_number_of limits words >>= λ found. Ok (make found.0 found.1)
+arguments_at limits (two_numbers make) words = two_numbers_of limits words >>= λ found. Ok (make found.0 found.1 found.2)
+arguments_at limits (number_and_bytes make) words = number_and_bytes_of limits words >>= λ found. Ok (make found.0 found.1 found.2)
 
 -- how many words stand behind the first
 abbrev pub argument_count : CallForm → ℕ
@@ -114,14 +115,14 @@ argument_count (two_numbers make) = 3
 argument_count (number_and_bytes make) = 3
 
 -- the same; a first word that begins no call is a bad line
-abbrev pub formed_call : ℕ → Option CallForm → List Word → Result Call FaultKind
-formed_call most None words = Err kind.BadLine
-formed_call most (Some form) words = arguments_at most form words
+abbrev pub formed_call : Limits → Option CallForm → List Word → Result Call FaultKind
+formed_call limits None words = Err kind.BadLine
+formed_call limits (Some form) words = arguments_at limits form words
 
--- the call that words spell, with names of so many bytes at most: a first word that is none, and a wrong number of words, are a bad line
-unfoldable pub call_of : ℕ → List Word → Result Call FaultKind
-call_of most [] = Err kind.BadLine
-call_of most (first ∷ more) = formed_call most (form_of first) more
+-- the call that words spell, by these limits: a first word that is none, and a wrong number of words, are a bad line
+unfoldable pub call_of : Limits → List Word → Result Call FaultKind
+call_of limits [] = Err kind.BadLine
+call_of limits (first ∷ more) = formed_call limits (form_of first) more
 
 -- whether a call has this first word, and so many words behind it
 abbrev pub is_formed : Option CallForm → List Word → Bool

@@ -3,10 +3,10 @@ use Rattle.std.specs.Prelude.{ℕ, ◌+◌, Bool, List, [], ◌∷◌, ◌++◌,
 use Rattle.std.specs.List.{flat_map}
 use Rattle.std.specs.Str.{bytes_eq}
 use Rattle.fs_names.specs.Names.{Name}
-use Rattle.fs_names.specs.Limits.{name_limit}
 use Rattle.fs_names.specs.declared.limits.Limits.TheVariants.{V1}
 use Rattle.fs_names.specs.declared.kind.Kind.{Kind}
 use Rattle.fs_names.specs.declared.kind.Kind.TheVariants.{Dir, File}
+use Rattle.fs_names.specs.declared.limits.Limits.{Limits}
 use Rattle.fs_calls.specs.declared.errno.Errno.{Errno}
 use Rattle.fs_calls.specs.declared.errno.Errno.TheVariants as errno
 use Rattle.fs_calls.specs.declared.reply.Reply.{Reply}
@@ -89,10 +89,10 @@ errno_of word =
     else (if bytes_eq word (codes "EFBIG") then Some errno.Efbig
     else None)))))))))
 
--- words as names of so many bytes at most; the first that is none is the answer
-abbrev pub names_at : ℕ → List Word → Result (List Name) FaultKind
-names_at most [] = Ok []
-names_at most (word ∷ more) = name_at most word >>= λ n. names_at most more >>= λ ns. Ok (n ∷ ns)
+-- words as names, by these limits; the first that is none is the answer
+abbrev pub names_at : Limits → List Word → Result (List Name) FaultKind
+names_at limits [] = Ok []
+names_at limits (word ∷ more) = name_at limits word >>= λ n. names_at limits more >>= λ ns. Ok (n ∷ ns)
 
 -- what stands behind `ok`: nothing
 abbrev pub done_of : List Word → Result Reply FaultKind
@@ -109,8 +109,8 @@ stated_of (k ∷ n ∷ []) = stated_at k n
 stated_of _ = Err kind.BadReply
 
 -- what stands behind `names`: any number of names
-abbrev pub names_of : ℕ → List Word → Result Reply FaultKind
-names_of most words = names_at most words >>= λ ns. Ok (Names ns)
+abbrev pub names_of : Limits → List Word → Result Reply FaultKind
+names_of limits words = names_at limits words >>= λ ns. Ok (Names ns)
 
 -- what stands behind `bytes`: one word of hexadecimal digits
 abbrev pub bytes_of : List Word → Result Reply FaultKind
@@ -128,12 +128,12 @@ failed_of (e ∷ []) = or_fault kind.BadReply (errno_of e) >>= λ found. Ok (Fai
 failed_of _ = Err kind.BadReply
 
 -- the reply that words spell: its form is looked at before a number or bytes in it
-unfoldable pub reply_of : ℕ → List Word → Result Reply FaultKind
-reply_of most [] = Err kind.BadReply
-reply_of most (first ∷ more) =
+unfoldable pub reply_of : Limits → List Word → Result Reply FaultKind
+reply_of limits [] = Err kind.BadReply
+reply_of limits (first ∷ more) =
     if bytes_eq first (codes "ok") then done_of more
     else (if bytes_eq first (codes "stat") then stated_of more
-    else (if bytes_eq first (codes "names") then names_of most more
+    else (if bytes_eq first (codes "names") then names_of limits more
     else (if bytes_eq first (codes "bytes") then bytes_of more
     else (if bytes_eq first (codes "wrote") then wrote_of more
     else (if bytes_eq first (codes "failed") then failed_of more
@@ -142,13 +142,13 @@ reply_of most (first ∷ more) =
 -- ---- read: entries
 
 -- a Begin by its number, its seat and the words of its call
-abbrev pub begin_at : ℕ → Word → Word → List Word → Result Entry FaultKind
-begin_at most c s call = number_at c >>= λ call_no. number_at s >>= λ seat. call_of most call >>= λ found. Ok (Begin call_no seat found)
+abbrev pub begin_at : Limits → Word → Word → List Word → Result Entry FaultKind
+begin_at limits c s call = number_at c >>= λ call_no. number_at s >>= λ seat. call_of limits call >>= λ found. Ok (Begin call_no seat found)
 
 -- what stands behind `begin`; a call of another form is a bad line
-abbrev pub begin_of : ℕ → List Word → Result Entry FaultKind
-begin_of most (c ∷ s ∷ call) = if has_call_form call then begin_at most c s call else Err kind.BadLine
-begin_of most _ = Err kind.BadLine
+abbrev pub begin_of : Limits → List Word → Result Entry FaultKind
+begin_of limits (c ∷ s ∷ call) = if has_call_form call then begin_at limits c s call else Err kind.BadLine
+begin_of limits _ = Err kind.BadLine
 
 -- what stands behind `commit`: one number
 abbrev pub commit_of : List Word → Result Entry FaultKind
@@ -156,22 +156,22 @@ commit_of (c ∷ []) = number_at c >>= λ call_no. Ok (Commit call_no)
 commit_of _ = Err kind.BadLine
 
 -- what stands behind `return`: a number, and the words of a reply
-abbrev pub return_of : ℕ → List Word → Result Entry FaultKind
-return_of most (c ∷ first ∷ more) = number_at c >>= λ call_no. reply_of most (first ∷ more) >>= λ found. Ok (Return call_no found)
-return_of most _ = Err kind.BadLine
+abbrev pub return_of : Limits → List Word → Result Entry FaultKind
+return_of limits (c ∷ first ∷ more) = number_at c >>= λ call_no. reply_of limits (first ∷ more) >>= λ found. Ok (Return call_no found)
+return_of limits _ = Err kind.BadLine
 
 -- the entry that words spell
-unfoldable pub entry_of : ℕ → List Word → Result Entry FaultKind
-entry_of most [] = Err kind.BadLine
-entry_of most (first ∷ more) =
-    if bytes_eq first (codes "begin") then begin_of most more
+unfoldable pub entry_of : Limits → List Word → Result Entry FaultKind
+entry_of limits [] = Err kind.BadLine
+entry_of limits (first ∷ more) =
+    if bytes_eq first (codes "begin") then begin_of limits more
     else (if bytes_eq first (codes "commit") then commit_of more
-    else (if bytes_eq first (codes "return") then return_of most more
+    else (if bytes_eq first (codes "return") then return_of limits more
     else Err kind.BadLine))
 
 -- the entry that a line spells
-abbrev pub entry_in_line : ℕ → List ℕ → Result Entry FaultKind
-entry_in_line most line = words_of line >>= entry_of most
+abbrev pub entry_in_line : Limits → List ℕ → Result Entry FaultKind
+entry_in_line limits line = words_of line >>= entry_of limits
 
 -- ---- read: the text
 
@@ -180,13 +180,13 @@ abbrev pub is_tree_line : List ℕ → Bool
 is_tree_line line = bytes_eq line (codes "tree")
 
 -- what the lines from this number on spell, up to a line `tree`
-unfoldable pub entries_from : ℕ → ℕ → List (List ℕ) → Result (List Entry) ScriptFault
-entries_from most n [] = Ok []
-entries_from most n (line ∷ more) =
-    if is_passed_over line then entries_from most (n + 1) more
+unfoldable pub entries_from : Limits → ℕ → List (List ℕ) → Result (List Entry) ScriptFault
+entries_from limits n [] = Ok []
+entries_from limits n (line ∷ more) =
+    if is_passed_over line then entries_from limits (n + 1) more
     else (if is_tree_line line then Ok []
-    else (at_line n (entry_in_line most line) >>= λ e. entries_from most (n + 1) more >>= λ es. Ok (e ∷ es)))
+    else (at_line n (entry_in_line limits line) >>= λ e. entries_from limits (n + 1) more >>= λ es. Ok (e ∷ es)))
 
 -- what reading a journal text of the first version gives
 unfoldable pub entries_of : List ℕ → Result (List Entry) ScriptFault
-entries_of text = behind_header journal_header text >>= entries_from (name_limit V1) 2
+entries_of text = behind_header journal_header text >>= entries_from V1 2

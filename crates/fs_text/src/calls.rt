@@ -1,7 +1,6 @@
 //! Calls that are read from words.
 
 ghost use Rattle.std.specs.Prelude.{◌≡◌, ◌∷◌, [], map, option_map};
-ghost use Rattle.fs_names.specs.Limits.{name_limit};
 ghost use Rattle.fs_calls.specs.declared.call.Call.TheVariants.{Read, Write, Truncate};
 ghost use Rattle.fs_text.specs.Calls.{one_path, two_paths, a_number, two_numbers, number_and_bytes, a_number_at, arguments_at, call_of, form_of, argument_count, has_call_form};
 ghost use Rattle.fs_words.specs.Reading.{hex_at};
@@ -84,7 +83,7 @@ fn call_on_at<'a>(
     call: OnPath,
     path: &'a [u8],
 ) -> Result<Call, FaultKind>
-    ensures { Gives (λ call. call) result (arguments_at (name_limit limits) (one_path (call_on call)) (path.now ∷ [])) }
+    ensures { Gives (λ call. call) result (arguments_at limits (one_path (call_on call)) (path.now ∷ [])) }
 {
     match path_with(alloc, recent, limits, path) {
         Ok(path) => Ok(call_on(call, path)),
@@ -101,7 +100,7 @@ fn call_on_both_at<'a>(
     path: &'a [u8],
     other: &'a [u8],
 ) -> Result<Call, FaultKind>
-    ensures { Gives (λ call. call) result (arguments_at (name_limit limits) (two_paths (call_on_both call)) (path.now ∷ other.now ∷ [])) }
+    ensures { Gives (λ call. call) result (arguments_at limits (two_paths (call_on_both call)) (path.now ∷ other.now ∷ [])) }
 {
     let path = match path_with(alloc, recent, limits, path) {
         Ok(path) => path,
@@ -120,7 +119,7 @@ fn a_number_at<'a>(
     path: &'a [u8],
     size: &[u8],
 ) -> Result<(Path, u64), FaultKind>
-    ensures { Gives (λ p. (p.0, p.1)) result (a_number_at (name_limit limits) path.now size.now) }
+    ensures { Gives (λ p. (p.0, p.1)) result (a_number_at limits path.now size.now) }
 {
     let path = match path_with(alloc, recent, limits, path) {
         Ok(path) => path,
@@ -139,7 +138,7 @@ fn truncate_at<'a>(
     path: &'a [u8],
     size: &[u8],
 ) -> Result<Call, FaultKind>
-    ensures { Gives (λ call. call) result (arguments_at (name_limit limits) (a_number Truncate) (path.now ∷ size.now ∷ [])) }
+    ensures { Gives (λ call. call) result (arguments_at limits (a_number Truncate) (path.now ∷ size.now ∷ [])) }
 {
     match a_number_at(alloc, recent, limits, path, size) {
         Ok((path, size)) => Ok(Call::Truncate(path, size)),
@@ -155,7 +154,7 @@ fn read_at<'a>(
     off: &[u8],
     count: &[u8],
 ) -> Result<Call, FaultKind>
-    ensures { Gives (λ call. call) result (arguments_at (name_limit limits) (two_numbers Read) (path.now ∷ off.now ∷ count.now ∷ [])) }
+    ensures { Gives (λ call. call) result (arguments_at limits (two_numbers Read) (path.now ∷ off.now ∷ count.now ∷ [])) }
 {
     let (path, off) = match a_number_at(alloc, recent, limits, path, off) {
         Ok(both) => both,
@@ -188,7 +187,7 @@ fn write_at<'a>(
     off: &[u8],
     bytes: &[u8],
 ) -> Result<Call, FaultKind>
-    ensures { Gives (λ call. call) result (arguments_at (name_limit limits) (number_and_bytes Write) (path.now ∷ off.now ∷ bytes.now ∷ [])) }
+    ensures { Gives (λ call. call) result (arguments_at limits (number_and_bytes Write) (path.now ∷ off.now ∷ bytes.now ∷ [])) }
 {
     let (path, off) = match a_number_at(alloc, recent, limits, path, off) {
         Ok(both) => both,
@@ -207,7 +206,7 @@ fn arguments_at<'a>(
     form: Form,
     words: &[&'a [u8]],
 ) -> Result<Call, FaultKind>
-    ensures { Gives (λ call. call) result (arguments_at (name_limit limits) (form_meant form) (map (λ w. w.now) words.now)) }
+    ensures { Gives (λ call. call) result (arguments_at limits (form_meant form) (map (λ w. w.now) words.now)) }
 {
     match (form, words) {
         (Form::OnPath(call), [path]) => call_on_at(alloc, recent, limits, call, path),
@@ -223,7 +222,7 @@ fn arguments_at<'a>(
 
 /// The call that words spell by these limits.
 pub fn call_at(alloc: Global, limits: Limits, words: &[&[u8]]) -> Result<Call, FaultKind>
-    ensures { Gives (λ call. call) result (call_of (name_limit limits) (map (λ w. w.now) words.now)) }
+    ensures { Gives (λ call. call) result (call_of limits (map (λ w. w.now) words.now)) }
 {
     call_with(alloc, &mut Recent::none(alloc), limits, words)
 }
@@ -236,7 +235,7 @@ pub fn call_with<'a>(
     limits: Limits,
     words: &[&'a [u8]],
 ) -> Result<Call, FaultKind>
-    ensures { Gives (λ call. call) result (call_of (name_limit limits) (map (λ w. w.now) words.now)) }
+    ensures { Gives (λ call. call) result (call_of limits (map (λ w. w.now) words.now)) }
 {
     let [first, more @ ..] = words else {
         return Err(FaultKind::BadLine);

@@ -1,7 +1,6 @@
 //! Journals that are read from their text.
 
 ghost use Rattle.std.specs.Prelude.{◌≡◌, map};
-ghost use Rattle.fs_names.specs.Limits.{name_limit};
 ghost use Rattle.fs_text.specs.Journal.{begin_at, begin_of, commit_of, return_of, entry_of, entry_in_line, entries_from, entries_of};
 ghost use Rattle.fs_words.specs.code.Answers.{Gives, GivesText};
 
@@ -23,7 +22,7 @@ fn begin_at<'a>(
     seat: &[u8],
     call: &[&'a [u8]],
 ) -> Result<Entry, FaultKind>
-    ensures { Gives (λ entry. entry) result (begin_at (name_limit limits) call_no.now seat.now (map (λ w. w.now) call.now)) }
+    ensures { Gives (λ entry. entry) result (begin_at limits call_no.now seat.now (map (λ w. w.now) call.now)) }
 {
     let call_no = number_at(call_no)?;
     let seat = number_at(seat)?;
@@ -37,7 +36,7 @@ fn begin_of<'a>(
     limits: Limits,
     words: &[&'a [u8]],
 ) -> Result<Entry, FaultKind>
-    ensures { Gives (λ entry. entry) result (begin_of (name_limit limits) (map (λ w. w.now) words.now)) }
+    ensures { Gives (λ entry. entry) result (begin_of limits (map (λ w. w.now) words.now)) }
 {
     match words {
         [call_no, seat, call @ ..] if has_call_form(call) => begin_at(
@@ -57,7 +56,7 @@ fn commit_of(words: &[&[u8]]) -> Result<Entry, FaultKind>
 }
 
 fn return_of(alloc: Global, limits: Limits, words: &[&[u8]]) -> Result<Entry, FaultKind>
-    ensures { Gives (λ entry. entry) result (return_of (name_limit limits) (map (λ w. w.now) words.now)) }
+    ensures { Gives (λ entry. entry) result (return_of limits (map (λ w. w.now) words.now)) }
 {
     match words {
         [call_no, reply @ ..] if !reply.is_empty() => {
@@ -75,7 +74,7 @@ fn entry_at<'a>(
     limits: Limits,
     words: &[&'a [u8]],
 ) -> Result<Entry, FaultKind>
-    ensures { Gives (λ entry. entry) result (entry_of (name_limit limits) (map (λ w. w.now) words.now)) }
+    ensures { Gives (λ entry. entry) result (entry_of limits (map (λ w. w.now) words.now)) }
 {
     match words {
         [] => Err(FaultKind::BadLine),
@@ -101,7 +100,7 @@ fn entry_in<'a>(
     line: &'a [u8],
     words: &mut Vec<&'a [u8]>,
 ) -> Result<Entry, FaultKind>
-    ensures { Gives (λ entry. entry) result (entry_in_line (name_limit limits) line.now) }
+    ensures { Gives (λ entry. entry) result (entry_in_line limits line.now) }
 {
     if let Err(kind) = cut_words(line, words) {
         return Err(kind);
@@ -116,7 +115,7 @@ pub fn entries_in(
     limits: Limits,
     lines: Lines<'_>,
 ) -> Result<Vec<Entry>, ScriptFault>
-    ensures { GivesText (λ entries. entries.items) result (entries_from (name_limit limits) lines.entry.number lines.entry.lines) }
+    ensures { GivesText (λ entries. entries.items) result (entries_from limits lines.entry.number lines.entry.lines) }
 {
     let mut entries = Vec::new(alloc);
     let mut words = Vec::new(alloc);

@@ -1,7 +1,6 @@
 //! Replies that are read from words.
 
 ghost use Rattle.std.specs.Prelude.{◌≡◌, map};
-ghost use Rattle.fs_names.specs.Limits.{name_limit};
 ghost use Rattle.fs_text.specs.Journal.{kind_named, errno_of, stated_at, stated_of, names_at, names_of, bytes_of, wrote_of, failed_of, done_of, reply_of};
 ghost use Rattle.fs_words.specs.code.Answers.{Gives};
 
@@ -87,7 +86,7 @@ fn stated_of(words: &[&[u8]]) -> Result<Reply, FaultKind>
 
 /// The names that words are by these limits, unescaped; the first that is none is a `BadReply`.
 pub fn names_at(alloc: Global, limits: Limits, words: &[&[u8]]) -> Result<Vec<Name>, FaultKind>
-    ensures { Gives (λ names. names.items) result (names_at (name_limit limits) (map (λ w. w.now) words.now)) }
+    ensures { Gives (λ names. names.items) result (names_at limits (map (λ w. w.now) words.now)) }
 {
     let Ok(mut names) = Vec::with_capacity(alloc, words.len()) else {
         return Err(FaultKind::OutOfMemory);
@@ -107,7 +106,7 @@ pub fn names_at(alloc: Global, limits: Limits, words: &[&[u8]]) -> Result<Vec<Na
 }
 
 fn names_of(alloc: Global, limits: Limits, words: &[&[u8]]) -> Result<Reply, FaultKind>
-    ensures { Gives (λ reply. reply) result (names_of (name_limit limits) (map (λ w. w.now) words.now)) }
+    ensures { Gives (λ reply. reply) result (names_of limits (map (λ w. w.now) words.now)) }
 {
     match names_at(alloc, limits, words) {
         Ok(names) => Ok(Reply::Names(NameList::new(names))),
@@ -145,7 +144,7 @@ fn failed_of(words: &[&[u8]]) -> Result<Reply, FaultKind>
 /// The reply that words spell.
 #[tactic(auto, unfolding(crate::specs::Journal::reply_of))]
 pub(crate) fn reply_at(alloc: Global, limits: Limits, words: &[&[u8]]) -> Result<Reply, FaultKind>
-    ensures { Gives (λ reply. reply) result (reply_of (name_limit limits) (map (λ w. w.now) words.now)) }
+    ensures { Gives (λ reply. reply) result (reply_of limits (map (λ w. w.now) words.now)) }
 {
     let [first, more @ ..] = words else {
         return Err(FaultKind::BadReply);

@@ -2,8 +2,7 @@
 
 ghost use Rattle.std.specs.Prelude.{◌≡◌, ◌++◌, ◌∷◌, OnOk, OnErr};
 ghost use Rattle.std.specs.List.{AllByRecursion, flat_map, join_with_byte};
-ghost use Rattle.fs_names.specs.Limits.{name_limit};
-ghost use Rattle.fs_names.specs.declared.limits.Limits.TheVariants.{V2};
+ghost use Rattle.fs_names.specs.Limits.{largest};
 ghost use Rattle.fs_words.specs.Words.{escaped, path_word};
 ghost use Rattle.fs_text.specs.Calls.{call_words};
 ghost use Rattle.fs_text.specs.Fits.{FitsName, FitsPath, FitsCall, FitsReply, FitsEntry};
@@ -27,7 +26,7 @@ fn push_with_path(
     line: &mut Addition,
 ) -> Result<(), AllocError>
     ensures ok { OnOk result (line.new.added ≡ line.old.added ++ word.now ++ path_word path.now) }
-    ensures path { OnOk result (FitsPath (name_limit V2) path.now) }
+    ensures path { OnOk result (FitsPath largest path.now) }
     ensures before { line.new.before ≡ line.old.before }
 {
     line.push(word)?;
@@ -43,7 +42,7 @@ fn push_with_paths(
     line: &mut Addition,
 ) -> Result<(), AllocError>
     ensures ok { OnOk result (line.new.added ≡ line.old.added ++ word.now ++ path_word path.now ++ 32 ∷ path_word other.now) }
-    ensures paths { OnOk result (FitsPath (name_limit V2) path.now × FitsPath (name_limit V2) other.now) }
+    ensures paths { OnOk result (FitsPath largest path.now × FitsPath largest other.now) }
     ensures before { line.new.before ≡ line.old.before }
 {
     push_with_path(alloc, word, path, line)?;
@@ -52,7 +51,7 @@ fn push_with_paths(
 
 fn push_call(alloc: Global, call: &Call, line: &mut Addition) -> Result<(), AllocError>
     ensures ok { OnOk result (line.new.added ≡ line.old.added ++ join_with_byte 32 (call_words call.now)) }
-    ensures fits { OnOk result (FitsCall (name_limit V2) call.now) }
+    ensures fits { OnOk result (FitsCall largest call.now) }
     ensures before { line.new.before ≡ line.old.before }
 {
     match call {
@@ -81,7 +80,7 @@ fn push_read(
     line: &mut Addition,
 ) -> Result<(), AllocError>
     ensures ok { OnOk result (line.new.added ≡ line.old.added ++ join_with_byte 32 (call_words (Read path.now off count))) }
-    ensures fits { OnOk result (FitsCall (name_limit V2) (Read path.now off count)) }
+    ensures fits { OnOk result (FitsCall largest (Read path.now off count)) }
     ensures before { line.new.before ≡ line.old.before }
 {
     push_with_path(alloc, b"read ", path, line)?;
@@ -97,7 +96,7 @@ fn push_write(
     line: &mut Addition,
 ) -> Result<(), AllocError>
     ensures ok { OnOk result (line.new.added ≡ line.old.added ++ join_with_byte 32 (call_words (Write path.now off bytes.now))) }
-    ensures fits { OnOk result (FitsCall (name_limit V2) (Write path.now off bytes.now)) }
+    ensures fits { OnOk result (FitsCall largest (Write path.now off bytes.now)) }
     ensures before { line.new.before ≡ line.old.before }
 {
     push_with_path(alloc, b"write ", path, line)?;
@@ -137,7 +136,7 @@ pub fn errno_text(errno: Errno) -> &'static [u8]
 #[tactic(auto, using(crate::proofs::FitLemmas::name_fits))]
 fn push_names(alloc: Global, names: &[Name], line: &mut Addition) -> Result<(), AllocError>
     ensures ok { OnOk result (line.new.added ≡ line.old.added ++ flat_map (λ n. 32 ∷ escaped n) names.now) }
-    ensures fits { OnOk result (AllByRecursion (FitsName (name_limit V2)) names.now) }
+    ensures fits { OnOk result (AllByRecursion (FitsName largest) names.now) }
     ensures before { line.new.before ≡ line.old.before }
 {
     for name in names {
@@ -149,7 +148,7 @@ fn push_names(alloc: Global, names: &[Name], line: &mut Addition) -> Result<(), 
 
 fn push_reply(alloc: Global, reply: &Reply, line: &mut Addition) -> Result<(), AllocError>
     ensures ok { OnOk result (line.new.added ≡ line.old.added ++ join_with_byte 32 (reply_words reply.now)) }
-    ensures fits { OnOk result (FitsReply (name_limit V2) reply.now) }
+    ensures fits { OnOk result (FitsReply largest reply.now) }
     ensures before { line.new.before ≡ line.old.before }
 {
     match reply {
@@ -177,7 +176,7 @@ fn push_reply(alloc: Global, reply: &Reply, line: &mut Addition) -> Result<(), A
 
 fn push_entry(alloc: Global, entry: &Entry, line: &mut Addition) -> Result<(), AllocError>
     ensures ok { OnOk result (line.new.added ≡ line.old.added ++ entry_line entry.now) }
-    ensures fits { OnOk result (FitsEntry (name_limit V2) entry.now) }
+    ensures fits { OnOk result (FitsEntry largest entry.now) }
     ensures before { line.new.before ≡ line.old.before }
 {
     match entry {
@@ -204,7 +203,7 @@ fn push_entry(alloc: Global, entry: &Entry, line: &mut Addition) -> Result<(), A
 pub fn write_entry(alloc: Global, entry: &Entry, text: &mut Vec<u8>) -> Result<(), AllocError>
     ensures ok { OnOk result (text.new.items ≡ text.old.items ++ entry_line entry.now) }
     ensures err { OnErr result (text.new.items ≡ text.old.items) }
-    ensures fits { OnOk result (FitsEntry (name_limit V2) entry.now) }
+    ensures fits { OnOk result (FitsEntry largest entry.now) }
 {
     let mut line = Addition::new(mem::replace(text, Vec::new(alloc)));
     let added = push_entry(alloc, entry, &mut line);

@@ -1,4 +1,5 @@
--- Names of a kind: where the start tree and the calls that began have only such names, the replies of a lawful timeline tell no others.
+-- Names of a kind, and keys of another that have only such names: where the start tree has only such names, and the calls that began only such
+-- keys, the replies of a lawful timeline tell only such names.
 use Rattle.std.proofs.Common.{◌≡◌, ℕ, ◌==◌, Bool, true, false, cond, List, [], ◌∷◌, ◌++◌, map, filter, Option, Some, None, refl, subst}
 use Rattle.std.specs.List.{AllByRecursion}
 use Rattle.std.specs.FinMap.{put}
@@ -23,19 +24,19 @@ use Rattle.fs_timeline.specs.Timeline.{is_commit, call_of, with_call, commits_of
 use Rattle.fs_timeline.specs.declared.entry.Entry.{Entry}
 use Rattle.fs_timeline.specs.declared.entry.Entry.TheVariants.{Begin, Commit, Return}
 
--- what a call, a reply and an entry name
-abbrev pub NamesCall : (Name → Type 0) → Call → Type 0
-NamesCall P (Mkdir p) = AllByRecursion P p
-NamesCall P (Mknod p) = AllByRecursion P p
-NamesCall P (Unlink p) = AllByRecursion P p
-NamesCall P (Rmdir p) = AllByRecursion P p
-NamesCall P (Rename p q) = AllByRecursion P p × AllByRecursion P q
-NamesCall P (Exchange p q) = AllByRecursion P p × AllByRecursion P q
-NamesCall P (Stat p) = AllByRecursion P p
-NamesCall P (Readdir p) = AllByRecursion P p
-NamesCall P (Read p off count) = AllByRecursion P p
-NamesCall P (Write p off bytes) = AllByRecursion P p
-NamesCall P (Truncate p size) = AllByRecursion P p
+-- what a call, a reply and an entry name: a call whole keys
+abbrev pub NamesCall : (Key → Type 0) → Call → Type 0
+NamesCall Q (Mkdir p) = Q p
+NamesCall Q (Mknod p) = Q p
+NamesCall Q (Unlink p) = Q p
+NamesCall Q (Rmdir p) = Q p
+NamesCall Q (Rename p q) = Q p × Q q
+NamesCall Q (Exchange p q) = Q p × Q q
+NamesCall Q (Stat p) = Q p
+NamesCall Q (Readdir p) = Q p
+NamesCall Q (Read p off count) = Q p
+NamesCall Q (Write p off bytes) = Q p
+NamesCall Q (Truncate p size) = Q p
 
 abbrev pub NamesReply : (Name → Type 0) → Reply → Type 0
 NamesReply P answer.Done = Unit {0}
@@ -45,16 +46,16 @@ NamesReply P (answer.Bytes bytes) = Unit {0}
 NamesReply P (answer.Wrote size) = Unit {0}
 NamesReply P (answer.Failed e) = Unit {0}
 
-abbrev pub NamesEntry : (Name → Type 0) → Entry → Type 0
-NamesEntry P (Begin c s call) = NamesCall P call
-NamesEntry P (Commit c) = Unit {0}
-NamesEntry P (Return c r) = NamesReply P r
+abbrev pub NamesEntry : (Name → Type 0) → (Key → Type 0) → Entry → Type 0
+NamesEntry P Q (Begin c s call) = NamesCall Q call
+NamesEntry P Q (Commit c) = Unit {0}
+NamesEntry P Q (Return c r) = NamesReply P r
 
 -- what an entry names, if it begins a call
-abbrev pub NamesBegun : (Name → Type 0) → Entry → Type 0
-NamesBegun P (Begin c s call) = NamesCall P call
-NamesBegun P (Commit c) = Unit {0}
-NamesBegun P (Return c r) = Unit {0}
+abbrev pub NamesBegun : (Key → Type 0) → Entry → Type 0
+NamesBegun Q (Begin c s call) = NamesCall Q call
+NamesBegun Q (Commit c) = Unit {0}
+NamesBegun Q (Return c r) = Unit {0}
 
 -- what a tree names
 abbrev pub NamesNode : (Name → Type 0) → Key × Node → Type 0
@@ -63,7 +64,7 @@ NamesNode P e = AllByRecursion P e.0
 abbrev pub NamesTree : (Name → Type 0) → Tree → Type 0
 NamesTree P t = AllByRecursion (NamesNode P) t
 
-module _ (P : Name → Type 0) where
+module _ (P : Name → Type 0) (Q : Key → Type 0) (named : (k : Key) → Q k → AllByRecursion P k) where
   -- ---- keys
 
   joined : (p q : Key) → AllByRecursion P p → AllByRecursion P q → AllByRecursion P (p ++ q)
@@ -138,32 +139,32 @@ module _ (P : Name → Type 0) where
   either_kept true t new h g = h
   either_kept false t new h g = g
 
-  change_kept : (limits : Limits) (t : Tree) (call : Call) → NamesTree P t → NamesCall P call → NamesTree P (change limits t call)
-  change_kept limits t (Mkdir p) h g = inserted_kept t p Dir h g
-  change_kept limits t (Mknod p) h g = inserted_kept t p (File []) h g
+  change_kept : (limits : Limits) (t : Tree) (call : Call) → NamesTree P t → NamesCall Q call → NamesTree P (change limits t call)
+  change_kept limits t (Mkdir p) h g = inserted_kept t p Dir h (named p g)
+  change_kept limits t (Mknod p) h g = inserted_kept t p (File []) h (named p g)
   change_kept limits t (Unlink p) h g = removed_kept t p h
   change_kept limits t (Rmdir p) h g = removed_kept t p h
-  change_kept limits t (Rename p q) h g = either_kept (is_same p q) t (renamed t p q) h (renamed_kept t p q h g.1)
-  change_kept limits t (Exchange p q) h g = either_kept (is_same p q) t (exchanged t p q) h (exchanged_kept t p q h g.0 g.1)
+  change_kept limits t (Rename p q) h g = either_kept (is_same p q) t (renamed t p q) h (renamed_kept t p q h (named q g.1))
+  change_kept limits t (Exchange p q) h g = either_kept (is_same p q) t (exchanged t p q) h (exchanged_kept t p q h (named p g.0) (named q g.1))
   change_kept limits t (Stat p) h g = h
   change_kept limits t (Readdir p) h g = h
   change_kept limits t (Read p off count) h g = h
   change_kept limits t (Write p off bytes) h g =
       elim (has_any bytes) as (λ b. NamesTree P (filled t p (cond {A = Option (List ℕ)} b (Some (written (bytes_of (tree_shapes t p)) off bytes)) None))) [
-        | true ↦ inserted_kept t p _ h g
+        | true ↦ inserted_kept t p _ h (named p g)
         | false ↦ h
       ]
-  change_kept limits t (Truncate p size) h g = inserted_kept t p _ h g
+  change_kept limits t (Truncate p size) h g = inserted_kept t p _ h (named p g)
 
   sound_kept : (found : Option Errno) (old new : Tree) → NamesTree P old → NamesTree P new → NamesTree P (if_sound found old new)
   sound_kept None old new h g = g
   sound_kept (Some e) old new h g = h
 
-  after_kept : (limits : Limits) (t : Tree) (call : Call) → NamesTree P t → NamesCall P call → NamesTree P (after limits t call)
+  after_kept : (limits : Limits) (t : Tree) (call : Call) → NamesTree P t → NamesCall Q call → NamesTree P (after limits t call)
   unfolding after
   after_kept limits t call h g = sound_kept (fault limits t call) t (change limits t call) h (change_kept limits t call h g)
 
-  pub play_kept : (start : Start) (calls : List Call) → NamesTree P start.tree → AllByRecursion (NamesCall P) calls → NamesTree P (play start calls)
+  pub play_kept : (start : Start) (calls : List Call) → NamesTree P start.tree → AllByRecursion (NamesCall Q) calls → NamesTree P (play start calls)
   play_kept start [] h g = h
   play_kept start (call ∷ calls) h g = play_kept (called start call) calls (after_kept start.limits start.tree call h g.0) g.1
 
@@ -212,35 +213,35 @@ module _ (P : Name → Type 0) where
 
   -- ---- timelines
 
-  call_kept : (c : ℕ) (es : List Entry) (call : Call) → AllByRecursion (NamesBegun P) es → call_of c es ≡ Some call → NamesCall P call
+  call_kept : (c : ℕ) (es : List Entry) (call : Call) → AllByRecursion (NamesBegun Q) es → call_of c es ≡ Some call → NamesCall Q call
   call_kept c [] call h is = absurd (cc)
   call_kept c (Begin d s x ∷ es) call h is = go (c == d) is (λ e. call_kept c es call h.1 e)
     where
-      go : (b : Bool) → or_else (cond {A = Option Call} b (Some x) None) (call_of c es) ≡ Some call → (call_of c es ≡ Some call → NamesCall P call) → NamesCall P call
-      go true e later = let same : x ≡ call = cc in subst (NamesCall P) same h.0
+      go : (b : Bool) → or_else (cond {A = Option Call} b (Some x) None) (call_of c es) ≡ Some call → (call_of c es ≡ Some call → NamesCall Q call) → NamesCall Q call
+      go true e later = let same : x ≡ call = cc in subst (NamesCall Q) same h.0
       go false e later = later e
   call_kept c (Commit d ∷ es) call h is = call_kept c es call h.1 is
   call_kept c (Return d r ∷ es) call h is = call_kept c es call h.1 is
 
-  commits_kept : (whole es : List Entry) → AllByRecursion (NamesBegun P) whole → AllByRecursion (NamesCall P) (commits_of whole es)
+  commits_kept : (whole es : List Entry) → AllByRecursion (NamesBegun Q) whole → AllByRecursion (NamesCall Q) (commits_of whole es)
   commits_kept whole [] h = tt
   commits_kept whole (Begin c s call ∷ es) h = commits_kept whole es h
   commits_kept whole (Commit c ∷ es) h = go (call_of c whole) refl (commits_kept whole es h)
     where
-      go : (o : Option Call) → call_of c whole ≡ o → AllByRecursion (NamesCall P) (commits_of whole es) → AllByRecursion (NamesCall P) (with_call o (commits_of whole es))
+      go : (o : Option Call) → call_of c whole ≡ o → AllByRecursion (NamesCall Q) (commits_of whole es) → AllByRecursion (NamesCall Q) (with_call o (commits_of whole es))
       go None e rest = rest
       go (Some call) e rest = (call_kept c whole call h e, rest)
   commits_kept whole (Return c r ∷ es) h = commits_kept whole es h
 
-  before_kept : (c : ℕ) (es : List Entry) → AllByRecursion (NamesBegun P) es → AllByRecursion (NamesBegun P) (before_commit c es)
+  before_kept : (c : ℕ) (es : List Entry) → AllByRecursion (NamesBegun Q) es → AllByRecursion (NamesBegun Q) (before_commit c es)
   before_kept c [] h = tt
   before_kept c (e ∷ es) h =
-      elim (is_commit c e) as (λ b. AllByRecursion (NamesBegun P) (cond {A = List Entry} b [] (e ∷ before_commit c es))) [
+      elim (is_commit c e) as (λ b. AllByRecursion (NamesBegun Q) (cond {A = List Entry} b [] (e ∷ before_commit c es))) [
         | true ↦ tt
         | false ↦ (h.0, before_kept c es h.1)
       ]
 
-  due_kept : (start : Start) (c : ℕ) (es : List Entry) (r : Reply) → NamesTree P start.tree → AllByRecursion (NamesBegun P) es → due start c es ≡ Some r → NamesReply P r
+  due_kept : (start : Start) (c : ℕ) (es : List Entry) (r : Reply) → NamesTree P start.tree → AllByRecursion (NamesBegun Q) es → due start c es ≡ Some r → NamesReply P r
   due_kept start c es r tree h is = go (call_of c es) is
     where
       calls : List Call
@@ -252,23 +253,23 @@ module _ (P : Name → Type 0) where
           let same : reply_at (next_start start calls) call ≡ r = cc in
           subst (NamesReply P) same (reply_kept start.limits (play start calls) call (play_kept start calls tree (commits_kept (before_commit c es) (before_commit c es) (before_kept c es h))))
 
-  pub one_more : (es : List Entry) (e : Entry) → AllByRecursion (NamesBegun P) es → NamesBegun P e → AllByRecursion (NamesBegun P) (es ++ e ∷ [])
+  pub one_more : (es : List Entry) (e : Entry) → AllByRecursion (NamesBegun Q) es → NamesBegun Q e → AllByRecursion (NamesBegun Q) (es ++ e ∷ [])
   one_more [] e h g = (g, tt)
   one_more (x ∷ es) e h g = (h.0, one_more es e h.1 g)
 
-  entry_kept : (start : Start) (before : List Entry) (e : Entry) → NamesTree P start.tree → AllByRecursion (NamesBegun P) before → NamesBegun P e → IsAnswered start before e → NamesEntry P e
+  entry_kept : (start : Start) (before : List Entry) (e : Entry) → NamesTree P start.tree → AllByRecursion (NamesBegun Q) before → NamesBegun Q e → IsAnswered start before e → NamesEntry P Q e
   entry_kept start before (Begin c s call) tree h g is = g
   entry_kept start before (Commit c) tree h g is = tt
   entry_kept start before (Return c r) tree h g is = due_kept start c before r tree h is
 
-  entries_kept : (start : Start) (before es : List Entry) → NamesTree P start.tree → AllByRecursion (NamesBegun P) before → AllByRecursion (NamesBegun P) es → Each (IsAnswered start) before es → AllByRecursion (NamesEntry P) es
+  entries_kept : (start : Start) (before es : List Entry) → NamesTree P start.tree → AllByRecursion (NamesBegun Q) before → AllByRecursion (NamesBegun Q) es → Each (IsAnswered start) before es → AllByRecursion (NamesEntry P Q) es
   entries_kept start before [] tree h g each = tt
   entries_kept start before (e ∷ es) tree h g each =
       (entry_kept start before e tree h g.0 each.0, entries_kept start (before ++ e ∷ []) es tree (one_more before e h g.0) g.1 each.1)
 
-  pub lawful_kept : (start : Start) (es : List Entry) → IsLawful start es → NamesTree P start.tree → AllByRecursion (NamesBegun P) es → AllByRecursion (NamesEntry P) es
+  pub lawful_kept : (start : Start) (es : List Entry) → IsLawful start es → NamesTree P start.tree → AllByRecursion (NamesBegun Q) es → AllByRecursion (NamesEntry P Q) es
   lawful_kept start es law tree h = entries_kept start [] es tree tt h law.replies
 
   -- the tree that its commits leave
-  pub spelled_kept : (start : Start) (es : List Entry) → NamesTree P start.tree → AllByRecursion (NamesBegun P) es → NamesTree P (play start (commits es))
+  pub spelled_kept : (start : Start) (es : List Entry) → NamesTree P start.tree → AllByRecursion (NamesBegun Q) es → NamesTree P (play start (commits es))
   spelled_kept start es tree h = play_kept start (commits es) tree (commits_kept es es h)

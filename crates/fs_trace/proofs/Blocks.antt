@@ -4,7 +4,6 @@ use Rattle.std.specs.Prelude.{◌==◌, ◌&&◌, nat_le, nat_lt}
 use Rattle.std.specs.List.{list_any}
 use Rattle.std.specs.Str.{bytes_eq}
 use Rattle.std.proofs.lemmas.Bool.{cond-true, cond-false}
-use Rattle.fs_names.specs.Limits.{name_limit}
 use Rattle.fs_calls.specs.declared.call.Call.{Call}
 use Rattle.fs_words.specs.Lines.{is_passed_over}
 use Rattle.fs_words.specs.Words as words
@@ -82,7 +81,7 @@ block_begun : (s : Script) (ws : List words.Word) → IsBegun s → Holds IsBegu
 unfolding block_line
 block_begun s [] h = fault_holds IsBegun kind.BadLine
 block_begun s (first ∷ more) h = either_holds IsBegun (bytes_eq first (codes "thread")) (thread_line s more) (call_line s (first ∷ more)) (thread_line_begun s more h)
-    (else_holds IsBegun (length s.lists == 0) _ _ (λ some. each_holds IsBegun (call_of (name_limit s.limits) (first ∷ more)) (new_call s) (λ c. call_begun s c h)))
+    (else_holds IsBegun (length s.lists == 0) _ _ (λ some. each_holds IsBegun (call_of s.limits (first ∷ more)) (new_call s) (λ c. call_begun s c h)))
 
 line_begun : (n : ℕ) (s : Script) (line : List ℕ) → IsBegun s → Holds IsBegun (at_line n (words_of line >>= block_line s))
 line_begun n s line h = line_holds IsBegun n _ (each_holds IsBegun (words_of line) (block_line s) (λ ws. block_begun s ws h))

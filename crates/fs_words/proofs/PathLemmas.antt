@@ -14,6 +14,8 @@ use Rattle.fs_names.specs.Reading.{reading, if_sound, path_fault, names, has_nam
 use Rattle.fs_names.specs.declared.fault.PathFault.TheVariants.{Nul, NameTooLong, TooManyNames, Dot, TrailingSlash}
 use Rattle.fs_words.specs.Words.{path_word, path_of}
 use Rattle.fs_names.specs.Names.{AreBytes}
+use Rattle.fs_names.specs.Limits.{name_limit, path_limit}
+use Rattle.fs_names.specs.declared.limits.Limits.{Limits}
 use Rattle.fs_words.proofs.EscapeLemmas.{escape_again, IsWord_escaped}
 use Rattle.fs_words.proofs.WordLemmas.{IsWord}
 
@@ -47,13 +49,13 @@ name_facts n h =
       no_dot = not-true _ p.1;
     }
 
--- so many bytes at most
-abbrev pub IsShort : ℕ → Name → Type 0
-IsShort most n = length n ≤ most
+-- no more bytes than a set of limits allows
+abbrev pub IsShort : Limits → Name → Type 0
+IsShort limits n = length n ≤ name_limit limits
 
-pub record KeyFacts (most : ℕ) (key : Key) : Type 0 where
-  pub few : length key ≤ 64
-  pub short : AllByRecursion (IsShort most) key
+pub record KeyFacts (limits : Limits) (key : Key) : Type 0 where
+  pub few : length key ≤ path_limit limits
+  pub short : AllByRecursion (IsShort limits) key
   pub names : AllByRecursion NameFacts key
   pub bytes : AllByRecursion AreBytes key
 
@@ -74,11 +76,11 @@ kept_names ((b ∷ bs) ∷ ns) h = ap (λ t. (b ∷ bs) ∷ t) (kept_names ns h.
 names_again : (n : Name) (ns : Key) → NameFacts n → AllByRecursion NameFacts ns → names (names_text (n ∷ ns)) ≡ n ∷ ns
 names_again n ns f h = ap (filter has_bytes) (split_tail n ns f h) ∙ kept_names (n ∷ ns) (f, h)
 
-not_many : (count : ℕ) → count < 64 → leb 64 count ≡ false
-not_many count h = grind (arith, nat_tests)
+not_many : (limits : Limits) (count : ℕ) → count < path_limit limits → leb (path_limit limits) count ≡ false
+not_many limits count h = grind (arith, nat_tests)
 
-not_long : (most : ℕ) (n : List ℕ) → length n ≤ most → ltb most (length n) ≡ false
-not_long most n h = grind (arith, nat_tests)
+not_long : (limits : Limits) (n : List ℕ) → length n ≤ name_limit limits → ltb (name_limit limits) (length n) ≡ false
+not_long limits n h = grind (arith, nat_tests)
 
 not_on : {F : Type 0} (b : Bool) (f : F) → b ≡ false → check b f ≡ None
 not_on b f e = ap (λ t. check t f) e
@@ -87,14 +89,14 @@ not_on b f e = ap (λ t. check t f) e
 none_fails : {F : Type 0} (a b : Option F) → a ≡ None → b ≡ None → or_else a b ≡ None
 none_fails a b e f = ap (λ t. or_else t b) e ∙ f
 
-no_fault : (most count : ℕ) (ns : Key) → AllByRecursion NameFacts ns → AllByRecursion (IsShort most) ns → count + length ns ≤ 64 → first_fault most count ns ≡ None
-no_fault most count [] h short few = refl
-no_fault most count (n ∷ ns) h short few =
-    none_fails (name_fault most count n) (first_fault most (count + 1) ns)
-    (none_fails (check (leb 64 count) TooManyNames) _ (not_on _ TooManyNames (not_many count (omega arith)))
-    (none_fails (check (ltb most (length n)) NameTooLong) _ (not_on _ NameTooLong (not_long most n short.0))
+no_fault : (limits : Limits) (count : ℕ) (ns : Key) → AllByRecursion NameFacts ns → AllByRecursion (IsShort limits) ns → count + length ns ≤ path_limit limits → first_fault limits count ns ≡ None
+no_fault limits count [] h short few = refl
+no_fault limits count (n ∷ ns) h short few =
+    none_fails (name_fault limits count n) (first_fault limits (count + 1) ns)
+    (none_fails (check (leb (path_limit limits) count) TooManyNames) _ (not_on _ TooManyNames (not_many limits count (omega arith)))
+    (none_fails (check (ltb (name_limit limits) (length n)) NameTooLong) _ (not_on _ NameTooLong (not_long limits n short.0))
     (none_fails (check (is_dots n) Dot) None (not_on _ Dot h.0.no_dot) refl)))
-    (no_fault most (count + 1) ns h.1 short.1 (omega arith))
+    (no_fault limits (count + 1) ns h.1 short.1 (omega arith))
 
 not_zero : (b : ℕ) → b ≢ 0 → eqb b 0 ≡ false
 not_zero b h = grind (arith, nat_tests)
@@ -142,29 +144,29 @@ and_no : (a b : Bool) → b ≡ false → (a && b) ≡ false
 and_no true b e = e
 and_no false b e = refl
 
-some_right : (most : ℕ) (n : Name) (ns : Key) → KeyFacts most (n ∷ ns) → path_fault most (names_text (n ∷ ns)) ≡ None
-some_right most n ns h =
+some_right : (limits : Limits) (n : Name) (ns : Key) → KeyFacts limits (n ∷ ns) → path_fault limits (names_text (n ∷ ns)) ≡ None
+some_right limits n ns h =
     let bytes = names_text (n ∷ ns) in
     let again = names_again n ns h.names.0 h.names.1 in
     let clean : list_any is_zero bytes ≡ false = none_zero (n ++ names_text ns) (tail_clean n ns h.names.0 h.names.1) in
-    let good : first_fault most 0 (names bytes) ≡ None = ap (first_fault most 0) again ∙ no_fault most 0 (n ∷ ns) h.names h.short (omega (arith, h.few)) in
+    let good : first_fault limits 0 (names bytes) ≡ None = ap (first_fault limits 0) again ∙ no_fault limits 0 (n ∷ ns) h.names h.short (omega (arith, h.few)) in
     none_fails (check (list_any is_zero bytes) Nul) _ (not_on _ Nul clean)
-    (none_fails (first_fault most 0 (names bytes)) _ good
+    (none_fails (first_fault limits 0 (names bytes)) _ good
     (none_fails (check (has_names (names bytes) && ends_in_slash bytes) TrailingSlash) None (not_on _ TrailingSlash (and_no _ _ (no_end_slash n ns h.names.0 h.names.1))) refl))
 
-parse_some : (most : ℕ) (n : Name) (ns : Key) → KeyFacts most (n ∷ ns) → reading most (path_text (n ∷ ns)) ≡ Ok (n ∷ ns)
+parse_some : (limits : Limits) (n : Name) (ns : Key) → KeyFacts limits (n ∷ ns) → reading limits (path_text (n ∷ ns)) ≡ Ok (n ∷ ns)
 unfolding reading
-parse_some most n ns h =
-    ap (λ f. if_sound f (names (names_text (n ∷ ns)))) (some_right most n ns h) ∙ ap Ok (names_again n ns h.names.0 h.names.1)
+parse_some limits n ns h =
+    ap (λ f. if_sound f (names (names_text (n ∷ ns)))) (some_right limits n ns h) ∙ ap Ok (names_again n ns h.names.0 h.names.1)
 
-parse_nil : (most : ℕ) → reading most (path_text []) ≡ Ok []
+parse_nil : (limits : Limits) → reading limits (path_text []) ≡ Ok []
 unfolding reading
-parse_nil most = refl
+parse_nil limits = refl
 
 -- what a path spells is read as that path
-pub parse_again : (most : ℕ) (key : Key) → KeyFacts most key → reading most (path_text key) ≡ Ok key
-parse_again most [] h = parse_nil most
-parse_again most (n ∷ ns) h = parse_some most n ns h
+pub parse_again : (limits : Limits) (key : Key) → KeyFacts limits key → reading limits (path_text key) ≡ Ok key
+parse_again limits [] h = parse_nil limits
+parse_again limits (n ∷ ns) h = parse_some limits n ns h
 
 -- ---- the word of a path
 
@@ -180,8 +182,8 @@ bytes_of_path : (key : Key) → AllByRecursion AreBytes key → AreBytes (path_t
 bytes_of_path [] h = (omega arith, tt)
 bytes_of_path (n ∷ ns) h = bytes_of_tail (n ∷ ns) h
 
-pub path_again : (most : ℕ) (key : Key) → KeyFacts most key → path_of most (path_word key) ≡ Ok key
-path_again most key h = ap (reading most) (escape_again (path_text key) (bytes_of_path key h.bytes)) ∙ parse_again most key h
+pub path_again : (limits : Limits) (key : Key) → KeyFacts limits key → path_of limits (path_word key) ≡ Ok key
+path_again limits key h = ap (reading limits) (escape_again (path_text key) (bytes_of_path key h.bytes)) ∙ parse_again limits key h
 
 some_path : (key : Key) → 0 < length (path_text key)
 some_path [] = omega arith

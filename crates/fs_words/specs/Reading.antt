@@ -5,6 +5,8 @@ use Rattle.percent_encoding.specs.Percent.{percent_decode}
 use Rattle.fs_names.specs.Names.{Name, can_name}
 use Rattle.fs_names.specs.Keys.{Key}
 use Rattle.fs_names.specs.declared.fault.PathFault.{PathFault}
+use Rattle.fs_names.specs.Limits.{name_limit}
+use Rattle.fs_names.specs.declared.limits.Limits.{Limits}
 use Rattle.fs_words.specs.Lines.{lines_of, pieces_of, has_empty}
 use Rattle.fs_words.specs.Words.{Word, number_of, hex_of, path_of}
 use Rattle.fs_words.specs.declared.limits.TheConstants.{TEXT_LIMIT}
@@ -30,9 +32,9 @@ abbrev pub or_bad_path : Result Key PathFault → Result Key FaultKind
 or_bad_path (Ok key) = Ok key
 or_bad_path (Err f) = Err (kind.BadPath f)
 
--- a word as a path, with names of so many bytes at most
-abbrev pub path_at : ℕ → Word → Result Key FaultKind
-path_at most word = or_bad_path (path_of most word)
+-- a word as a path, by these limits
+abbrev pub path_at : Limits → Word → Result Key FaultKind
+path_at limits word = or_bad_path (path_of limits word)
 
 -- a word as a number
 abbrev pub number_at : Word → Result ℕ FaultKind
@@ -42,13 +44,13 @@ number_at word = or_fault kind.BadNumber (number_of word)
 abbrev pub hex_at : Word → Result (List ℕ) FaultKind
 hex_at word = or_fault kind.BadHex (hex_of word)
 
--- so many bytes at most as a name; else the reply is a bad one
-abbrev pub read_name : ℕ → List ℕ → Result Name FaultKind
-read_name most name = if nat_le (length name) most && can_name name then Ok name else Err kind.BadReply
+-- bytes as a name, by these limits; else the reply is a bad one
+abbrev pub read_name : Limits → List ℕ → Result Name FaultKind
+read_name limits name = if nat_le (length name) (name_limit limits) && can_name name then Ok name else Err kind.BadReply
 
--- a word as a name of so many bytes at most, read back from its escapes
-abbrev pub name_at : ℕ → Word → Result Name FaultKind
-name_at most word = read_name most (percent_decode word)
+-- a word as a name, by these limits, read back from its escapes
+abbrev pub name_at : Limits → Word → Result Name FaultKind
+name_at limits word = read_name limits (percent_decode word)
 
 -- ---- lines
 

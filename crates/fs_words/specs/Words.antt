@@ -8,6 +8,7 @@ use Rattle.percent_encoding.specs.Percent.{percent_encode_byte, percent_decode}
 use Rattle.fs_names.specs.Keys.{Key, path_text}
 use Rattle.fs_names.specs.Reading.{reading}
 use Rattle.fs_names.specs.declared.fault.PathFault.{PathFault}
+use Rattle.fs_names.specs.declared.limits.Limits.{Limits}
 
 -- a word is its bytes
 abbrev pub Word : Type 0
@@ -58,6 +59,6 @@ escaped bytes = flat_map escaped_byte bytes
 abbrev pub path_word : Key → Word
 path_word key = escaped (path_text key)
 
--- the path that a word spells once it is decoded, with names of so many bytes at most, or the first check that it fails
-abbrev pub path_of : ℕ → Word → Result Key PathFault
-path_of most word = reading most (percent_decode word)
+-- the path that a word spells once it is decoded, by these limits, or the first check that it fails
+abbrev pub path_of : Limits → Word → Result Key PathFault
+path_of limits word = reading limits (percent_decode word)

@@ -3,7 +3,7 @@
 ghost use Rattle.std.specs.Prelude.{◌≡◌, Ok, IfSome};
 ghost use Rattle.fs_words.specs.Reading.{path_at};
 
-use fs_names::Path;
+use fs_names::{Limits, Path};
 use std::alloc::{AllocError, Global};
 
 /// How many slots there are at first.
@@ -17,13 +17,13 @@ const GROWTH: usize = 4;
 /// How many there are at the most.
 const MOST_SLOTS: usize = 8192;
 
-/// A word of a text, and the path that it is with names of this most bytes.
+/// A word of a text, and the path that it is by these limits.
 #[derive(Drop)]
 struct Known<'a> {
     word: &'a [u8],
-    most: usize,
+    limits: Limits,
     path: Path,
-    ghost read: { path_at most word.now ≡ Ok path },
+    ghost read: { path_at limits word.now ≡ Ok path },
 }
 
 /// Paths that were read, each in a slot that its word chooses. Of the words that choose the same slot the last one has it. There
@@ -104,15 +104,15 @@ impl<'a> Recent<'a> {
         ((hash_of(word) >> 32).wrapping_mul(count) >> 32) as usize
     }
 
-    /// The path of a word, where the slot has it as it was read with names of this most bytes.
-    pub(crate) fn path_in(&self, slot: usize, most: usize, word: &[u8]) -> Option<Path>
-        ensures { IfSome result (λ path. path_at most word.now ≡ Ok path) }
+    /// The path of a word, where the slot has it as it was read by these limits.
+    pub(crate) fn path_in(&self, slot: usize, limits: Limits, word: &[u8]) -> Option<Path>
+        ensures { IfSome result (λ path. path_at limits word.now ≡ Ok path) }
     {
         if slot >= self.slots.len() {
             return None;
         }
         match &self.slots[slot] {
-            Some(known) if known.most == most && known.word == word => known.path.copy().ok(),
+            Some(known) if known.limits == limits && known.word == word => known.path.copy().ok(),
             _ => None,
         }
     }
@@ -150,11 +150,11 @@ impl<'a> Recent<'a> {
         &mut self,
         alloc: Global,
         slot: usize,
-        most: usize,
+        limits: Limits,
         word: &'a [u8],
         path: &Path,
     )
-        requires { path_at most word.now ≡ Ok path.now }
+        requires { path_at limits word.now ≡ Ok path.now }
     {
         let mut slot = slot;
         if self.left == 0 && self.slots.len() < self.most {
@@ -163,7 +163,7 @@ impl<'a> Recent<'a> {
         }
         self.left = self.left.saturating_sub(1);
         if let Ok(path) = path.copy() {
-            self.put(slot, Known { word, most, path });
+            self.put(slot, Known { word, limits, path });
         }
     }
 }

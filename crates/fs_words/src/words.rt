@@ -9,7 +9,6 @@ ghost use Rattle.fs_words.specs.Words.{number_of};
 ghost use Rattle.hex.specs.Hex.{is_hex_digit, decode_of};
 ghost use Rattle.percent_encoding.specs.Percent.{percent_decode};
 ghost use Rattle.fs_names.specs.Reading.{reading};
-ghost use Rattle.fs_names.specs.Limits.{name_limit};
 ghost use Rattle.fs_words.specs.declared.fault.FaultKind.TheVariants as kind;
 ghost use Rattle.fs_words.specs.Reading.{number_at, hex_at, path_at, or_bad_path, name_at, read_name};
 ghost use Rattle.fs_words.specs.code.Answers.{Gives, path_fault_of};
@@ -134,7 +133,7 @@ fn is_unescaped(word: &[u8]) -> bool
 }
 
 fn read_path(alloc: Global, limits: Limits, bytes: &[u8]) -> Result<Path, FaultKind>
-    ensures { Gives (λ path. path) result (or_bad_path (reading (name_limit limits) bytes.now)) }
+    ensures { Gives (λ path. path) result (or_bad_path (reading limits bytes.now)) }
 {
     match Path::parse_with(alloc, bytes, limits) {
         Ok(path) => Ok(path),
@@ -144,7 +143,7 @@ fn read_path(alloc: Global, limits: Limits, bytes: &[u8]) -> Result<Path, FaultK
 
 /// The path that a word is by these limits, unescaped.
 pub fn path_at(alloc: Global, limits: Limits, word: &[u8]) -> Result<Path, FaultKind>
-    ensures { Gives (λ path. path) result (path_at (name_limit limits) word.now) }
+    ensures { Gives (λ path. path) result (path_at limits word.now) }
 {
     if is_unescaped(word) {
         return read_path(alloc, limits, word);
@@ -162,25 +161,25 @@ pub fn path_with<'a>(
     limits: Limits,
     word: &'a [u8],
 ) -> Result<Path, FaultKind>
-    ensures { Gives (λ path. path) result (path_at (name_limit limits) word.now) }
+    ensures { Gives (λ path. path) result (path_at limits word.now) }
 {
     if !recent.keeps() {
         return path_at(alloc, limits, word);
     }
     let slot = recent.slot_of(word);
-    if let Some(path) = recent.path_in(slot, limits.name(), word) {
+    if let Some(path) = recent.path_in(slot, limits, word) {
         return Ok(path);
     }
     let path = match path_at(alloc, limits, word) {
         Ok(path) => path,
         Err(kind) => return Err(kind),
     };
-    recent.keep(alloc, slot, limits.name(), word, &path);
+    recent.keep(alloc, slot, limits, word, &path);
     Ok(path)
 }
 
 fn read_name(limits: Limits, bytes: &[u8]) -> Result<Name, FaultKind>
-    ensures { result ≡ read_name (name_limit limits) bytes.now }
+    ensures { result ≡ read_name limits bytes.now }
 {
     if bytes.len() > limits.name() {
         return Err(FaultKind::BadReply);
@@ -193,7 +192,7 @@ fn read_name(limits: Limits, bytes: &[u8]) -> Result<Name, FaultKind>
 
 /// The name that a word is by these limits, unescaped; else `BadReply`, since words that are names stand in replies alone.
 pub fn name_at(alloc: Global, limits: Limits, word: &[u8]) -> Result<Name, FaultKind>
-    ensures { Gives (λ name. name) result (name_at (name_limit limits) word.now) }
+    ensures { Gives (λ name. name) result (name_at limits word.now) }
 {
     if is_unescaped(word) {
         return read_name(limits, word);

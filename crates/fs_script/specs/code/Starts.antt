@@ -1,7 +1,6 @@
 -- The lines of a start tree while they are read.
 use Rattle.std.specs.Prelude.{◌≡◌, ℕ, List, [], ◌∷◌, ◌++◌, length, Result, Ok, Err, Option, Some, None, MatchResult, if◌then◌else◌}
 use Rattle.fs_names.specs.Keys.{Key}
-use Rattle.fs_names.specs.Limits.{name_limit}
 use Rattle.fs_names.specs.declared.limits.Limits.{Limits}
 use Rattle.fs_names.specs.declared.kind.Kind.{Kind}
 use Rattle.fs_names.specs.declared.kind.Kind.TheVariants.{Dir}
@@ -43,7 +42,7 @@ behind_rows limits t (n ∷ ns) (row ∷ rows) rest = if fits limits t row then 
 
 -- what is read at the end of the rows, where they made a tree
 abbrev pub read_end : End → LinesLeft → Start → Read
-read_end Entries left start = with_start start (entries_from (name_limit start.limits) left.number left.lines)
+read_end Entries left start = with_start start (entries_from start.limits left.number left.lines)
 read_end (Wrong n) left start = Err (fault_at n kind.BadStart)
 
 -- rows were added, each with its number, and this is read behind them

@@ -11,8 +11,8 @@ returns-in-Some-clause-fault c =
     let name = c.cut_name.result.0.now in
     let len : c.len.result ≡ length cut = c.len.ensures.value ∙ sym (length-map c.loop-left.cut.items (λ text. text.now)) in
     let whole = ap (λ more. cut ++ more) (sym c.cut_name.ensures.names) ∙ c.loop-left.invariant.all in
-    let here = ap (λ n. name_fault c.args.most n name) (sym len) ∙ sym c.name_fault.ensures ∙ c.in-Some.is in
-    λ known. fault_one c.args.most all cut (length cut) name _ (front_of all cut _ whole) refl (place_of all cut _ name whole) c.loop-left.invariant.right here
+    let here = ap (λ n. name_fault c.args.limits n name) (sym len) ∙ sym c.name_fault.ensures ∙ c.in-Some.is in
+    λ known. fault_one c.args.limits all cut (length cut) name _ (front_of all cut _ whole) refl (place_of all cut _ name whole) c.loop-left.invariant.right here
 
 pub loop-left-preserved : goal.loop-left-preserved
 loop-left-preserved c =
@@ -22,9 +22,9 @@ loop-left-preserved c =
     let rest = names c.cut_name.result.1.now in
     let len : c.len.result ≡ length cut = c.len.ensures.value ∙ sym (length-map c.loop-left.cut.items (λ text. text.now)) in
     let whole = ap (λ more. cut ++ more) (sym c.cut_name.ensures.names) ∙ c.loop-left.invariant.all in
-    let here = ap (λ n. name_fault c.args.most n name) (sym len) ∙ sym c.name_fault.ensures ∙ c.in_default.is in
+    let here = ap (λ n. name_fault c.args.limits n name) (sym len) ∙ sym c.name_fault.ensures ∙ c.in_default.is in
     let pushed = ap (map (λ text. text.now)) c.in-Ok.ensures.ok ∙ map-append (λ text. text.now) c.loop-left.cut.items _ in
-    let next = read_one c.args.most all cut (map (λ text. text.now) c.push.new.self.items) (length cut) name (front_of all cut _ whole) refl (place_of all cut _ name whole) pushed c.loop-left.invariant.right here in
+    let next = read_one c.args.limits all cut (map (λ text. text.now) c.push.new.self.items) (length cut) name (front_of all cut _ whole) refl (place_of all cut _ name whole) pushed c.loop-left.invariant.right here in
     record {
       all = ap (λ xs. xs ++ rest) pushed ∙ append_assoc cut (name ∷ []) rest ∙ whole;
       right = next.1;

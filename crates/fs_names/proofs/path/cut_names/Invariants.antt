@@ -6,7 +6,7 @@ use Rattle.fs_names.proofs.path.cut_names.Given as goal
 abbrev pub invariant-loop-left : goal.invariant-loop-left
 invariant-loop-left l = record {
   all : map (λ text. text.now) l.cut.items ++ names l.left ≡ names l.bytes;
-  right : first_fault l.most 0 (map (λ text. text.now) l.cut.items) ≡ None;
+  right : first_fault l.limits 0 (map (λ text. text.now) l.cut.items) ≡ None;
   name : starts_at_root l.left ≡ false;
   stack : 7 ≤ l.cut.capacity;
 }

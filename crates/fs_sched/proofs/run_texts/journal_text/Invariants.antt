@@ -1,7 +1,6 @@
 use Rattle.std.proofs.Common.{◌≡◌, ◌++◌, take}
 use Rattle.std.specs.List.{flat_map}
-use Rattle.fs_names.specs.Limits.{name_limit}
-use Rattle.fs_names.specs.declared.limits.Limits.TheVariants.{V2}
+use Rattle.fs_names.specs.Limits.{largest}
 use Rattle.fs_text.specs.Fits.{AllFit}
 use Rattle.fs_text.specs.Journal.{entry_line}
 use Rattle.fs_script.specs.Journals.{opening}
@@ -12,7 +11,7 @@ use Rattle.fs_sched.proofs.run_texts.journal_text.Given as goal
 -- the text and the numbers of the entries so far
 abbrev pub invariant-loop-entry : goal.invariant-loop-entry
 invariant-loop-entry l = record {
-  fit : AllFit (name_limit V2) (take l.entry-index l.entries);
+  fit : AllFit largest (take l.entry-index l.entries);
   text : l.text.items ≡ opening l.start ++ flat_map entry_line (take l.entry-index l.entries);
   begun : l.begun ≡ number_of kind.Begin (take l.entry-index l.entries);
   committed : l.committed ≡ number_of kind.Commit (take l.entry-index l.entries);

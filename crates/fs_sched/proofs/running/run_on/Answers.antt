@@ -4,8 +4,7 @@ use Rattle.fs_calls.specs.declared.call.Call.{Call}
 use Rattle.fs_nodes.specs.Stores.{graph_of}
 use Rattle.fs_core.specs.CoreValues.{CoreValue, state_of}
 use Rattle.fs_machine.specs.States.{State, Run, fresh}
-use Rattle.fs_names.specs.Limits.{name_limit}
-use Rattle.fs_names.specs.declared.limits.Limits.TheVariants.{V2}
+use Rattle.fs_names.specs.Limits.{largest}
 use Rattle.fs_names.specs.declared.limits.TheConstants.{NODE_LIMIT}
 use Rattle.fs_text.specs.Fits.{AllFit}
 use Rattle.fs_sched.specs.RunTexts.{IsRunText}
@@ -52,5 +51,5 @@ returns-in-Ok-counted_text-clause-again g c read limits names =
     let from = subst (λ (s : State). RunsFrom c.args.schedule c.args.script (before_all s (length lists)) run.told last) c.requires.fresh run.runs in
     let short = short_from c.args.schedule read.0 c.args.script NODE_LIMIT first.start (graph_of first.store) run.told last read.1 names limits on from in
     let told = subst IsToldFit c.start.ensures c.in-Ok-counted_text.ensures.told in
-    let fit = subst (AllFit (name_limit V2)) c.timeline.ensures c.in-Ok-counted_text.ensures.fit in
+    let fit = subst (AllFit largest) c.timeline.ensures c.in-Ok-counted_text.ensures.fit in
     (run.told, last, run.runs, again_short c.args.script.limits core.start core.timeline (starts_within (state_of core) on) told fit short.entries short.tree short.kept)

@@ -1,7 +1,6 @@
 use Rattle.std.proofs.Common.{◌≡◌, ℕ, Bool, true, false, List, ◌++◌, length, sym, ap, ap₂, ◌∙◌, arith}
 use Rattle.std.proofs.lemmas.Result.{on_ok_weaker}
-use Rattle.fs_names.specs.Limits.{name_limit}
-use Rattle.fs_names.specs.declared.limits.Limits.TheVariants.{V2}
+use Rattle.fs_names.specs.Limits.{largest}
 use Rattle.fs_script.specs.Journals.{started_header, is_told}
 use Rattle.fs_script.proofs.Openings.{block_pushed, header_pushed, nodes_counted, nodes_fit}
 use Rattle.fs_script.proofs.opening.push_opening.Goals as goal
@@ -29,4 +28,4 @@ returns-clause-ok c =
 
 pub returns-clause-told : goal.returns-clause-told
 returns-clause-told c =
-    on_ok_weaker c.push-4.result (λ h more. nodes_fit (name_limit V2) c.args.start.now.tree c.in_ok-rows.rows.items _ c.in_ok-rows.ensures.tree c.deref.ensures.value c.in_ok-push_rows.ensures.fits) c.push-4.ensures.ok
+    on_ok_weaker c.push-4.result (λ h more. nodes_fit largest c.args.start.now.tree c.in_ok-rows.rows.items _ c.in_ok-rows.ensures.tree c.deref.ensures.value c.in_ok-push_rows.ensures.fits) c.push-4.ensures.ok
