@@ -16,8 +16,9 @@ use Rattle.fs_machine.specs.Moves.{next, took}
 use Rattle.fs_machine.specs.declared.moves.Move.{Move}
 use Rattle.fs_machine.specs.Records.{Holdings, Phase, Walking, Placed, Finished, Record}
 
--- the call, what it has walked of its paths and what is left of it, where it stands, its reply once it is fixed, its reserved number and the node that it removed
+-- the limits that it keeps, the call, what it has walked of its paths and what is left of it, where it stands, its reply once it is fixed, its reserved number and the node that it removed
 pub record OpValue : Type 0 where
+  pub limits : Limits
   pub call : Call
   pub walked : Key
   pub remaining : Form
@@ -32,14 +33,14 @@ phase_of place (Some r) = Finished r
 phase_of (Some i) None = Placed i
 phase_of None None = Walking
 
--- its record on a seat
+-- its record on a seat; the limits are those of the machine's start
 abbrev pub record_of : ℕ → Option ℕ → OpValue → Record
 record_of seat place op =
     record { seat = seat; call = op.call; walked = op.walked; remaining = op.remaining; holdings = op.holdings; phase = phase_of place op.reply; reserved = op.reserved; removed = op.removed }
 
 -- a call that begins by these limits
 abbrev pub new_value : Limits → Call → Option ℕ → OpValue
-new_value limits call reserved = record { call = call; walked = []; remaining = form limits call; holdings = None; reply = None; reserved = reserved; removed = None }
+new_value limits call reserved = record { limits = limits; call = call; walked = []; remaining = form limits call; holdings = None; reply = None; reserved = reserved; removed = None }
 
 -- its next move; neither its seat nor its place matters
 abbrev pub next_of : Graph → OpValue → Move
