@@ -1,5 +1,5 @@
 -- What a finished call still holds, and the machine's let gos.
-use Rattle.std.proofs.Common.{◌≡◌, ℕ, zero, suc, ◌+◌, ◌-◌, ◌≤◌, nat_lt, true, false, List, [], ◌∷◌, ◌++◌, length, take, drop, Option, Some, None, refl, sym, ap, ap₂, ◌∙◌, subst, MatchOption, arith, length-append, append_assoc, append-nil, length-drop}
+use Rattle.std.proofs.Common.{◌≡◌, ℕ, zero, suc, ◌+◌, ◌-◌, ◌≤◌, nat_lt, Bool, true, false, List, [], ◌∷◌, ◌++◌, length, take, drop, Option, Some, None, refl, sym, ap, ap₂, ◌∙◌, subst, MatchOption, arith, length-append, append_assoc, append-nil, length-drop}
 use Rattle.std.proofs.Math.Seq.{take-append_seam}
 use Rattle.std.specs.Prelude.{option_map, option_to_list}
 use Rattle.std.specs.Option.{is_some}
@@ -7,6 +7,7 @@ use Rattle.std.proofs.lemmas.Bool.Decides.{nat_tests}
 use Rattle.fs_names.specs.Keys.{Key, parent_of}
 use Rattle.fs_names.specs.Names.{Name}
 use Rattle.fs_names.proofs.ParentLemmas.{parent_length}
+use Rattle.fs_names.specs.Limits.{in_blocks}
 use Rattle.fs_names.specs.declared.limits.Limits.{Limits}
 use Rattle.fs_calls.specs.Forms.{form, Form, AtNode, AtEntry, AtPair, by_paths}
 use Rattle.fs_calls.specs.declared.call.Call.{Call}
@@ -75,10 +76,10 @@ last_next_is graph op reply fixed = by op.holdings refl
         ap (λ (o : Option ℕ). move_of (last_next o)) (ap last_of (popped st) ∙ last_pushed (taken_if (left_last st st.victim)) (last_held st st.victim))
         ∙ sym (ap₂ (next_by graph (record_of 0 None op) (by_paths op.call)) (ap (phase_of None) fixed) e)
 
-pub finished_next : (graph : Graph) (call : Form) (op now : OpValue) (outcome : Outcome) (reply : Reply) (held : List ℕ) → outcome ≡ Fixed reply held → op.reply ≡ reply_of outcome → IsReady call op.holdings outcome → with_held outcome op ≡ now
+pub finished_next : (graph : Graph) (blocks : Bool) (call : Form) (op now : OpValue) (outcome : Outcome) (reply : Reply) (held : List ℕ) → outcome ≡ Fixed reply held → op.reply ≡ reply_of outcome → IsReady blocks call op.holdings outcome → with_held outcome op ≡ now
     → move_of (last_next (last_of held)) ≡ next_of graph now
-finished_next graph call op now outcome reply held is fixed ready view =
-    ap (λ (l : List ℕ). move_of (last_next (last_of l))) (sym (held_taken reply held op.holdings (subst (IsReady call op.holdings) is ready)))
+finished_next graph blocks call op now outcome reply held is fixed ready view =
+    ap (λ (l : List ℕ). move_of (last_next (last_of l))) (sym (held_taken reply held op.holdings (subst (IsReady blocks call op.holdings) is ready)))
     ∙ last_next_is graph (with_held (Fixed reply held) op) reply (fixed ∙ ap reply_of is)
     ∙ ap (next_of graph) (ap (λ (o : Outcome). with_held o op) (sym is) ∙ view)
 
@@ -87,9 +88,9 @@ first_taken : (o : Option Holdings) → first_of (taken_if o) ≡ option_map (λ
 first_taken None = refl
 first_taken (Some st) = refl
 
-pub finished_position : (call : Form) (op now : OpValue) (outcome : Outcome) (reply : Reply) (held : List ℕ) → outcome ≡ Fixed reply held → IsReady call op.holdings outcome → with_held outcome op ≡ now → first_of held ≡ option_map (λ (st : Holdings). st.node) now.holdings
-finished_position call op now outcome reply held is ready view =
-    ap first_of (sym (held_taken reply held op.holdings (subst (IsReady call op.holdings) is ready)))
+pub finished_position : (blocks : Bool) (call : Form) (op now : OpValue) (outcome : Outcome) (reply : Reply) (held : List ℕ) → outcome ≡ Fixed reply held → IsReady blocks call op.holdings outcome → with_held outcome op ≡ now → first_of held ≡ option_map (λ (st : Holdings). st.node) now.holdings
+finished_position blocks call op now outcome reply held is ready view =
+    ap first_of (sym (held_taken reply held op.holdings (subst (IsReady blocks call op.holdings) is ready)))
     ∙ first_taken (held_by (Fixed reply held) op.holdings)
     ∙ ap (λ (w : OpValue). option_map (λ (st : Holdings). st.node) w.holdings) (ap (λ (o : Outcome). with_held o op) (sym is) ∙ view)
 
@@ -117,11 +118,11 @@ held_less reply st old new (Some n) (gone, e) f =
     one_gone reply st old new n f (omega (arith, all, m))
 
 pub last_left : (limits : Limits) (call : Call) (stand : Stand) (reserved removed removed_new : Option ℕ) (outcome : Outcome) (reply : Reply) (old new : List ℕ) (last : Option ℕ) (n : ℕ) (now : OpValue)
-    → outcome ≡ Fixed reply old → IsReady (form limits call) (stands (form limits call) stand) outcome → MatchOption last ((old ≡ []) × (new ≡ [])) (λ node. old ≡ new ++ node ∷ []) → removed_new ≡ cleared (is_removed removed n) removed
+    → outcome ≡ Fixed reply old → IsReady (in_blocks limits) (form limits call) (stands (form limits call) stand) outcome → MatchOption last ((old ≡ []) × (new ≡ [])) (λ node. old ≡ new ++ node ∷ []) → removed_new ≡ cleared (is_removed removed n) removed
     → with_held outcome (op_value limits call stand reserved removed outcome) ≡ now → IsLetGo now n (with_held (Fixed reply new) (op_value limits call stand reserved removed_new (Fixed reply new)))
 last_left limits call stand reserved removed removed_new outcome reply old new last n now is ready pops cleared_is view seat place =
     let st : Option Holdings = stands (form limits call) stand in
-    rw (← view, is, cleared_is, held_less reply st old new last (subst (IsReady (form limits call) st) is ready) pops) refl
+    rw (← view, is, cleared_is, held_less reply st old new last (subst (IsReady (in_blocks limits) (form limits call) st) is ready) pops) refl
 
 -- and it is a beginning still
 pub held_begins : (old new all : List ℕ) (last : Option ℕ) → (gone : List ℕ) × (old ++ gone ≡ all) → MatchOption last ((old ≡ []) × (new ≡ [])) (λ node. old ≡ new ++ node ∷ []) → (gone : List ℕ) × (new ++ gone ≡ all)
@@ -181,9 +182,9 @@ still_open (Open prepared) op now e unfinished = e
 still_open (Fixed reply held) op now e unfinished = absurd (cc)
 
 -- its room is enough wherever it stands
-pub still_ready : (call : Form) (st new : Option Holdings) (outcome : Outcome) → is_some (reply_of outcome) ≡ false → IsReady call st outcome → IsReady call new outcome
-still_ready call st new (Open prepared) unfinished h = h
-still_ready call st new (Fixed reply held) unfinished h = absurd (cc)
+pub still_ready : (blocks : Bool) (call : Form) (st new : Option Holdings) (outcome : Outcome) → is_some (reply_of outcome) ≡ false → IsReady blocks call st outcome → IsReady blocks call new outcome
+still_ready blocks call st new (Open prepared) unfinished h = h
+still_ready blocks call st new (Fixed reply held) unfinished h = absurd (cc)
 
 -- so that is what a take changes
 pub open_took : (outcome : Outcome) (old new now : OpValue) (n : ℕ) → with_held outcome old ≡ now → is_some (reply_of outcome) ≡ false → IsTook old n new → IsTook now n (with_held outcome new)

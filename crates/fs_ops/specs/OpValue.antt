@@ -1,6 +1,7 @@
 -- What the code of a call keeps, seen as an OpValue: counts of walked names in the place of keys.
-use Rattle.std.specs.Prelude.{ℕ, zero, suc, ◌≡◌, ◌+◌, ◌-◌, ◌≤◌, false, List, ◌++◌, length, take, drop, Option, Some, None}
+use Rattle.std.specs.Prelude.{ℕ, zero, suc, ◌≡◌, ◌+◌, ◌-◌, ◌≤◌, Bool, List, ◌++◌, length, take, drop, Option, Some, None}
 use Rattle.fs_names.specs.Keys.{Key, parent_of}
+use Rattle.fs_names.specs.Limits.{in_blocks}
 use Rattle.fs_names.specs.declared.limits.Limits.{Limits}
 use Rattle.fs_calls.specs.Forms.{Form, AtNode, AtEntry, AtPair, by_paths, form}
 use Rattle.fs_calls.specs.declared.errno.Errno.{Errno}
@@ -62,10 +63,11 @@ held_by (Fixed reply held) st = left_times reply (length (taken_if st) - length 
 abbrev pub stands : Form → Stand → Option Holdings
 stands call stand = holdings_of call stand.walk.node (behind_in stand.walk.behind stand.fork) stand.fork stand.victim
 
--- its value, where a file has at most so many bytes
+-- its value by these limits
 abbrev pub op_value : Limits → Call → Stand → Option ℕ → Option ℕ → Outcome → OpValue
 op_value limits call stand reserved removed outcome =
     record {
+      limits = limits;
       call = call;
       walked = take stand.walk.walked (first_path (form limits call));
       remaining = dropped stand.walk.walked (form limits call);
@@ -94,10 +96,10 @@ Forks (AtPair c p q) way (Some fork) = IsForked p q way fork
 Forks (AtNode c p) way (Some fork) = ⊥
 Forks (AtEntry c p) way (Some fork) = ⊥
 
--- before the finish there is room for it; after it what is held is a beginning of what had been taken
-abbrev pub IsReady : Form → Option Holdings → Outcome → Type 0
-IsReady call st (Open prepared) = Suffices false call prepared
-IsReady call st (Fixed reply held) = (gone : List ℕ) × (held ++ gone ≡ taken_if st)
+-- before the finish there is room for it, by whether files are in blocks; after it what is held is a beginning of what had been taken
+abbrev pub IsReady : Bool → Form → Option Holdings → Outcome → Type 0
+IsReady in_blocks call st (Open prepared) = Suffices in_blocks call prepared
+IsReady in_blocks call st (Fixed reply held) = (gone : List ℕ) × (held ++ gone ≡ taken_if st)
 
 -- what the fields of a call keep: the error that its paths decide is kept from the begin, and the walk goes to the target
 pub record IsOp (limits : Limits) (call : Call) (path_error : Option Errno) (stand : Stand) (outcome : Outcome) : Type 0 where
@@ -105,4 +107,4 @@ pub record IsOp (limits : Limits) (call : Call) (path_error : Option Errno) (sta
   pub names : stand.walk.names ≡ length (target (form limits call))
   pub within : stand.walk.walked ≤ stand.walk.names
   pub forks : Forks (form limits call) stand.walk stand.fork
-  pub ready : IsReady (form limits call) (stands (form limits call) stand) outcome
+  pub ready : IsReady (in_blocks limits) (form limits call) (stands (form limits call) stand) outcome

@@ -110,7 +110,7 @@ fn prepare(
     ensures granted { OnOk result (memory.new ≡ memory.old) }
     ensures refused { OnErr result (memory.new ≢ memory.old) }
 {
-    let room = Room::new(alloc, memory, false, limits, call)?;
+    let room = Room::new(alloc, memory, limits.in_blocks(), limits, call)?;
     let copy = call.copy_counted(memory)?;
     Ok(Prepared {
         call: copy,

@@ -1,6 +1,7 @@
 //! A call is carried out.
 
-ghost use Rattle.std.specs.Prelude.{◌≡◌, None, IsFalse};
+ghost use Rattle.std.specs.Prelude.{◌≡◌, None};
+ghost use Rattle.fs_names.specs.Limits.{in_blocks};
 ghost use Rattle.fs_nodes.specs.Seen.{seen};
 ghost use Rattle.fs_nodes.specs.Stores.{graph_of};
 ghost use Rattle.fs_machine.specs.OpValues.{CanFinish, IsFinished, graph_after};
@@ -24,14 +25,15 @@ fn take_room(outcome: &mut Outcome) -> Room
 }
 
 impl Op {
-    /// Does what the call's finish is in this store, as `next` found it, and fixes its reply; an error changes nothing. The buffers
-    /// that it needs were allocated by `begin`.
+    /// Does what the call's finish is in this store, as `next` found it, and fixes its reply; an error changes nothing. The files of
+    /// the store are in blocks where the call's limits say so. The buffers that it needs were allocated by `begin`.
     pub fn carry_out(&mut self, plan: Plan, store: &mut Store)
-        requires form { IsFalse (seen store.old).in_blocks }
+        requires form { (seen store.old).in_blocks ≡ in_blocks self.old.limits }
         requires unfinished { self.old.reply ≡ None }
         requires can { CanFinish (graph_of store.old) self.old.reserved self.old.remaining self.old.holdings }
         requires plan { IsPlan (seen store.old) self.old plan }
         ensures op { IsFinished (graph_of store.old) self.old self.new }
+        ensures limits { self.new.limits ≡ self.old.limits }
         ensures change { seen store.new ≡ record (seen store.old) { graph = graph_after (graph_of store.old) self.old } }
     {
         let prepared = take_room(&mut self.outcome);

@@ -61,6 +61,7 @@ impl Op {
     pub fn let_go(&mut self, node: NodeNo, store: &mut Store)
         requires spare { is_removed self.old.removed node ≡ true → IsSpare (graph_of store.old) node }
         ensures op { IsLetGo self.old node self.new }
+        ensures limits { self.new.limits ≡ self.old.limits }
         ensures change { seen store.new ≡ record (seen store.old) { graph = releasing (is_removed self.old.removed node) node (graph_of store.old) } }
     {
         release_removed(&mut self.removed, node, store);

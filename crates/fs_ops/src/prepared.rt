@@ -28,7 +28,7 @@ pub struct Prepared {
 }
 
 impl Model for Prepared {
-    ghost use Rattle.std.specs.Prelude.{false};
+    ghost use Rattle.fs_names.specs.Limits.{in_blocks};
     ghost use Rattle.fs_calls.specs.Forms.{form};
     ghost use Rattle.fs_finish.specs.Rooms.{Suffices};
     ghost use Rattle.fs_machine.specs.OpValues.{OpValue, new_value};
@@ -37,7 +37,7 @@ impl Model for Prepared {
 
     ghost view = { λ p. new_value p.limits p.call p.reserved };
 
-    ghost invariant = { λ p. Suffices false (form p.limits p.call) p.room };
+    ghost invariant = { λ p. Suffices (in_blocks p.limits) (form p.limits p.call) p.room };
 }
 
 impl Prepared {

@@ -84,7 +84,8 @@ impl Op {
     /// It has taken a node: a step of its walk, of a head, or the victim. A call whose reply is fixed takes none.
     pub fn took(&mut self, node: NodeNo)
         requires { self.old.reply ≡ None }
-        ensures { IsTook self.old node self.new }
+        ensures took { IsTook self.old node self.new }
+        ensures limits { self.new.limits ≡ self.old.limits }
     {
         if self.stand.walk.may_take() {
             self.stand.walk.took(node);

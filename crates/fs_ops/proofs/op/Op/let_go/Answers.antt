@@ -1,4 +1,5 @@
 use Rattle.std.proofs.Common.{subst}
+use Rattle.fs_names.specs.Limits.{in_blocks}
 use Rattle.fs_calls.specs.Forms.{form}
 use Rattle.fs_machine.specs.Records.{taken_if}
 use Rattle.fs_ops.specs.OpValue.{IsReady, stands}
@@ -20,5 +21,5 @@ invariant_of-self c =
       names = c.self.invariant.names;
       within = c.self.invariant.within;
       forks = c.self.invariant.forks;
-      ready = held_begins c.in-Fixed.held c.pop.new.self (taken_if st) c.pop.result (subst (IsReady (form o.limits o.call) st) c.in-Fixed.is c.self.invariant.ready) c.pop.ensures;
+      ready = held_begins c.in-Fixed.held c.pop.new.self (taken_if st) c.pop.result (subst (IsReady (in_blocks o.limits) (form o.limits o.call) st) c.in-Fixed.is c.self.invariant.ready) c.pop.ensures;
     }

@@ -1,5 +1,6 @@
 use Rattle.std.proofs.Common.{◌≡◌, ◌∙◌, refl, sym, ap, subst}
 use Rattle.std.specs.Option.{is_some}
+use Rattle.fs_names.specs.Limits.{in_blocks}
 use Rattle.fs_calls.specs.Forms.{form}
 use Rattle.fs_nodes.specs.Stores.{graph_of}
 use Rattle.fs_machine.specs.OpValues.{OpValue, next_of}
@@ -16,7 +17,7 @@ pub returns-in-Fixed-clause-next : goal.returns-in-Fixed-clause-next
 returns-in-Fixed-clause-next c =
     let o = c.self.inside in
     ap move_of c.last_next.ensures
-    ∙ finished_next (graph_of c.args.store.now) (form o.limits o.call) (op_value o.limits o.call o.stand o.reserved o.removed o.outcome) c.args.self.now o.outcome c.in-Fixed.field-0 c.in-Fixed.held c.in-Fixed.is refl c.self.invariant.ready c.self.view_is
+    ∙ finished_next (graph_of c.args.store.now) (in_blocks o.limits) (form o.limits o.call) (op_value o.limits o.call o.stand o.reserved o.removed o.outcome) c.args.self.now o.outcome c.in-Fixed.field-0 c.in-Fixed.held c.in-Fixed.is refl c.self.invariant.ready c.self.view_is
 
 pub returns-in-None-clause-next : goal.returns-in-None-clause-next
 returns-in-None-clause-next c =

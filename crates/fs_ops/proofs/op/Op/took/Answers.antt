@@ -12,16 +12,16 @@ use Rattle.fs_ops.proofs.HeldLemmas.{open_took, still_ready}
 use Rattle.fs_ops.proofs.TookLemmas.{walk_took, target_took_is, walk_arrived, target_any, forks_any}
 use Rattle.fs_ops.proofs.op.Op.took.Goals as goal
 
-pub returns-then-may_take : goal.returns-then-may_take
-returns-then-may_take c =
+pub returns-then-may_take-clause-took : goal.returns-then-may_take-clause-took
+returns-then-may_take-clause-took c =
     let o = c.self.inside in
     let taken = walk_took o.limits o.call o.stand o.reserved o.removed o.outcome c.args.node c.self.invariant.names (sym c.may_take.ensures.may ∙ c.if-may_take.true) in
     open_took o.outcome (op_value o.limits o.call o.stand o.reserved o.removed o.outcome) (op_value o.limits o.call (record { walk = c.took.new.self; fork = None; victim = None }) o.reserved o.removed o.outcome) c.args.self.now c.args.node c.self.view_is
     (ap (λ (w : OpValue). is_some w.reply) c.self.view_is ∙ ap (λ (r : Option Reply). is_some r) c.requires)
     (subst (λ (way : Way). IsTook (op_value o.limits o.call o.stand o.reserved o.removed o.outcome) c.args.node (op_value o.limits o.call (record { walk = way; fork = None; victim = None }) o.reserved o.removed o.outcome)) (sym c.took.ensures) taken)
 
-pub returns-else-may_take : goal.returns-else-may_take
-returns-else-may_take c =
+pub returns-else-may_take-clause-took : goal.returns-else-may_take-clause-took
+returns-else-may_take-clause-took c =
     let o = c.self.inside in
     let new = c.took_at_target.new.stand in
     open_took o.outcome (op_value o.limits o.call o.stand o.reserved o.removed o.outcome) (op_value o.limits o.call new o.reserved o.removed o.outcome) c.args.self.now c.args.node c.self.view_is
@@ -53,5 +53,5 @@ invariant_of-self-else-may_take c =
       names = ap (λ (w : Way). w.names) walk ∙ c.self.invariant.names;
       within = subst (λ (w : Way). w.walked ≤ w.names) (sym walk) c.self.invariant.within;
       forks = subst₂ (λ (f : Form) (w : Way). Forks f w c.took_at_target.new.stand.fork) (c.target.ensures.each limits) (sym walk) (c.took_at_target.ensures.forks limits);
-      ready = still_ready _ _ _ o.outcome (ap (λ (w : OpValue). is_some w.reply) c.self.view_is ∙ ap (λ (r : Option Reply). is_some r) c.requires) c.self.invariant.ready;
+      ready = still_ready _ _ _ _ o.outcome (ap (λ (w : OpValue). is_some w.reply) c.self.view_is ∙ ap (λ (r : Option Reply). is_some r) c.requires) c.self.invariant.ready;
     }
