@@ -4,6 +4,7 @@ use Rattle.std.proofs.Math.Dec.{eqb-suc-zero}
 use Rattle.std.proofs.lemmas.List.{take_more}
 use Rattle.std.proofs.lemmas.Option.{slice_get_within, get_or_from_slice_get}
 use mathlib.Core.Path.{fun_ext}
+use Rattle.fs_names.specs.Limits.{in_blocks}
 use Rattle.fs_calls.specs.Starts.{Start}
 use Rattle.fs_calls.specs.Outcomes.{called, next_start}
 use Rattle.fs_calls.specs.declared.call.Call.{Call}
@@ -58,7 +59,8 @@ pub again_kept : (m : CoreValue) (b k p places : ℕ) (start : Start) → IsKept
 again_kept m b k p places start kept rest is = record {
   run = subst Run (sym (again_is m start kept.run rest is)) (timelines_begin_again (state_of m) kept.run (idle_at_rest m rest));
   limited = kept.limited;
-  plain = kept.plain;
+  form = kept.form ∙ ap in_blocks (sym same);
+  limits = λ seat r on. kept.limits seat r on ∙ sym same;
   roomy = kept.roomy;
   begun_is = refl;
   few = omega arith;
@@ -66,6 +68,9 @@ again_kept m b k p places start kept rest is = record {
   within = let a : walking m.seats ≡ 0 = none_walk m.seats rest in omega (arith, a);
   owed_is = let a : owed m.seats ≡ 0 = none_owed m.seats rest in omega (arith, a);
 }
+  where
+    same : start.limits ≡ m.start.limits
+    same = ap (λ (s : Start). s.limits) is
 
 -- the start that one commit more plays
 pub played_next : (start : Start) (calls : List Call) (i : ℕ) (call : Call) (tree new : Start) → slice_get calls i ≡ Some call → tree ≡ next_start start (take i calls) → new ≡ called tree call → new ≡ next_start start (take (i + 1) calls)

@@ -2,6 +2,7 @@
 use Rattle.std.proofs.Common.{◌≡◌, ℕ, zero, suc, ◌+◌, ◌-◌, ◌<◌, ◌≤◌, Bool, true, false, List, [], ◌∷◌, ◌++◌, Option, Some, None, length, get_or, Fits, w64, refl, sym, ap, ◌∙◌, arith, subst}
 use Rattle.std.specs.Prelude.{slice_get, slice_set, IsSome}
 use Rattle.std.proofs.lemmas.Option.{slice_get_within, slice_get_read}
+use Rattle.fs_names.specs.Limits.{in_blocks}
 use Rattle.fs_names.specs.Shapes.{Shape}
 use Rattle.fs_calls.specs.declared.reply.Reply.{Reply}
 use Rattle.fs_nodes.specs.Graphs.{set_at}
@@ -55,7 +56,7 @@ pub read_on : (m : CoreValue) (seat call : ℕ) (move : Move) (old : Option Runn
 read_on m seat call move old x e =
     let z : ◌≡◌ {A = Option (Option Running)} (Some old) (Some (Some x.running)) = sym (slice_get_read m.seats _ seat old refl (seat_within m seat call move x) e) ∙ x.on in cc
 
-goes_on : (R : OpValue → OpValue → Type 0) (m : CoreValue) (seat call : ℕ) (move : Move) (old new : Option Running) → (x : MovesOn m seat call move) → old ≡ get_or m.seats seat old → Goes R old new → (w : OpValue) × R x.running.op w × (new ≡ Some (record x.running { op = w }))
+goes_on : (R : OpValue → OpValue → Type 0) (m : CoreValue) (seat call : ℕ) (move : Move) (old new : Option Running) → (x : MovesOn m seat call move) → old ≡ get_or m.seats seat old → Goes R old new → (w : OpValue) × R x.running.op w × (w.limits ≡ x.running.op.limits) × (new ≡ Some (record x.running { op = w }))
 goes_on R m seat call move old new x e g = subst (λ (o : Option Running). Goes R o new) (read_on m seat call move old x e) g
 
 -- a take
@@ -79,8 +80,8 @@ pub took_kept : (m : CoreValue) (b k p seat call n : ℕ) → IsKept m b k p →
     → (hs : Holding) (old new : Option Running) → holder hs ≡ set_at n (Some call) (holder m.holding) → room hs ≡ room m.holding → old ≡ get_or m.seats seat old → Goes (λ a c. IsTook a n c) old new
     → Step (state_of m) seat (Took n) (state_of (record m { holding = hs; seats = slice_set m.seats seat new })) × IsKept (record m { holding = hs; seats = slice_set m.seats seat new }) b k p
 took_kept m b k p seat call n kept x free hs old new is_hs is_room read goes =
-    let g : (w : OpValue) × IsTook x.running.op n w × (new ≡ Some (record x.running { op = w })) = goes_on (λ a c. IsTook a n c) m seat call (Takes n) old new x read goes in
-    took_step m b k p seat x.running n kept x.on x.next free hs g.0 new (is_hs ∙ ap (λ (c : ℕ). set_at n (Some c) (holder m.holding)) (sym x.number)) is_room g.1 g.2
+    let g : (w : OpValue) × IsTook x.running.op n w × (w.limits ≡ x.running.op.limits) × (new ≡ Some (record x.running { op = w })) = goes_on (λ a c. IsTook a n c) m seat call (Takes n) old new x read goes in
+    took_step m b k p seat x.running n kept x.on x.next free hs g.0 new (is_hs ∙ ap (λ (c : ℕ). set_at n (Some c) (holder m.holding)) (sym x.number)) is_room g.1 g.2 g.3
 
 pub busy_step : (m : CoreValue) (b k p seat call n d : ℕ) → IsKept m b k p → MovesOn m seat call (Takes n) → holder m.holding n ≡ Some d → Step (state_of m) seat (Busy n d) (state_of m)
 busy_step m b k p seat call n d kept x held = (x.running.call, record_of seat x.running.place x.running.op, moves m seat x.running (Takes n) kept.run x.on x.next, held, refl)
@@ -119,8 +120,8 @@ pub left_kept : (m : CoreValue) (b k p seat call n : ℕ) → IsKept m b k p →
     → holder hs ≡ set_at n None (holder m.holding) → room hs ≡ room m.holding → old ≡ get_or m.seats seat old → Goes (λ a c. IsLetGo a n c) old new
     → Step (state_of m) seat (LetGo n) (state_of (record m { store = st; holding = hs; seats = slice_set m.seats seat new })) × IsKept (record m { store = st; holding = hs; seats = slice_set m.seats seat new }) b k p
 left_kept m b k p seat call n kept x st hs old new graph limit blocks is_hs is_room read goes =
-    let g : (w : OpValue) × IsLetGo x.running.op n w × (new ≡ Some (record x.running { op = w })) = goes_on (λ a c. IsLetGo a n c) m seat call (Leaves n) old new x read goes in
-    let_go_step m b k p seat x.running n kept x.on x.next st hs g.0 new (graph x.running (read_on m seat call (Leaves n) old x read)) limit blocks is_hs is_room g.1 g.2
+    let g : (w : OpValue) × IsLetGo x.running.op n w × (w.limits ≡ x.running.op.limits) × (new ≡ Some (record x.running { op = w })) = goes_on (λ a c. IsLetGo a n c) m seat call (Leaves n) old new x read goes in
+    let_go_step m b k p seat x.running n kept x.on x.next st hs g.0 new (graph x.running (read_on m seat call (Leaves n) old x read)) limit blocks is_hs is_room g.1 g.2 g.3
 
 -- a finish
 pub finish_can : (m : CoreValue) (b k p seat call : ℕ) (s : Moved) → IsKept m b k p → (x : MovesOn m seat call (Finishes s)) → (old : Option Running) → old ≡ get_or m.seats seat old → (r : Running) → old ≡ Some r → CanFinish (graph_of m.store) r.op.reserved r.op.remaining r.op.holdings
@@ -129,6 +130,12 @@ finish_can m b k p seat call s kept x old read r e =
     let y : x.running ≡ r = cc in
     subst (λ (q : Running). CanFinish (graph_of m.store) q.op.reserved q.op.remaining q.op.holdings) y
     (can_finish (state_of m) call (record_of seat x.running.place x.running.op) s kept.run (on_state m b k p seat call (Finishes s) kept x) (next_on m seat call (Finishes s) x))
+
+pub finish_form : (m : CoreValue) (b k p seat call : ℕ) (s : Moved) → IsKept m b k p → (x : MovesOn m seat call (Finishes s)) → (old : Option Running) → old ≡ get_or m.seats seat old → (r : Running) → old ≡ Some r → (seen m.store).in_blocks ≡ in_blocks r.op.limits
+finish_form m b k p seat call s kept x old read r e =
+    let z : ◌≡◌ {A = Option Running} (Some r) (Some x.running) = sym e ∙ read_on m seat call (Finishes s) old x read in
+    let y : x.running ≡ r = cc in
+    kept.form ∙ ap in_blocks (sym (kept.limits seat x.running x.on)) ∙ ap (λ (q : Running). in_blocks q.op.limits) y
 
 pub finish_plan : (m : CoreValue) (seat call : ℕ) (s : Moved) (plan : Plan) → (x : MovesOn m seat call (Finishes s)) → PlansOn m seat plan → (old : Option Running) → old ≡ get_or m.seats seat old → (r : Running) → old ≡ Some r → IsPlan (seen m.store) r.op plan
 finish_plan m seat call s plan x plans old read r e =
@@ -162,16 +169,16 @@ pub committed_kept : (m : CoreValue) (b k p seat call : ℕ) (s : Moved) → IsK
     → (st : Places) (old new : Option Running) → ((r : Running) → old ≡ Some r → graph_of st ≡ graph_after (graph_of m.store) r.op) → (seen st).limit ≡ (seen m.store).limit → (seen st).in_blocks ≡ (seen m.store).in_blocks → old ≡ get_or m.seats seat old → Goes (λ a c. IsFinished (graph_of m.store) a c) old new
     → Step (state_of m) seat Committed (state_of (record m { store = st; seats = slice_set m.seats seat new; timeline = m.timeline ++ Commit call ∷ [] })) × IsKept (record m { store = st; seats = slice_set m.seats seat new; timeline = m.timeline ++ Commit call ∷ [] }) b (k + 1) (p - 1)
 committed_kept m b k p seat call s kept x unplaced none st old new graph limit blocks read goes =
-    let g : (w : OpValue) × IsFinished (graph_of m.store) x.running.op w × (new ≡ Some (record x.running { op = w })) = goes_on (λ a c. IsFinished (graph_of m.store) a c) m seat call (Finishes s) old new x read goes in
+    let g : (w : OpValue) × IsFinished (graph_of m.store) x.running.op w × (w.limits ≡ x.running.op.limits) × (new ≡ Some (record x.running { op = w })) = goes_on (λ a c. IsFinished (graph_of m.store) a c) m seat call (Finishes s) old new x read goes in
     subst (λ (c : ℕ). Step (state_of m) seat Committed (state_of (record m { store = st; seats = slice_set m.seats seat new; timeline = m.timeline ++ Commit c ∷ [] })) × IsKept (record m { store = st; seats = slice_set m.seats seat new; timeline = m.timeline ++ Commit c ∷ [] }) b (k + 1) (p - 1)) x.number
-    (committed_step m b k p seat x.running s kept x.on x.next (unplaced x.running x.on) none st g.0 new (graph x.running (read_on m seat call (Finishes s) old x read)) limit blocks g.1 g.2)
+    (committed_step m b k p seat x.running s kept x.on x.next (unplaced x.running x.on) none st g.0 new (graph x.running (read_on m seat call (Finishes s) old x read)) limit blocks g.1 g.2 g.3)
 
 pub carried_kept : (m : CoreValue) (b k p seat call : ℕ) (s : Moved) (i : ℕ) → IsKept m b k p → (x : MovesOn m seat call (Finishes s)) → PlacedOn m seat (Some i)
     → (st : Places) (old new : Option Running) → ((r : Running) → old ≡ Some r → graph_of st ≡ graph_after (graph_of m.store) r.op) → (seen st).limit ≡ (seen m.store).limit → (seen st).in_blocks ≡ (seen m.store).in_blocks → old ≡ get_or m.seats seat old → Goes (λ a c. IsFinished (graph_of m.store) a c) old new
     → Step (state_of m) seat CarriedOut (state_of (record m { store = st; seats = slice_set m.seats seat new })) × IsKept (record m { store = st; seats = slice_set m.seats seat new }) b k p
 carried_kept m b k p seat call s i kept x is_placed st old new graph limit blocks read goes =
-    let g : (w : OpValue) × IsFinished (graph_of m.store) x.running.op w × (new ≡ Some (record x.running { op = w })) = goes_on (λ a c. IsFinished (graph_of m.store) a c) m seat call (Finishes s) old new x read goes in
-    carried_step m b k p seat x.running s i kept x.on x.next (is_placed x.running x.on) st g.0 new (graph x.running (read_on m seat call (Finishes s) old x read)) limit blocks g.1 g.2
+    let g : (w : OpValue) × IsFinished (graph_of m.store) x.running.op w × (w.limits ≡ x.running.op.limits) × (new ≡ Some (record x.running { op = w })) = goes_on (λ a c. IsFinished (graph_of m.store) a c) m seat call (Finishes s) old new x read goes in
+    carried_step m b k p seat x.running s i kept x.on x.next (is_placed x.running x.on) st g.0 new (graph x.running (read_on m seat call (Finishes s) old x read)) limit blocks g.1 g.2 g.3
 
 -- a commit's number fits, where the number of begins does
 pub finish_fits : (m : CoreValue) (b k p seat call : ℕ) (s : Moved) → IsKept m b k p → (x : MovesOn m seat call (Finishes s)) → PlacedOn m seat None → k + 1 ≤ b

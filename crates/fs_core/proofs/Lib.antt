@@ -14,6 +14,7 @@ pub mod Happening
 pub mod Indexing
 pub mod Resting
 pub mod Starting
+pub mod Keeping
 pub mod Again
 pub mod Leasts
 pub mod Told

@@ -1,8 +1,9 @@
 -- What a begin rests on and leaves.
-use Rattle.std.proofs.Common.{◌≡◌, ℕ, ◌+◌, ◌-◌, ◌^◌, ◌<◌, ◌≤◌, Bool, IsFalse, true, false, cond, eqb, List, [], ◌∷◌, ◌++◌, Option, Some, None, length, get_or, refl, sym, ap, ◌∙◌, arith, subst}
+use Rattle.std.proofs.Common.{◌≡◌, ℕ, ◌+◌, ◌-◌, ◌^◌, ◌<◌, ◌≤◌, Bool, true, false, cond, eqb, List, [], ◌∷◌, ◌++◌, Option, Some, None, length, get_or, refl, sym, ap, ◌∙◌, arith, subst}
 use Rattle.std.specs.Prelude.{slice_get, slice_set, IsSome, IfSome, is_some, Ok, Err}
 use mathlib.Core.Path.{fun_ext}
 use Rattle.std.proofs.lemmas.Option.{slice_get_within, slice_get_read}
+use Rattle.fs_names.specs.Limits.{in_blocks}
 use Rattle.fs_names.specs.declared.limits.Limits.{Limits}
 use Rattle.fs_names.specs.declared.limits.Limits.TheVariants.{V1}
 use Rattle.fs_names.specs.declared.limits.TheConstants.{NODE_LIMIT}
@@ -31,6 +32,7 @@ use Rattle.fs_core.specs.declared.seat.Running.{Running}
 use Rattle.fs_core.specs.CoreValues.{CoreValue, state_of, number_on, number_of, records}
 use Rattle.fs_core.specs.code.Rooms.{AreBelow, walking, walking_at, owed_at, owed, IsKept}
 use Rattle.fs_core.proofs.SeatLemmas.{records_begun, records_more, numbers_set, numbers_more, number_read, owed_set, owed_more, walking_set, walking_more}
+use Rattle.fs_core.proofs.Keeping.{keep_begun, keep_more, keep_none}
 use Rattle.fs_core.proofs.States.{same_state, begins_more, commits_begin}
 
 -- each call that has begun has its entry
@@ -120,7 +122,8 @@ pub counted : (m : CoreValue) (b k p refusals : ℕ) → IsKept m b k p → IsKe
 counted m b k p refusals kept = record {
   run = kept.run;
   limited = kept.limited;
-  plain = kept.plain;
+  form = kept.form;
+  limits = kept.limits;
   roomy = kept.roomy;
   begun_is = kept.begun_is;
   few = kept.few;
@@ -137,7 +140,8 @@ refused_same m b k p kept st hs graph limit blocks is_hs more = (
   record {
     run = subst Run (sym same) kept.run;
     limited = omega (arith, limit, kept.limited);
-    plain = blocks ∙ kept.plain;
+    form = blocks ∙ kept.form;
+    limits = kept.limits;
     roomy = λ n s e. (let less : n < room m.holding = kept.roomy n s (ap (λ (g : Graph). g.shape n) (sym graph) ∙ e) in omega (arith, less, more));
     begun_is = kept.begun_is;
     few = kept.few;
@@ -178,7 +182,8 @@ begun_kept m b k p seat call kept free st hs w number copy slot begun limit bloc
   record {
     run = Beginning seat call (Ok number) _ kept.run step;
     limited = omega (arith, limit, kept.limited);
-    plain = blocks ∙ kept.plain;
+    form = blocks ∙ kept.form;
+    limits = keep_begun m.start.limits m.seats seat (record { call = number; place = None; op = w }) slot kept.limits free is (by_limits (reserved_by call) begun);
     roomy = begun_roomy m b k p kept call st hs w (reserved_by call) begun has more;
     begun_is = is_number ∙ ap (λ (n : ℕ). n + 1) kept.begun_is ∙ sym (begins_more m.timeline number seat copy);
     few = few;
@@ -194,6 +199,10 @@ begun_kept m b k p seat call kept free st hs w number copy slot begun limit bloc
     fresh : (o : Option Shape) → BegunAs (graph_of m.store) (seen m.store).limit m.start.limits call o w (graph_of st) → w.reply ≡ None
     fresh None (is_w, is_new) = ap (λ (x : OpValue). x.reply) is_w
     fresh (Some shape) (c, below, unused, is_w, is_new) = ap (λ (x : OpValue). x.reply) is_w
+
+    by_limits : (o : Option Shape) → BegunAs (graph_of m.store) (seen m.store).limit m.start.limits call o w (graph_of st) → w.limits ≡ m.start.limits
+    by_limits None (is_w, is_new) = ap (λ (x : OpValue). x.limits) is_w
+    by_limits (Some shape) (c, below, unused, is_w, is_new) = ap (λ (x : OpValue). x.limits) is_w
 
     after : (owed_at slot ≡ 2) × (walking_at slot ≡ 1)
     after = (
@@ -228,7 +237,8 @@ seat_kept m b k p kept seats is = (
   record {
     run = subst Run (sym same) kept.run;
     limited = kept.limited;
-    plain = kept.plain;
+    form = kept.form;
+    limits = keep_more m.start.limits m.seats seats kept.limits is;
     roomy = kept.roomy;
     begun_is = kept.begun_is;
     few = kept.few;
@@ -242,14 +252,15 @@ seat_kept m b k p kept seats is = (
     same = same_state _ _ _ _ _ _ _ _ _ _ _ _ refl refl refl (ap records is ∙ records_more m.seats) (ap number_on is ∙ numbers_more m.seats)
 
 -- a new core
-pub start_kept : (start : Start) (st : Places) (hs : Holding) → IsStart (seen st).limit start (graph_of st) → (seen st).limit ≤ NODE_LIMIT → IsFalse (seen st).in_blocks → holder hs ≡ (λ n. None) → AreBelow (graph_of st) (room hs)
+pub start_kept : (start : Start) (st : Places) (hs : Holding) → IsStart (seen st).limit start (graph_of st) → (seen st).limit ≤ NODE_LIMIT → (seen st).in_blocks ≡ in_blocks start.limits → holder hs ≡ (λ n. None) → AreBelow (graph_of st) (room hs)
     → (state_of (record { start = start; store = st; holding = hs; seats = []; timeline = []; refusals = 0 }) ≡ fresh (seen st).limit start (graph_of st)) × IsKept (record { start = start; store = st; holding = hs; seats = []; timeline = []; refusals = 0 }) 0 0 0
-start_kept start st hs is most plain is_hs below = (
+start_kept start st hs is most blocks is_hs below = (
   same,
   record {
     run = subst Run (sym same) (Starting (seen st).limit start (graph_of st) is);
     limited = most;
-    plain = plain;
+    form = blocks;
+    limits = keep_none start.limits;
     roomy = below;
     begun_is = refl;
     few = omega arith;

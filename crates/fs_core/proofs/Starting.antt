@@ -59,7 +59,7 @@ finishes_otherwise moved e = cc
 pub ends_otherwise : Ends ≡ Takes 0 → ⊥
 ends_otherwise e = cc
 
-apart : (i j : ℕ) → eqb i j ≡ false → i ≡ j → ⊥
+pub apart : (i j : ℕ) → eqb i j ≡ false → i ≡ j → ⊥
 apart i j f e = let z : true ≡ false = sym (eqb_refl i) ∙ ap (λ (n : ℕ). eqb i n) e ∙ f in cc
 
 -- what is on one seat changes

@@ -29,6 +29,7 @@ use Rattle.fs_core.specs.declared.seat.Running.{Running}
 use Rattle.fs_core.specs.CoreValues.{CoreValue, state_of, records}
 use Rattle.fs_core.specs.code.Rooms.{is_walking, walking_at, owed_at, IsKept}
 use Rattle.fs_core.proofs.SeatLemmas.{records_changed, records_ended, numbers_set, numbers_changed, owed_set, walking_set}
+use Rattle.fs_core.proofs.Keeping.{keep_moved, keep_ended}
 use Rattle.fs_core.proofs.WorkLemmas.{finish_is, unfinished_at}
 use Rattle.fs_core.proofs.States.{same_state, apart_of, call_on, moves, took_reply, left_reply, finished_reply, begins_commit, begins_return, commits_more, commits_return}
 
@@ -46,14 +47,15 @@ same_owed r w v is e =
 
 -- a take
 pub took_step : (m : CoreValue) (b k p seat : ℕ) (r : Running) (n : ℕ) → IsKept m b k p → slice_get m.seats seat ≡ Some (Some r) → next_of (graph_of m.store) r.op ≡ Takes n → holder m.holding n ≡ None
-    → (hs : Holding) (w : OpValue) (v : Option Running) → holder hs ≡ set_at n (Some r.call) (holder m.holding) → holders.room hs ≡ holders.room m.holding → IsTook r.op n w → v ≡ Some (record r { op = w })
+    → (hs : Holding) (w : OpValue) (v : Option Running) → holder hs ≡ set_at n (Some r.call) (holder m.holding) → holders.room hs ≡ holders.room m.holding → IsTook r.op n w → w.limits ≡ r.op.limits → v ≡ Some (record r { op = w })
     → Step (state_of m) seat (Took n) (state_of (record m { holding = hs; seats = slice_set m.seats seat v })) × IsKept (record m { holding = hs; seats = slice_set m.seats seat v }) b k p
-took_step m b k p seat r n kept on move free hs w v is_hs room took_it is = (
+took_step m b k p seat r n kept on move free hs w v is_hs room took_it by is = (
   step,
   record {
     run = Stepping seat (Took n) _ kept.run step;
     limited = kept.limited;
-    plain = kept.plain;
+    form = kept.form;
+    limits = keep_moved m.start.limits m.seats seat r (record r { op = w }) v kept.limits on is by;
     roomy = rw room kept.roomy;
     begun_is = kept.begun_is;
     few = kept.few;
@@ -96,14 +98,15 @@ fewer_unreserved graph (Some n) q t e = fewer_released graph n q t e
 -- a let go
 pub let_go_step : (m : CoreValue) (b k p seat : ℕ) (r : Running) (n : ℕ) → IsKept m b k p → slice_get m.seats seat ≡ Some (Some r) → next_of (graph_of m.store) r.op ≡ Leaves n
     → (st : Places) (hs : Holding) (w : OpValue) (v : Option Running) → graph_of st ≡ releasing (is_removed r.op.removed n) n (graph_of m.store) → (seen st).limit ≡ (seen m.store).limit → (seen st).in_blocks ≡ (seen m.store).in_blocks
-    → holder hs ≡ set_at n None (holder m.holding) → holders.room hs ≡ holders.room m.holding → IsLetGo r.op n w → v ≡ Some (record r { op = w })
+    → holder hs ≡ set_at n None (holder m.holding) → holders.room hs ≡ holders.room m.holding → IsLetGo r.op n w → w.limits ≡ r.op.limits → v ≡ Some (record r { op = w })
     → Step (state_of m) seat (LetGo n) (state_of (record m { store = st; holding = hs; seats = slice_set m.seats seat v })) × IsKept (record m { store = st; holding = hs; seats = slice_set m.seats seat v }) b k p
-let_go_step m b k p seat r n kept on move st hs w v graph limit blocks is_hs room left_it is = (
+let_go_step m b k p seat r n kept on move st hs w v graph limit blocks is_hs room left_it by is = (
   step,
   record {
     run = Stepping seat (LetGo n) _ kept.run step;
     limited = omega (arith, limit, kept.limited);
-    plain = blocks ∙ kept.plain;
+    form = blocks ∙ kept.form;
+    limits = keep_moved m.start.limits m.seats seat r (record r { op = w }) v kept.limits on is by;
     roomy = λ q t e. rw room (let u : (u : Shape) × ((graph_of m.store).shape q ≡ Some u) = fewer_left (graph_of m.store) (is_removed r.op.removed n) n q t (ap (λ (g : Graph). g.shape q) (sym graph) ∙ e) in kept.roomy q u.0 u.1);
     begun_is = kept.begun_is;
     few = kept.few;
@@ -163,7 +166,8 @@ helped_step m b k p seat r s kept on move unplaced other q on_other q_unplaced q
   record {
     run = Stepping seat (Helped q.call) _ kept.run step;
     limited = kept.limited;
-    plain = kept.plain;
+    form = kept.form;
+    limits = keep_moved m.start.limits m.seats other q (record q { place = Some k }) v kept.limits on_other is refl;
     roomy = kept.roomy;
     begun_is = kept.begun_is ∙ sym (begins_commit m.timeline q.call);
     few = kept.few;
@@ -214,14 +218,15 @@ fewer_made m seat r run on st graph q t e =
 
 -- a walking call that finishes
 pub committed_step : (m : CoreValue) (b k p seat : ℕ) (r : Running) (s : Moved) → IsKept m b k p → slice_get m.seats seat ≡ Some (Some r) → next_of (graph_of m.store) r.op ≡ Finishes s → r.place ≡ None → NoneBelow (state_of m) s
-    → (st : Places) (w : OpValue) (v : Option Running) → graph_of st ≡ graph_after (graph_of m.store) r.op → (seen st).limit ≡ (seen m.store).limit → (seen st).in_blocks ≡ (seen m.store).in_blocks → IsFinished (graph_of m.store) r.op w → v ≡ Some (record r { op = w })
+    → (st : Places) (w : OpValue) (v : Option Running) → graph_of st ≡ graph_after (graph_of m.store) r.op → (seen st).limit ≡ (seen m.store).limit → (seen st).in_blocks ≡ (seen m.store).in_blocks → IsFinished (graph_of m.store) r.op w → w.limits ≡ r.op.limits → v ≡ Some (record r { op = w })
     → Step (state_of m) seat Committed (state_of (record m { store = st; seats = slice_set m.seats seat v; timeline = m.timeline ++ Commit r.call ∷ [] })) × IsKept (record m { store = st; seats = slice_set m.seats seat v; timeline = m.timeline ++ Commit r.call ∷ [] }) b (k + 1) (p - 1)
-committed_step m b k p seat r s kept on move unplaced none st w v graph limit blocks done is = (
+committed_step m b k p seat r s kept on move unplaced none st w v graph limit blocks done by is = (
   step,
   record {
     run = Stepping seat Committed _ kept.run step;
     limited = omega (arith, limit, kept.limited);
-    plain = blocks ∙ kept.plain;
+    form = blocks ∙ kept.form;
+    limits = keep_moved m.start.limits m.seats seat r (record r { op = w }) v kept.limits on is by;
     roomy = λ q t e. (let u : (u : Shape) × ((graph_of m.store).shape q ≡ Some u) = fewer_made m seat r kept.run on st graph q t e in kept.roomy q u.0 u.1);
     begun_is = kept.begun_is ∙ sym (begins_commit m.timeline r.call);
     few = kept.few;
@@ -252,14 +257,15 @@ committed_step m b k p seat r s kept on move unplaced none st w v graph limit bl
 
 -- a placed call that finishes
 pub carried_step : (m : CoreValue) (b k p seat : ℕ) (r : Running) (s : Moved) (i : ℕ) → IsKept m b k p → slice_get m.seats seat ≡ Some (Some r) → next_of (graph_of m.store) r.op ≡ Finishes s → r.place ≡ Some i
-    → (st : Places) (w : OpValue) (v : Option Running) → graph_of st ≡ graph_after (graph_of m.store) r.op → (seen st).limit ≡ (seen m.store).limit → (seen st).in_blocks ≡ (seen m.store).in_blocks → IsFinished (graph_of m.store) r.op w → v ≡ Some (record r { op = w })
+    → (st : Places) (w : OpValue) (v : Option Running) → graph_of st ≡ graph_after (graph_of m.store) r.op → (seen st).limit ≡ (seen m.store).limit → (seen st).in_blocks ≡ (seen m.store).in_blocks → IsFinished (graph_of m.store) r.op w → w.limits ≡ r.op.limits → v ≡ Some (record r { op = w })
     → Step (state_of m) seat CarriedOut (state_of (record m { store = st; seats = slice_set m.seats seat v })) × IsKept (record m { store = st; seats = slice_set m.seats seat v }) b k p
-carried_step m b k p seat r s i kept on move is_placed st w v graph limit blocks done is = (
+carried_step m b k p seat r s i kept on move is_placed st w v graph limit blocks done by is = (
   step,
   record {
     run = Stepping seat CarriedOut _ kept.run step;
     limited = omega (arith, limit, kept.limited);
-    plain = blocks ∙ kept.plain;
+    form = blocks ∙ kept.form;
+    limits = keep_moved m.start.limits m.seats seat r (record r { op = w }) v kept.limits on is by;
     roomy = λ q t e. (let u : (u : Shape) × ((graph_of m.store).shape q ≡ Some u) = fewer_made m seat r kept.run on st graph q t e in kept.roomy q u.0 u.1);
     begun_is = kept.begun_is;
     few = kept.few;
@@ -297,7 +303,8 @@ returned_step m b k p seat r reply kept on move replied st v graph limit blocks 
   record {
     run = Stepping seat (Returned reply) _ kept.run step;
     limited = omega (arith, limit, kept.limited);
-    plain = blocks ∙ kept.plain;
+    form = blocks ∙ kept.form;
+    limits = keep_ended m.start.limits m.seats seat r v kept.limits on is;
     roomy = λ q t e. (let u : (u : Shape) × ((graph_of m.store).shape q ≡ Some u) = fewer_unreserved (graph_of m.store) r.op.reserved q t (ap (λ (g : Graph). g.shape q) (sym graph) ∙ e) in kept.roomy q u.0 u.1);
     begun_is = kept.begun_is ∙ sym (begins_return m.timeline r.call reply);
     few = kept.few;

@@ -1,9 +1,10 @@
 //! A store that is filled from the rows of a tree.
 
-ghost use Rattle.std.specs.Prelude.{◌≡◌, ◌≢◌, ◌≤◌, ◌<◌, ◌+◌, ℕ, None, length, IsFalse, IfOk, OnOk, Err};
+ghost use Rattle.std.specs.Prelude.{◌≡◌, ◌≢◌, ◌≤◌, ◌<◌, ◌+◌, ℕ, None, length, IsTrue, IsFalse, IfOk, OnOk, Err};
 ghost use Rattle.fs_nodes.specs.Graphs.{numbers, reserved_in};
 ghost use Rattle.fs_nodes.specs.Seen.{seen};
 ghost use Rattle.fs_nodes.specs.Stores.{graph_of, child, shape, in_use, IsUnlinked};
+ghost use Rattle.fs_names.specs.Limits.{in_blocks};
 ghost use Rattle.fs_names.specs.Shapes.{File};
 ghost use Rattle.fs_names.specs.declared.limits.TheConstants.{NODE_LIMIT};
 ghost use Rattle.fs_seq.specs.Rows.{IsWithinLimits};
@@ -12,7 +13,9 @@ ghost use Rattle.fs_machine.specs.States.{IsStart};
 ghost use Rattle.fs_core.specs.code.Filling.{shape_of_row, CanAdd, IsAdded};
 ghost use Rattle.fs_core.specs.code.Rooms.{AreBelow};
 
+use fs_blocks::Spare;
 use fs_locks::Holders;
+use fs_memory::Memory;
 use fs_names::{Kind, Name};
 use fs_nodes::{NoNode, NodeNo, Store};
 use fs_seq::{Row, SeqTree};
@@ -32,8 +35,8 @@ fn reached(store: &Store, names: &[Name]) -> Option<NodeNo>
     Some(node)
 }
 
-/// A new file with these bytes, which no entry names.
-fn new_file(store: &mut Store, bytes: &Vec<u8>) -> Result<NodeNo, NoNode>
+/// A new file in one vector with these bytes, which no entry names.
+fn new_vector(store: &mut Store, bytes: &Vec<u8>) -> Result<NodeNo, NoNode>
     requires form { IsFalse (seen store.old).in_blocks }
     ensures free { IfOk result (λ node. shape store.old node ≡ None) }
     ensures unlinked { IfOk result (λ node. IsUnlinked (child store.old) node) }
@@ -41,7 +44,7 @@ fn new_file(store: &mut Store, bytes: &Vec<u8>) -> Result<NodeNo, NoNode>
     ensures not_root { IfOk result (λ node. node ≢ 0) }
     ensures graph { IfOk result (λ node. graph_of store.new ≡ reserved_in node (File bytes.now.items) (graph_of store.old)) }
     ensures limit { OnOk result ((seen store.new).limit ≡ (seen store.old).limit) }
-    ensures form { OnOk result (IsFalse (seen store.new).in_blocks) }
+    ensures form { OnOk result ((seen store.new).in_blocks ≡ (seen store.old).in_blocks) }
     ensures full { result ≡ Err NoNode.Full → in_use store.old ≡ (seen store.old).limit }
 {
     let Ok(copy) = Vec::from_slice(*bytes.allocator(), bytes) else {
@@ -52,16 +55,55 @@ fn new_file(store: &mut Store, bytes: &Vec<u8>) -> Result<NodeNo, NoNode>
     Ok(node)
 }
 
+/// The same of a file in blocks.
+fn new_blocks(store: &mut Store, bytes: &Vec<u8>) -> Result<NodeNo, NoNode>
+    requires form { IsTrue (seen store.old).in_blocks }
+    ensures free { IfOk result (λ node. shape store.old node ≡ None) }
+    ensures unlinked { IfOk result (λ node. IsUnlinked (child store.old) node) }
+    ensures within { IfOk result (λ node. node < (seen store.old).limit) }
+    ensures not_root { IfOk result (λ node. node ≢ 0) }
+    ensures graph { IfOk result (λ node. graph_of store.new ≡ reserved_in node (File bytes.now.items) (graph_of store.old)) }
+    ensures limit { OnOk result ((seen store.new).limit ≡ (seen store.old).limit) }
+    ensures form { OnOk result ((seen store.new).in_blocks ≡ (seen store.old).in_blocks) }
+    ensures full { result ≡ Err NoNode.Full → in_use store.old ≡ (seen store.old).limit }
+{
+    let (alloc, count) = (*bytes.allocator(), bytes.len());
+    let Ok(spare) = Spare::for_write(alloc, &mut Memory::new(), 0, count) else {
+        return Err(NoNode::OutOfMemory);
+    };
+    let node = store.reserve(Kind::File)?;
+    if count > 0 {
+        store.write(node, 0, bytes, spare);
+    }
+    Ok(node)
+}
+
+/// A new file with these bytes, which no entry names.
+fn new_file(store: &mut Store, bytes: &Vec<u8>) -> Result<NodeNo, NoNode>
+    ensures free { IfOk result (λ node. shape store.old node ≡ None) }
+    ensures unlinked { IfOk result (λ node. IsUnlinked (child store.old) node) }
+    ensures within { IfOk result (λ node. node < (seen store.old).limit) }
+    ensures not_root { IfOk result (λ node. node ≢ 0) }
+    ensures graph { IfOk result (λ node. graph_of store.new ≡ reserved_in node (File bytes.now.items) (graph_of store.old)) }
+    ensures limit { OnOk result ((seen store.new).limit ≡ (seen store.old).limit) }
+    ensures form { OnOk result ((seen store.new).in_blocks ≡ (seen store.old).in_blocks) }
+    ensures full { result ≡ Err NoNode.Full → in_use store.old ≡ (seen store.old).limit }
+{
+    if store.is_in_blocks() {
+        return new_blocks(store, bytes);
+    }
+    new_vector(store, bytes)
+}
+
 /// The node of a row, which no entry names yet.
 fn new_node(store: &mut Store, row: &Row) -> Result<NodeNo, NoNode>
-    requires form { IsFalse (seen store.old).in_blocks }
     ensures free { IfOk result (λ node. shape store.old node ≡ None) }
     ensures unlinked { IfOk result (λ node. IsUnlinked (child store.old) node) }
     ensures within { IfOk result (λ node. node < (seen store.old).limit) }
     ensures not_root { IfOk result (λ node. node ≢ 0) }
     ensures graph { IfOk result (λ node. graph_of store.new ≡ reserved_in node (shape_of_row row.now) (graph_of store.old)) }
     ensures limit { OnOk result ((seen store.new).limit ≡ (seen store.old).limit) }
-    ensures form { OnOk result (IsFalse (seen store.new).in_blocks) }
+    ensures form { OnOk result ((seen store.new).in_blocks ≡ (seen store.old).in_blocks) }
     ensures full { result ≡ Err NoNode.Full → in_use store.old ≡ (seen store.old).limit }
 {
     match row.kind {
@@ -72,11 +114,10 @@ fn new_node(store: &mut Store, row: &Row) -> Result<NodeNo, NoNode>
 
 /// Adds the node of a row, with its entry.
 fn add_node(store: &mut Store, row: &Row) -> Result<NodeNo, NoNode>
-    requires form { IsFalse (seen store.old).in_blocks }
     requires can { CanAdd (graph_of store.old) row.now }
     ensures added { IfOk result (λ node. IsAdded (seen store.old).limit (graph_of store.old) (graph_of store.new) row.now node) }
     ensures limit { OnOk result ((seen store.new).limit ≡ (seen store.old).limit) }
-    ensures form { OnOk result (IsFalse (seen store.new).in_blocks) }
+    ensures form { OnOk result ((seen store.new).in_blocks ≡ (seen store.old).in_blocks) }
     ensures full { result ≡ Err NoNode.Full → in_use store.old ≡ (seen store.old).limit }
 {
     let Some((name, above)) = row.key.split_last() else {
@@ -90,14 +131,13 @@ fn add_node(store: &mut Store, row: &Row) -> Result<NodeNo, NoNode>
 
 /// Adds the node of a row, with its entry and room for who holds it.
 fn add_row(store: &mut Store, holders: &mut Holders, row: &Row) -> Result<(), NoNode>
-    requires form { IsFalse (seen store.old).in_blocks }
     requires can { CanAdd (graph_of store.old) row.now }
     requires limit { (seen store.old).limit ≤ NODE_LIMIT }
     ensures added { OnOk result ((node : ℕ) × IsAdded (seen store.old).limit (graph_of store.old) (graph_of store.new) row.now node × (node < room holders.new)) }
     ensures more { OnOk result (room holders.old ≤ room holders.new) }
     ensures holders { OnOk result (holder holders.new ≡ holder holders.old) }
     ensures limit { OnOk result ((seen store.new).limit ≡ (seen store.old).limit) }
-    ensures form { OnOk result (IsFalse (seen store.new).in_blocks) }
+    ensures form { OnOk result ((seen store.new).in_blocks ≡ (seen store.old).in_blocks) }
     ensures full { result ≡ Err NoNode.Full → in_use store.old ≡ (seen store.old).limit }
 {
     let node = add_node(store, row)?;
@@ -114,7 +154,7 @@ pub fn filled(alloc: Global, start: &SeqTree, limit: usize) -> Result<(Store, Ho
     requires within { IsWithinLimits start.now.limits start.now.tree }
     ensures start { IfOk result (λ made. IsStart limit start.now (graph_of made.0)) }
     ensures limit { IfOk result (λ made. (seen made.0).limit ≡ limit) }
-    ensures form { IfOk result (λ made. IsFalse (seen made.0).in_blocks) }
+    ensures form { IfOk result (λ made. (seen made.0).in_blocks ≡ in_blocks start.now.limits) }
     ensures holders { IfOk result (λ made. holder made.1 ≡ λ n. None) }
     ensures room { IfOk result (λ made. AreBelow (graph_of made.0) (room made.1)) }
     ensures few { OnOk result (length start.now.tree ≤ limit) }
@@ -123,7 +163,7 @@ pub fn filled(alloc: Global, start: &SeqTree, limit: usize) -> Result<(Store, Ho
     let Ok(rows) = start.rows(alloc) else {
         return Err(NoNode::OutOfMemory);
     };
-    let Ok(mut store) = Store::new(alloc, limit) else {
+    let Ok(mut store) = Store::with_form(alloc, limit, start.limits().in_blocks()) else {
         return Err(NoNode::OutOfMemory);
     };
     let mut holders = Holders::new(alloc);

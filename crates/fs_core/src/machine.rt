@@ -1,6 +1,7 @@
 //! The shared state of all calls, its begins and its steps.
 
-ghost use Rattle.std.specs.Prelude.{IfOk, OnOk, OnErr, IsFalse, ◌≡◌, ◌≢◌, ◌<◌, ◌≤◌, ◌++◌, ◌∷◌, [], ℕ, None, Some, Err, length};
+ghost use Rattle.std.specs.Prelude.{IfOk, OnOk, OnErr, ◌≡◌, ◌≢◌, ◌<◌, ◌≤◌, ◌++◌, ◌∷◌, [], ℕ, None, Some, Err, length};
+ghost use Rattle.fs_names.specs.Limits.{in_blocks};
 ghost use Rattle.fs_names.specs.declared.limits.TheConstants.{NODE_LIMIT};
 ghost use Rattle.fs_nodes.specs.Graphs.{numbers};
 ghost use Rattle.fs_machine.specs.declared.moves.Move.TheVariants.{Take as Takes, LetGo as Leaves, Finish as Finishes, Return as Ends};
@@ -286,7 +287,7 @@ impl Core {
     pub(crate) fn at(alloc: Global, start: SeqTree, store: Store, holders: Holders) -> Core
         requires start { IsStart (seen store).limit start (graph_of store) }
         requires most { (seen store).limit ≤ NODE_LIMIT }
-        requires form { IsFalse (seen store).in_blocks }
+        requires form { (seen store).in_blocks ≡ in_blocks start.limits }
         requires free { holder holders ≡ λ n. None }
         requires room { AreBelow (graph_of store) (room holders) }
         ensures state { state_of result ≡ fresh (seen store).limit start (graph_of store) }
@@ -318,7 +319,7 @@ impl Core {
         ensures seats { IfOk result (λ core. core.seats ≡ []) }
         ensures refusals { IfOk result (λ core. core.refusals ≡ 0) }
     {
-        let store = Store::new(alloc, limit)?;
+        let store = Store::with_form(alloc, limit, limits.in_blocks())?;
         let mut holders = Holders::new(alloc);
 
         // The root has number 0 and is there from the first. Room for another node is made by the begin that reserves it.

@@ -1,6 +1,7 @@
 //! A call under way on a seat, and its changes.
 
-ghost use Rattle.std.specs.Prelude.{◌≡◌, ℕ, true, None, Some, IsSome, IsFalse};
+ghost use Rattle.std.specs.Prelude.{◌≡◌, ℕ, true, None, Some, IsSome};
+ghost use Rattle.fs_names.specs.Limits.{in_blocks};
 ghost use Rattle.fs_calls.specs.Forms.{by_paths};
 ghost use Rattle.fs_nodes.specs.Seen.{seen};
 ghost use Rattle.fs_nodes.specs.Stores.{graph_of};
@@ -59,7 +60,7 @@ pub fn let_go(slot: &mut Option<Running>, node: NodeNo, store: &mut Store)
 
 /// The call on a seat does what its finish is, and fixes its reply.
 pub fn carry_out(slot: &mut Option<Running>, plan: Plan, store: &mut Store)
-    requires form { IsFalse (seen store.old).in_blocks }
+    requires form { (r : Running) → slot.old ≡ Some r → (seen store.old).in_blocks ≡ in_blocks r.op.limits }
     requires unfinished { (r : Running) → slot.old ≡ Some r → r.op.reply ≡ None }
     requires can { (r : Running) → slot.old ≡ Some r → CanFinish (graph_of store.old) r.op.reserved r.op.remaining r.op.holdings }
     requires plan { (r : Running) → slot.old ≡ Some r → IsPlan (seen store.old) r.op plan }

@@ -1,5 +1,7 @@
 -- What a core keeps beside its state: counters, room for holders, and places for the entries that are owed.
-use Rattle.std.specs.Prelude.{ℕ, ◌≡◌, ◌+◌, ◌<◌, ◌≤◌, Bool, IsFalse, ◌&&◌, is_none, if◌then◌else◌, List, [], ◌∷◌, Option, Some, None}
+use Rattle.std.specs.Prelude.{ℕ, ◌≡◌, ◌+◌, ◌<◌, ◌≤◌, Bool, ◌&&◌, is_none, if◌then◌else◌, List, [], ◌∷◌, Option, Some, None, slice_get}
+use Rattle.fs_names.specs.Limits.{in_blocks}
+use Rattle.fs_names.specs.declared.limits.Limits.{Limits}
 use Rattle.fs_names.specs.declared.limits.TheConstants.{NODE_LIMIT}
 use Rattle.fs_names.specs.Shapes.{Shape}
 use Rattle.fs_nodes.specs.Graphs.{Graph}
@@ -40,12 +42,17 @@ owed (slot ∷ seats) = owed_at slot + owed seats
 abbrev pub AreBelow : Graph → ℕ → Type 0
 AreBelow graph bound = (n : ℕ) (shape : Shape) → graph.shape n ≡ Some shape → n < bound
 
--- a state that a run gives, a limit on numbers that a core may have, each file in one vector, a holder's place for each number in
--- use, exact counters, no call whose number cannot hold a node, a place for each entry that is owed
+-- each call under way keeps these limits
+abbrev pub AllKeep : Limits → List (Option Running) → Type 0
+AllKeep limits seats = (seat : ℕ) (running : Running) → slice_get seats seat ≡ Some (Some running) → running.op.limits ≡ limits
+
+-- a state that a run gives, a limit on numbers that a core may have, files in blocks as the limits of the start say, which each call
+-- under way keeps, a holder's place for each number in use, exact counters, no call whose number cannot hold a node, a place for each entry that is owed
 pub record IsKept (machine : CoreValue) (begun commits reserved : ℕ) : Type 0 where
   pub run : Run (state_of machine)
   pub limited : (seen machine.store).limit ≤ NODE_LIMIT
-  pub plain : IsFalse (seen machine.store).in_blocks
+  pub form : (seen machine.store).in_blocks ≡ in_blocks machine.start.limits
+  pub limits : AllKeep machine.start.limits machine.seats
   pub roomy : AreBelow (graph_of machine.store) (room machine.holding)
   pub begun_is : begun ≡ begins machine.timeline
   pub few : begun < CALL_LIMIT

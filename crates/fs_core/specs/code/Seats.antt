@@ -24,10 +24,10 @@ PlacedOn machine seat place = (running : Running) → slice_get machine.seats se
 abbrev pub PlansOn : CoreValue → ℕ → Plan → Type 0
 PlansOn machine seat plan = (running : Running) → slice_get machine.seats seat ≡ Some (Some running) → IsPlan (seen machine.store) running.op plan
 
--- what may happen to the call on a seat: its value is another one
+-- what may happen to the call on a seat: its value is another one, by the same limits
 abbrev pub Goes : (OpValue → OpValue → Type 0) → Option Running → Option Running → Type 0
 Goes R None new = new ≡ None
-Goes R (Some old) new = (work : OpValue) × R old.op work × (new ≡ Some (record old { op = work }))
+Goes R (Some old) new = (work : OpValue) × R old.op work × (work.limits ≡ old.op.limits) × (new ≡ Some (record old { op = work }))
 
 -- it gets a place
 abbrev pub placed : Option Running → ℕ → Option Running

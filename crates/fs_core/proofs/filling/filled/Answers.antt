@@ -3,6 +3,7 @@ use Rattle.std.specs.Prelude.{slice_get}
 use Rattle.std.proofs.lemmas.List.{length-map}
 use Rattle.std.proofs.lemmas.Option.{slice_get-get_or}
 use Rattle.fs_calls.specs.Tree.{Tree}
+use Rattle.fs_names.specs.Limits.{in_blocks}
 use Rattle.fs_nodes.specs.Seen.{Seen}
 use Rattle.fs_nodes.specs.Stores.{graph_of, used_below}
 use Rattle.fs_seq.specs.declared.rows.Row.{Row}
@@ -17,15 +18,15 @@ use Rattle.fs_core.proofs.filling.filled.Goals as goal
 pub loop-i-init : goal.loop-i-init
 loop-i-init c =
     let limits = c.args.start.now.limits in
-    let graph = ap (λ (s : Seen). s.graph) c.in-Ok-new.ensures in
+    let graph = ap (λ (s : Seen). s.graph) c.in-Ok-with_form.ensures in
     let fit : misfit limits c.in-Ok.rows.items ≡ None = rows_fit limits c.in-Ok.rows.items c.args.start.now.tree c.in-Ok.ensures.tree c.in-Ok.ensures.plain c.requires.within in
     record {
-      starts = root_starts c.args.limit limits (map row_of (take 1 c.in-Ok.rows.items)) (graph_of c.in-Ok-new.store) c.requires.least (first_is_root limits c.in-Ok.rows.items fit) graph;
-      count = root_count c.args.limit (graph_of c.in-Ok-new.store) c.requires.least graph;
-      limit = ap (λ (s : Seen). s.limit) c.in-Ok-new.ensures;
-      form = ap (λ (s : Seen). s.in_blocks) c.in-Ok-new.ensures;
+      starts = root_starts c.args.limit limits (map row_of (take 1 c.in-Ok.rows.items)) (graph_of c.in-Ok-with_form.store) c.requires.least (first_is_root limits c.in-Ok.rows.items fit) graph;
+      count = root_count c.args.limit (graph_of c.in-Ok-with_form.store) c.requires.least graph;
+      limit = ap (λ (s : Seen). s.limit) c.in-Ok-with_form.ensures;
+      form = ap (λ (s : Seen). s.in_blocks) c.in-Ok-with_form.ensures ∙ c.in_blocks.ensures ∙ ap in_blocks c.limits.ensures;
       holders = c.in-Ok-make_room.ensures.holders ∙ c.new-holders.ensures.holders;
-      room = root_below limits (graph_of c.in-Ok-new.store) (room c.make_room.new.self) graph (omega (arith, c.in-Ok-make_room.ensures.room));
+      room = root_below limits (graph_of c.in-Ok-with_form.store) (room c.make_room.new.self) graph (omega (arith, c.in-Ok-make_room.ensures.room));
     }
 
 pub add_row-requires-clause-can : goal.add_row-requires-clause-can
@@ -57,7 +58,7 @@ loop-i-preserved c =
       starts = subst (λ (t : Tree). IsStart c.args.limit (record { limits = limits; tree = t }) new) (sym (one_more_row rows i row at)) (added_starts c.args.limit limits (map row_of (take i rows)) old new row node before.starts (fits_each limits rows i row fit c.loop-i.auto.i at) added);
       count = added_count c.args.limit old new row node before.starts.is_graph added ∙ ap (λ (n : ℕ). n + 1) before.count;
       limit = c.in_ok-add_row.ensures.limit ∙ before.limit;
-      form = c.in_ok-add_row.ensures.form;
+      form = c.in_ok-add_row.ensures.form ∙ before.form;
       holders = c.in_ok-add_row.ensures.holders ∙ before.holders;
       room = added_below c.args.limit old new row node (room c.loop-i.holders) (room c.add_row.new.holders) before.starts.is_graph added before.room c.in_ok-add_row.ensures.more c.in_ok-add_row.ensures.added.2;
     }

@@ -1,4 +1,5 @@
-use Rattle.std.proofs.Common.{◌≡◌, IsFalse, None, map, take}
+use Rattle.std.proofs.Common.{◌≡◌, None, map, take}
+use Rattle.fs_names.specs.Limits.{in_blocks}
 use Rattle.fs_nodes.specs.Seen.{seen}
 use Rattle.fs_nodes.specs.Stores.{graph_of, used_below}
 use Rattle.fs_seq.specs.Rows.{row_of}
@@ -13,7 +14,7 @@ invariant-loop-i l = record {
   starts : IsStart l.limit (record { limits = l.start.limits; tree = map row_of (take l.i l.rows.items) }) (graph_of l.store);
   count : used_below (graph_of l.store).shape l.limit ≡ l.i;
   limit : (seen l.store).limit ≡ l.limit;
-  form : IsFalse (seen l.store).in_blocks;
+  form : (seen l.store).in_blocks ≡ in_blocks l.start.limits;
   holders : holder l.holders ≡ λ n. None;
   room : AreBelow (graph_of l.store) (room l.holders);
 }

@@ -1,6 +1,6 @@
 use Rattle.std.proofs.Common.{ap}
 use Rattle.fs_nodes.specs.Seen.{Seen}
-use Rattle.fs_core.proofs.Doing.{finish_can, finish_plan, carried_kept}
+use Rattle.fs_core.proofs.Doing.{finish_can, finish_form, finish_plan, carried_kept}
 use Rattle.fs_core.proofs.SeatLemmas.{length_after}
 use Rattle.fs_core.proofs.Starting.{starting_moved, finishes_otherwise}
 use Rattle.fs_finish.specs.Plans.{moved_by}
@@ -9,6 +9,9 @@ use Rattle.fs_core.proofs.machine.Core.carry_out.Goals as goal
 
 pub carry_out-requires-clause-plan : goal.carry_out-requires-clause-plan
 carry_out-requires-clause-plan c = finish_plan _ c.args.seat c.args.call (moved_by c.args.plan) c.args.plan (rw (← c.self.view_is) at c.requires.moves) (rw (← c.self.view_is) at c.requires.plan) c.index_mut.result.now c.index_mut.ensures.value
+
+pub carry_out-requires-clause-form : goal.carry_out-requires-clause-form
+carry_out-requires-clause-form c = finish_form _ _ _ _ c.args.seat c.args.call (moved_by c.args.plan) c.self.invariant.0 (rw (← c.self.view_is) at c.requires.moves) c.index_mut.result.now c.index_mut.ensures.value
 
 pub carry_out-requires-clause-can : goal.carry_out-requires-clause-can
 carry_out-requires-clause-can c = finish_can _ _ _ _ c.args.seat c.args.call (moved_by c.args.plan) c.self.invariant.0 (rw (← c.self.view_is) at c.requires.moves) c.index_mut.result.now c.index_mut.ensures.value

@@ -1,6 +1,6 @@
 use Rattle.std.proofs.Common.{◌+◌, ap, refl}
 use Rattle.fs_nodes.specs.Seen.{Seen}
-use Rattle.fs_core.proofs.Doing.{finish_can, finish_plan, committed_kept, moving_place, finish_fits, fits_below}
+use Rattle.fs_core.proofs.Doing.{finish_can, finish_form, finish_plan, committed_kept, moving_place, finish_fits, fits_below}
 use Rattle.fs_core.proofs.Indexing.{commit_next}
 use Rattle.fs_core.proofs.SeatLemmas.{length_after}
 use Rattle.fs_core.proofs.Starting.{starting_moved, finishes_otherwise}
@@ -10,6 +10,9 @@ use Rattle.fs_core.proofs.machine.Core.commit.Goals as goal
 
 pub carry_out-requires-clause-plan : goal.carry_out-requires-clause-plan
 carry_out-requires-clause-plan c = finish_plan _ c.args.seat c.args.call (moved_by c.args.plan) c.args.plan (rw (← c.self.view_is) at c.requires.moves) (rw (← c.self.view_is) at c.requires.plan) c.index_mut.result.now c.index_mut.ensures.value
+
+pub carry_out-requires-clause-form : goal.carry_out-requires-clause-form
+carry_out-requires-clause-form c = finish_form _ _ _ _ c.args.seat c.args.call (moved_by c.args.plan) c.self.invariant.0 (rw (← c.self.view_is) at c.requires.moves) c.index_mut.result.now c.index_mut.ensures.value
 
 pub carry_out-requires-clause-can : goal.carry_out-requires-clause-can
 carry_out-requires-clause-can c = finish_can _ _ _ _ c.args.seat c.args.call (moved_by c.args.plan) c.self.invariant.0 (rw (← c.self.view_is) at c.requires.moves) c.index_mut.result.now c.index_mut.ensures.value
