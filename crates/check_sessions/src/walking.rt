@@ -78,6 +78,14 @@ fn reply(alloc: Global, tree: &mut SeqTree, at: &Place, reads: bool) -> Option<R
     tree.apply(alloc, &call(alloc, at, reads)?).ok()
 }
 
+/// The bytes of a file, again.
+fn content(alloc: Global, store: &Store, file: NodeNo) -> Option<Vec<u8>> {
+    let count = store.len(file);
+    let mut bytes = Vec::with_capacity(alloc, count).ok()?;
+    store.read(file, 0, count as u64, &mut bytes);
+    Some(bytes)
+}
+
 /// Whether a reply has these bytes.
 fn is_content(reply: Reply, content: &[u8]) -> bool {
     match reply {
@@ -97,8 +105,9 @@ fn agrees_at(
     if !store.is_used(at.node) {
         return Some(false);
     }
-    if store.is_file(at.node) && !store.is_in_blocks() {
-        return Some(is_content(reply(alloc, tree, at, true)?, store.content(at.node)));
+    if store.is_file(at.node) {
+        let content = content(alloc, store, at.node)?;
+        return Some(is_content(reply(alloc, tree, at, true)?, &content));
     }
     if !store.is_dir(at.node) {
         return Some(false);
