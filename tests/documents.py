@@ -872,7 +872,7 @@ def limits():
     of_searches = "fs_outcomes/src/running.rt", "fs_find/src/finding.rt", "fs_shrink/src/limits.rt", "fs_recorded/src/linearizing.rt"
     found = {name: [value] for file in ("fs_names/src/limits.rt", *of_texts, *of_searches) for name, value in constants(file).items()}
     values = [int(value) for value in re.findall(r"Limits::V[12] => ([\d_]+)", source("fs_names/src/limits.rt"))]
-    return found | {"path_limit": values[:2], "name_limit": values[2:4], "entry_limit": values[4:6], "file_limit": values[6:]}
+    return found | {"path_limit": values[:2], "name_limit": values[2:4], "entry_limit": values[4:6], "file_limit": values[6:8], "node_limit": values[8:]}
 
 
 @functools.cache
@@ -1095,20 +1095,22 @@ class Numbers(Sentences):
     def test_limits_of_trees(self):
         limits = constants("fs_names/src/limits.rt")
         rows = {spans(name)[0]: (first, second) for _, first, second, name in table(SPECIFICATION, "What", "`V1`", "`V2`", "Named by")}
+        room = limits.pop("NODE_LIMIT")
         self.agrees("the limits", {name: number(first) for name, (first, _) in rows.items() if name in limits}, limits)
-        (path, deeper), (name, longer), (fewer, entries), (file, larger) = (map(number, rows[f"Limits::{what}"]) for what in ("path_names", "name", "entries", "file"))
+        sets = ("path_names", "name", "entries", "file", "nodes")
+        (path, deeper), (name, longer), (fewer, entries), (file, larger), (least, nodes) = (map(number, rows[f"Limits::{what}"]) for what in sets)
         source = (CRATES / "fs_names" / "src" / "limits.rt").read_text()
         found = [int(value) for value in re.findall(r"Limits::V[12] => ([\d_]+)", source)]
-        self.agrees("the two sets of limits", [path, deeper, name, longer, fewer, entries, file, larger], found)
-        nodes = limits["NODE_LIMIT"]
+        self.agrees("the two sets of limits", [path, deeper, name, longer, fewer, entries, file, larger, least, nodes], found)
+        self.agrees("the room for node numbers", room, max(least, nodes))
         self.says(README, f"names of {longer} bytes, files of {larger:,}, {entries} entries in a directory, paths of {deeper} names, {nodes:,} nodes")
         self.says(README, f"Scripts `atomfs 1` and `atomfs_open` have names of {name} bytes and files of {file:,}")
         self.says(CHOOSING, f"{entries} entries in a directory, {larger:,} bytes in a file, {longer} in a name")
         header = (ROOT / "embed" / "atomfs.h").read_text()
-        self.agrees("embed/atomfs.h", number(re.search("#define ATOMFS_NODE_LIMIT (.*)", header)[1]), limits["NODE_LIMIT"])
+        self.agrees("embed/atomfs.h", [number(re.search("#define ATOMFS_NODE_LIMIT (.*)", header)[1])] * 2, [least, nodes])
 
     def test_limits_of_texts(self):
-        texts, scripts, names = constants("fs_words/src/limits.rt"), constants("fs_script/src/limits.rt"), constants("fs_names/src/limits.rt")
+        texts, scripts, nodes = constants("fs_words/src/limits.rt"), constants("fs_script/src/limits.rt"), limits()["node_limit"][1]
         draws, seeds = constants("fs_sched/src/schedule.rt"), constants("fs_sched/src/seeding.rt")
         events = scripts["EVENT_LIMIT"]
         sentences = (
@@ -1116,7 +1118,7 @@ class Numbers(Sentences):
             f"The {scripts['THREAD_LIMIT'] + 1:,}th thread, the {scripts['CALL_LIMIT'] + 1:,}th call and the {events + 1:,}st given event",
             f"`THREAD*NUMBER` (1 to {events:,} events)",
             f"with a number outside 1 to {events:,}",
-            f"a limit is exceeded: {texts['TEXT_LIMIT']:,} bytes of a text, {scripts['THREAD_LIMIT']} threads, {scripts['CALL_LIMIT']:,} calls, {events:,} given events or {names['NODE_LIMIT']:,} nodes",
+            f"a limit is exceeded: {texts['TEXT_LIMIT']:,} bytes of a text, {scripts['THREAD_LIMIT']} threads, {scripts['CALL_LIMIT']:,} calls, {events:,} given events or {nodes:,} nodes",
             f"then at most {scripts['THREAD_NAME_LIMIT'] - 1} of `a` to `z`",
             f"or {draws['DRAW_LIMIT']:,} are drawn",
             f"N from 0 to {seeds['SEED_LIMIT']:,}, K from 1 to {seeds['RUN_LIMIT']:,}",

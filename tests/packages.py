@@ -371,7 +371,7 @@ class Numbers(Case):
         library = self.source("python", "src", "atomfs", "_library.py")
         source = (CRATES / "fs_names" / "src" / "limits.rt").read_text()
         values = [int(value) for value in re.findall(r"Limits::V[12] => ([\d_]+)", source)]
-        wanted, entries = values[:2] + values[4:], values[2:4]
+        wanted, entries, nodes = values[:2] + values[4:6], values[2:4], values[6:]
         of_rust = re.findall(r"Limits::V[12] => ([\d_]+)", self.source("rust", "src", "limits.rs"))
         self.same("the two sets of limits.rs", [int(value) for value in of_rust], wanted)
         sys.path.insert(0, str(BINDINGS / "python" / "src" / "atomfs"))
@@ -380,15 +380,16 @@ class Numbers(Case):
         sys.path.pop(0)
         of_python = [getattr(limits, what) for what in ("name_bytes", "file_bytes") for limits in Limits]
         self.same("the two sets of _library.py", of_python, wanted)
-        for name in ("NODE_LIMIT", "PATH_LIMIT"):
-            found = re.search(rf"^{name} = ([\d_]+)", library, re.M)[1]
-            self.same(f"{name} of _library.py", int(found), int(limits[name]))
+        found = re.search(r"^PATH_LIMIT = ([\d_]+)", library, re.M)[1]
+        self.same("PATH_LIMIT of _library.py", int(found), int(limits["PATH_LIMIT"]))
         texts = {"_library.py": library, "limits.rs": self.source("rust", "src", "limits.rs")}
         for file, text in texts.items():
             found = re.search(r"\bENTRY_LIMIT(?:: usize)? = ([\d_]+)", text)[1]
             self.same(f"ENTRY_LIMIT of {file}", [int(found)] * 2, entries)
-        found = re.search(r"NODE_LIMIT: usize = ([\d_]+)", self.source("rust", "src", "lib.rs"))[1]
-        self.same("NODE_LIMIT of lib.rs", int(found), int(limits["NODE_LIMIT"]))
+        texts = {"_library.py": library, "lib.rs": self.source("rust", "src", "lib.rs")}
+        for file, text in texts.items():
+            found = re.search(r"\bNODE_LIMIT(?:: usize)? = ([\d_]+)", text)[1]
+            self.same(f"NODE_LIMIT of {file}", [int(found)] * 2, nodes)
 
 
 if __name__ == "__main__":

@@ -1,9 +1,9 @@
 -- What the limits of every set are, decided set by set.
 use Rattle.std.proofs.Common.{◌≡◌, ◌≤◌, ◌<◌, ◌^◌, true, false, None, refl, arith}
-use Rattle.fs_names.specs.Limits.{largest, same_limits, path_limit, name_limit, entry_limit, file_limit}
+use Rattle.fs_names.specs.Limits.{largest, same_limits, path_limit, name_limit, entry_limit, file_limit, node_limit}
 use Rattle.fs_names.specs.Shapes.{is_full}
 use Rattle.fs_names.specs.declared.limits.Limits.{Limits}
-use Rattle.fs_names.specs.declared.limits.TheConstants.{PATH_LIMIT}
+use Rattle.fs_names.specs.declared.limits.TheConstants.{PATH_LIMIT, NODE_LIMIT}
 use Rattle.fs_names.specs.declared.limits.Limits.TheVariants.{V1, V2}
 
 -- sets that are the same are one
@@ -41,3 +41,13 @@ empty_has_room V2 = refl
 pub small_files : (limits : Limits) → file_limit limits < 2 ^ 32
 small_files V1 = omega arith
 small_files V2 = omega arith
+
+-- there is a number for the root
+pub some_nodes : (limits : Limits) → 1 ≤ node_limit limits
+some_nodes V1 = omega arith
+some_nodes V2 = omega arith
+
+-- there is room for the numbers
+pub nodes_have_room : (limits : Limits) → node_limit limits ≤ NODE_LIMIT
+nodes_have_room V1 = omega arith
+nodes_have_room V2 = omega arith

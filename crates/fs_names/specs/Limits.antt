@@ -33,6 +33,11 @@ abbrev pub file_limit : Limits → ℕ
 file_limit V1 = 65536
 file_limit V2 = 1048576
 
+-- the most node numbers in use at once
+abbrev pub node_limit : Limits → ℕ
+node_limit V1 = 1048576
+node_limit V2 = 1048576
+
 -- whether files are in blocks
 abbrev pub in_blocks : Limits → Bool
 in_blocks V1 = false

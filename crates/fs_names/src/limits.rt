@@ -1,12 +1,13 @@
 //! The limits of names, paths, directories, files and trees, each named in this one place.
 
 ghost use Rattle.std.specs.Prelude.{◌≡◌};
-ghost use Rattle.fs_names.specs.Limits.{same_limits, path_limit, name_limit, entry_limit, file_limit, in_blocks};
+ghost use Rattle.fs_names.specs.Limits.{same_limits, path_limit, name_limit, entry_limit, file_limit, node_limit, in_blocks};
 
 /// The most names that a path of any set of limits has.
 pub const PATH_LIMIT: usize = 64;
 
-/// The most node numbers that are in use at once, the root's included.
+/// The room for node numbers: each is below it, by every set of limits. How many a tree may have in use at once is
+/// `Limits::nodes`.
 pub const NODE_LIMIT: usize = 1_048_576;
 
 /// One of the two sets of limits that a text and a tree keep: those of the first version and those of the second. In
@@ -68,6 +69,17 @@ impl Limits {
     {
         match self {
             Limits::V1 => 65_536,
+            Limits::V2 => 1_048_576,
+        }
+    }
+
+    /// The most node numbers that are in use at once, the root's included, where no smaller limit is handed over.
+    #[inline]
+    pub fn nodes(self) -> usize
+        ensures { result ≡ node_limit self }
+    {
+        match self {
+            Limits::V1 => 1_048_576,
             Limits::V2 => 1_048_576,
         }
     }
