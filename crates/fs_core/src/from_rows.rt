@@ -1,7 +1,7 @@
 //! A core that begins at a tree.
 
 ghost use Rattle.std.specs.Prelude.{◌≡◌, ◌≢◌, ◌≤◌, ◌<◌, ℕ, [], None, Some, Err, map, length, IfOk, OnOk};
-ghost use Rattle.fs_names.specs.declared.limits.TheConstants.{NODE_LIMIT};
+ghost use Rattle.fs_names.specs.Limits.{node_limit};
 ghost use Rattle.fs_calls.specs.Sights.{tree_shapes};
 ghost use Rattle.fs_seq.specs.Rows.{misfit, row_of, IsWithinLimits};
 ghost use Rattle.fs_nodes.specs.Graphs.{graph_shapes};
@@ -33,9 +33,10 @@ impl Core {
     /// entries. It is for at most `limit` nodes, the root included. Each row of the tree is looked up by its names, so that the
     /// time grows with the names of all rows. `TooManyNodes` comes exactly where the tree has more rows than `limit` and there
     /// is memory for those before, and `Bad` never.
+    #[tactic(auto, using(fs_names::proofs::LimitLemmas::nodes_have_room))]
     pub fn from_tree(alloc: Global, start: SeqTree, limit: usize) -> Result<Core, NoStart>
         requires least { 1 ≤ limit }
-        requires most { limit ≤ NODE_LIMIT }
+        requires most { limit ≤ node_limit start.limits }
         requires within { IsWithinLimits start.limits start.tree }
         ensures start { IfOk result (λ core. core.start ≡ start) }
         ensures spelled { IfOk result (λ core. graph_shapes (graph_of core.store) ≡ tree_shapes start.tree) }
@@ -65,7 +66,7 @@ impl Core {
         limits: Limits,
     ) -> Result<Core, NoStart>
         requires least { 1 ≤ limit }
-        requires most { limit ≤ NODE_LIMIT }
+        requires most { limit ≤ node_limit limits }
         ensures start { IfOk result (λ core. core.start ≡ record { limits = limits; tree = map row_of rows.now }) }
         ensures spelled { IfOk result (λ core. graph_shapes (graph_of core.store) ≡ tree_shapes (map row_of rows.now)) }
         ensures state { IfOk result (λ core. state_of core ≡ fresh limit (record { limits = limits; tree = map row_of rows.now }) (graph_of core.store)) }

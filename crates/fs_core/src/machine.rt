@@ -1,7 +1,7 @@
 //! The shared state of all calls, its begins and its steps.
 
 ghost use Rattle.std.specs.Prelude.{IfOk, OnOk, OnErr, ◌≡◌, ◌≢◌, ◌<◌, ◌≤◌, ◌++◌, ◌∷◌, [], ℕ, None, Some, Err, length};
-ghost use Rattle.fs_names.specs.Limits.{in_blocks};
+ghost use Rattle.fs_names.specs.Limits.{in_blocks, node_limit};
 ghost use Rattle.fs_names.specs.declared.limits.TheConstants.{NODE_LIMIT};
 ghost use Rattle.fs_nodes.specs.Graphs.{numbers};
 ghost use Rattle.fs_machine.specs.declared.moves.Move.TheVariants.{Take as Takes, LetGo as Leaves, Finish as Finishes, Return as Ends};
@@ -33,7 +33,7 @@ use fs_index::IndexedTimeline;
 use fs_locks::Holders;
 use fs_machine::{Refusal, Stepped};
 use fs_memory::Memory;
-use fs_names::{CallNo, Limits, NODE_LIMIT, Path, SeatNo};
+use fs_names::{CallNo, Limits, Path, SeatNo};
 use fs_nodes::{NodeNo, Store};
 use fs_ops::Next;
 use fs_seq::SeqTree;
@@ -312,9 +312,10 @@ impl Core {
 
     /// No nodes but the root, no seats and no entries, for at most `limit` nodes, the root included, and a tree of these
     /// limits. The only error is out of memory.
+    #[tactic(auto, using(fs_names::proofs::LimitLemmas::nodes_have_room))]
     pub fn with_limits(alloc: Global, limit: usize, limits: Limits) -> Result<Core, AllocError>
         requires least { 1 ≤ limit }
-        requires most { limit ≤ NODE_LIMIT }
+        requires most { limit ≤ node_limit limits }
         ensures state { IfOk result (λ core. state_of core ≡ empty limits limit) }
         ensures seats { IfOk result (λ core. core.seats ≡ []) }
         ensures refusals { IfOk result (λ core. core.refusals ≡ 0) }
@@ -331,7 +332,7 @@ impl Core {
     /// The same by the limits of the second version.
     pub fn with_limit(alloc: Global, limit: usize) -> Result<Core, AllocError>
         requires least { 1 ≤ limit }
-        requires most { limit ≤ NODE_LIMIT }
+        requires most { limit ≤ node_limit Limits.V2 }
         ensures state { IfOk result (λ core. state_of core ≡ empty Limits.V2 limit) }
         ensures seats { IfOk result (λ core. core.seats ≡ []) }
         ensures refusals { IfOk result (λ core. core.refusals ≡ 0) }
@@ -339,14 +340,14 @@ impl Core {
         Core::with_limits(alloc, limit, Limits::V2)
     }
 
-    /// No nodes but the root, no seats and no entries, for at most `NODE_LIMIT` nodes, by the limits of the second
-    /// version. The only error is out of memory.
+    /// No nodes but the root, no seats and no entries, for as many nodes as the limits of the second version allow, by which it
+    /// keeps its tree. The only error is out of memory.
     pub fn new(alloc: Global) -> Result<Core, AllocError>
-        ensures state { IfOk result (λ core. state_of core ≡ empty Limits.V2 NODE_LIMIT) }
+        ensures state { IfOk result (λ core. state_of core ≡ empty Limits.V2 (node_limit Limits.V2)) }
         ensures seats { IfOk result (λ core. core.seats ≡ []) }
         ensures refusals { IfOk result (λ core. core.refusals ≡ 0) }
     {
-        Core::with_limit(alloc, NODE_LIMIT)
+        Core::with_limit(alloc, Limits::V2.nodes())
     }
 
     /// One more seat, with no call under way: the first is 0, each next one more. Out of memory nothing changes.
