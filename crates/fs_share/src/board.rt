@@ -13,7 +13,7 @@ use crate::checkpoint::Ready;
 use crate::told::told_place;
 use fs_calls::{Call, Reply};
 use fs_core::{Core, Refusal, Stepped};
-use fs_names::{CallNo, Limits, NODE_LIMIT, SeatNo};
+use fs_names::{CallNo, Limits, SeatNo};
 use fs_observe::{Named, NoPlace, Observer, Opened, Publisher, Stamp};
 use fs_seq::SeqTree;
 use fs_timeline::Entry;
@@ -89,6 +89,7 @@ fn catch_up<N: Named>(
 
 impl<N: Named> Board<N> {
     /// A core without seats or entries, of these limits, of which nothing is published. The only error is out of memory.
+    #[tactic(auto, using(fs_names::proofs::LimitLemmas::some_nodes))]
     pub(crate) fn open<R: Wait>(
         rt: &R,
         alloc: Global,
@@ -101,7 +102,7 @@ impl<N: Named> Board<N> {
         ensures timeline { IfOk result (λ board. board.core.timeline ≡ []) }
         ensures published { IfOk result (λ board. board.published ≡ []) }
     {
-        let core = Core::with_limits(alloc, NODE_LIMIT, limits)?;
+        let core = Core::with_limits(alloc, limits.nodes(), limits)?;
         let first = SeqTree::with_limits(alloc, limits)?;
         let second = SeqTree::with_limits(alloc, limits)?;
         let publisher = Publisher::open(rt, alloc, opened, first, second)?;
