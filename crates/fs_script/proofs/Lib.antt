@@ -9,4 +9,6 @@ pub mod TreeTexts
 pub mod PendingLemmas
 pub mod StepLemmas
 pub mod LimitLemmas
+pub mod NumbersLeft
 pub mod ShortNames
+pub mod StartNames

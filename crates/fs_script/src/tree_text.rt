@@ -98,8 +98,10 @@ fn start_of_journal(alloc: Global, text: &[u8], limits: Limits) -> Result<SeqTre
 /// Reads a tree within these limits from its text, or from the journal that starts at it, whose entries are read and not
 /// played. The fault is the first from the left, with its line: `BadHeader` where the first line is neither `tree` nor that of a
 /// journal by these limits.
+#[tactic(auto, using(crate::proofs::StartNames::limits_given))]
 pub fn read_start(alloc: Global, text: &[u8], limits: Limits) -> Result<SeqTree, ScriptFault>
     ensures read { GivesText (λ start. start) result (start_of limits text.now) }
+    ensures limits { IfOk result (λ start. start.limits ≡ limits) }
     ensures within { IfOk result (λ start. IsWithinLimits start.limits start.tree) }
 {
     match text.strip_prefix(b"tree\n") {

@@ -1,4 +1,3 @@
 pub mod NodeLines
 pub mod SameStarts
-pub mod StartNames
 pub mod Starting

@@ -26,7 +26,7 @@ use Rattle.fs_text.specs.Journal.{entries_from, entries_of}
 use Rattle.fs_text.proofs.ReadNames.{Given, given_then, given_is}
 use Rattle.fs_script.specs.Journals.{Read, node_in_line, grown, in_start, with_start, started_from, behind_line, started_header, started_or, journal_of, ends_line, line_end, nodes_journal, start_read, by_limits, start_of}
 use Rattle.fs_start.specs.Faults.{told_lines, lines_before, IsNodeTooMany}
-use Rattle.fs_start.proofs.StartNames.{any_then, placed, cut}
+use Rattle.fs_script.proofs.StartNames.{any_then, placed, cut}
 
 -- ---- lines that tell something
 

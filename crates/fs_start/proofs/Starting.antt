@@ -33,7 +33,7 @@ use Rattle.fs_start.specs.code.Mades.{IsCoreAt, IsNoCore}
 use Rattle.fs_start.specs.declared.fault.StartFault.{StartFault}
 use Rattle.fs_start.specs.declared.fault.StartFault.TheVariants.{Run as Runs, Tree}
 use Rattle.fs_start.proofs.SameStarts.{starts_alike}
-use Rattle.fs_start.proofs.StartNames.{short_start}
+use Rattle.fs_script.proofs.StartNames.{short_start}
 
 -- ---- two runs
 

@@ -1,8 +1,8 @@
--- The names of a tree that was read keep the limit by which it was read.
+-- A tree that was read has the limits by which it was read, and its names keep them.
 use Rattle.std.proofs.Common.{◌≡◌, ◌≤◌, ℕ, ◌+◌, Bool, true, false, cond, List, [], ◌∷◌, ◌++◌, length, Result, Ok, Err, refl, sym, ap, subst, ◌∙◌, codes, arith, rules}
 use Rattle.std.proofs.lemmas.Bool.{cond-true, cond-false}
 use Rattle.std.proofs.lemmas.Bool.Decides.{nat_tests}
-use Rattle.std.specs.Prelude.{nat_le, ◌&&◌, ◌==◌, take, drop}
+use Rattle.std.specs.Prelude.{nat_le, ◌&&◌, ◌==◌, take, drop, IfOk}
 use Rattle.std.specs.List.{All, AllByRecursion, slice_split, join_with_byte}
 use Rattle.std.proofs.lemmas.List.Splits.{slice_split_at}
 use Rattle.std.proofs.lemmas.List.Elements.{All-from_recursion}
@@ -22,6 +22,7 @@ use Rattle.fs_timeline.proofs.KeptNames.{NamesTree}
 use Rattle.fs_seq.specs.Rows.{node_of_kind, fits_at}
 use Rattle.fs_words.specs.Lines.{is_line_feed, without_last_empty, lines_of, is_passed_over}
 use Rattle.fs_words.specs.Words.{Word}
+use Rattle.fs_words.specs.code.Answers.{GivesText}
 use Rattle.fs_words.specs.Reading.{◌>>=◌, read_name, name_at, hex_at, words_of, fault_at, first_is, behind_first, behind_header}
 use Rattle.fs_words.specs.declared.fault.FaultKind.{FaultKind}
 use Rattle.fs_words.specs.declared.fault.FaultKind.TheVariants as kind
@@ -182,3 +183,13 @@ text_given limits text = either (IsShortStart limits) (bytes_eq (take 5 text) (c
 
 pub short_start : (limits : Limits) (text : List ℕ) (start : Start) → start_of limits text ≡ Ok start → (start.limits ≡ limits) × NamesTree (IsShort limits) start.tree
 short_start limits text start is = given_is (IsShortStart limits) (start_of limits text) start (text_given limits text) is
+
+-- so what is read of the lines of nodes has these limits
+pub nodes_limits : (limits : Limits) (nodes : List ℕ) (read : Result Start ScriptFault) → GivesText (λ (start : Start). start) read (start_read (journal_of (nodes_journal limits nodes))) → IfOk read (λ (start : Start). start.limits ≡ limits)
+nodes_limits limits nodes (Ok start) is = (given_is (IsShortStart limits) (start_read (journal_of (nodes_journal limits nodes))) start (start_given limits (journal_of (nodes_journal limits nodes)) (nodes_given limits nodes)) is).0
+nodes_limits limits nodes (Err f) is = tt
+
+-- and what is read of a text
+pub limits_given : (limits : Limits) (text : List ℕ) (read : Result Start ScriptFault) → GivesText (λ (start : Start). start) read (start_of limits text) → IfOk read (λ (start : Start). start.limits ≡ limits)
+limits_given limits text (Ok start) is = (short_start limits text start is).0
+limits_given limits text (Err f) is = tt
