@@ -4,7 +4,8 @@ use Rattle.std.specs.Prelude.{IfSome}
 use Rattle.std.specs.List.{list_any}
 use Rattle.std.proofs.lemmas.Bool.{ltb-true, ltb-false}
 use Rattle.fs_names.specs.Shapes.{Shape}
-use Rattle.fs_names.specs.declared.limits.TheConstants.{NODE_LIMIT}
+use Rattle.fs_names.specs.Limits.{node_limit}
+use Rattle.fs_names.proofs.LimitLemmas.{some_nodes}
 use Rattle.fs_calls.specs.Forms.{reserved_by}
 use Rattle.fs_calls.specs.Starts.{Start, root_start}
 use Rattle.fs_names.specs.declared.limits.Limits.{Limits}
@@ -211,7 +212,7 @@ kept_fresh lists limit first graph run = record {
 }
 
 pub kept_start : (limits : Limits) (lists : List (List Call)) → ListFacts lists [] (start limits (length lists))
-kept_start limits lists = kept_fresh lists NODE_LIMIT (root_start limits) empty_graph (Starting NODE_LIMIT (root_start limits) empty_graph (starts_empty limits NODE_LIMIT (omega arith)))
+kept_start limits lists = kept_fresh lists (node_limit limits) (root_start limits) empty_graph (Starting (node_limit limits) (root_start limits) empty_graph (starts_empty limits (node_limit limits) (some_nodes limits)))
 
 -- ---- where it is over
 

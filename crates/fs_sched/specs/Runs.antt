@@ -1,8 +1,8 @@
 -- Runs of scripts, event by event.
 use Rattle.std.specs.Prelude.{ℕ, ◌≡◌, ◌+◌, ◌-◌, ◌^◌, min, ◌<◌, Bool, true, false, ◌||◌, ◌⊎◌, List, [], ◌∷◌, ◌++◌, length, replicate, get_or, slice_get, slice_set, is_some, Ok, Option, Some, None, Err}
 use Rattle.std.specs.List.{range_with_len, list_any}
+use Rattle.fs_names.specs.Limits.{node_limit}
 use Rattle.fs_names.specs.declared.limits.Limits.{Limits}
-use Rattle.fs_names.specs.declared.limits.TheConstants.{NODE_LIMIT}
 use Rattle.fs_timeline.specs.declared.entry.Entry.{Entry}
 use Rattle.fs_calls.specs.declared.call.Call.{Call}
 use Rattle.fs_script.specs.Script.{script_of}
@@ -34,7 +34,7 @@ before_all state threads = record { state = state; begun = replicate threads 0 }
 
 -- the same at the root alone, by these limits
 abbrev pub start : Limits → ℕ → Stage
-start limits threads = before_all (empty limits NODE_LIMIT) threads
+start limits threads = before_all (empty limits (node_limit limits)) threads
 
 -- the next call of a thread, where one is left
 abbrev pub next_call : List (List Call) → Stage → ℕ → Option Call

@@ -2,7 +2,7 @@
 
 ghost use Rattle.std.specs.Prelude.{◌≡◌, ◌≢◌, ◌+◌, ◌-◌, ◌<◌, ◌≤◌, ◌^◌, ℕ, [], List, length, min, map, Ok, Err, IfOk, OnOk, OnErr, IfErr, IfSome, IsErrOf};
 ghost use Rattle.std.specs.Io.KnownBytes.{Appends, IsAtEnd};
-ghost use Rattle.fs_names.specs.declared.limits.TheConstants.{NODE_LIMIT};
+ghost use Rattle.fs_names.specs.Limits.{node_limit};
 ghost use Rattle.fs_timeline.specs.declared.entry.Entry.{Entry};
 ghost use Rattle.fs_nodes.specs.Stores.{graph_of};
 ghost use Rattle.fs_machine.specs.States.{empty, fresh};
@@ -26,7 +26,6 @@ use crate::schedule::Schedule;
 use fs_calls::Call;
 use fs_core::Core;
 use fs_io::{Made, Sink, Source, transform};
-use fs_names::NODE_LIMIT;
 use fs_script::Script;
 use fs_verdict::{RunFault, between};
 use fs_witness::{Silent, Witness};
@@ -72,12 +71,13 @@ pub fn run_end(script: &Script, counts: Counts) -> RunEnd
 }
 
 /// The core of a run that begins at the root alone, by the limits of its script. The only error is out of memory.
+#[tactic(auto, using(fs_names::proofs::LimitLemmas::some_nodes))]
 pub(crate) fn root_core(alloc: Global, script: &Script) -> Result<Core, RunFault>
-    ensures state { IfOk result (λ core. state_of core ≡ empty script.now.limits NODE_LIMIT) }
+    ensures state { IfOk result (λ core. state_of core ≡ empty script.now.limits (node_limit script.now.limits)) }
     ensures seats { IfOk result (λ core. core.seats ≡ []) }
     ensures fault { IfErr result (λ fault. fault ≡ RunFault.OutOfMemory) }
 {
-    match Core::with_limits(alloc, NODE_LIMIT, script.limits) {
+    match Core::with_limits(alloc, script.limits.nodes(), script.limits) {
         Ok(core) => Ok(core),
         Err(_) => Err(RunFault::OutOfMemory),
     }
@@ -118,7 +118,7 @@ pub fn run_on<Listener: Witness>(
 ) -> Result<Made<RunEnd>, RunFault>
     requires few { calls_in script.lists ≤ CALL_LIMIT }
     requires seats { core.seats ≡ [] }
-    requires fresh { state_of core ≡ fresh NODE_LIMIT core.start (graph_of core.store) }
+    requires fresh { state_of core ≡ fresh (node_limit core.start.limits) core.start (graph_of core.store) }
     ensures output { IfOk result (λ made. IsOutputFrom schedule script (before_all (state_of core) (length script.lists)) made.end made.text.items) }
     ensures again { OnOk result (IsRead script → core.start.limits ≡ script.limits → HasShortNames script.limits core.start.tree → SomeIsReadAgain schedule script (before_all (state_of core) (length script.lists))) }
     ensures why { IfErr result (IsWhy (StopsFrom schedule script (before_all (state_of core) (length script.lists)))) }

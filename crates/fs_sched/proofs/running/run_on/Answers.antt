@@ -4,8 +4,7 @@ use Rattle.fs_calls.specs.declared.call.Call.{Call}
 use Rattle.fs_nodes.specs.Stores.{graph_of}
 use Rattle.fs_core.specs.CoreValues.{CoreValue, state_of}
 use Rattle.fs_machine.specs.States.{State, Run, fresh}
-use Rattle.fs_names.specs.Limits.{largest}
-use Rattle.fs_names.specs.declared.limits.TheConstants.{NODE_LIMIT}
+use Rattle.fs_names.specs.Limits.{largest, node_limit}
 use Rattle.fs_text.specs.Fits.{AllFit}
 use Rattle.fs_sched.specs.RunTexts.{IsRunText}
 use Rattle.fs_sched.specs.Runs.{before_all, calls_in, RunsFrom}
@@ -18,8 +17,8 @@ use Rattle.fs_sched.proofs.Done.{uncapped}
 use Rattle.fs_sched.proofs.running.run_on.Goals as goal
 
 -- what the first stage keeps
-first_keeps : (lists : List (List Call)) (core : CoreValue) → state_of core ≡ fresh NODE_LIMIT core.start (graph_of core.store) → Run (state_of core) → ListFacts lists [] (before_all (state_of core) (length lists))
-first_keeps lists core is run = subst (λ (s : State). ListFacts lists [] (before_all s (length lists))) (sym is) (kept_fresh lists NODE_LIMIT core.start (graph_of core.store) (subst Run is run))
+first_keeps : (lists : List (List Call)) (core : CoreValue) → state_of core ≡ fresh (node_limit core.start.limits) core.start (graph_of core.store) → Run (state_of core) → ListFacts lists [] (before_all (state_of core) (length lists))
+first_keeps lists core is run = subst (λ (s : State). ListFacts lists [] (before_all s (length lists))) (sym is) (kept_fresh lists (node_limit core.start.limits) core.start (graph_of core.store) (subst Run is run))
 
 pub returns-in-Ok-counted_text-clause-output : goal.returns-in-Ok-counted_text-clause-output
 returns-in-Ok-counted_text-clause-output g c =
@@ -49,7 +48,7 @@ returns-in-Ok-counted_text-clause-again g c read limits names =
     let kept = first_keeps lists first c.requires.fresh c.told.ensures.run in
     let on = (last_keeps c.args.schedule c.args.script (before_all (state_of first) (length lists)) run.told last kept run.runs).run in
     let from = subst (λ (s : State). RunsFrom c.args.schedule c.args.script (before_all s (length lists)) run.told last) c.requires.fresh run.runs in
-    let short = short_from c.args.schedule read.0 c.args.script NODE_LIMIT first.start (graph_of first.store) run.told last read.1 names limits on from in
+    let short = short_from c.args.schedule read.0 c.args.script (node_limit first.start.limits) first.start (graph_of first.store) run.told last read.1 names limits on from in
     let told = subst IsToldFit c.start.ensures c.in-Ok-counted_text.ensures.told in
     let fit = subst (AllFit largest) c.timeline.ensures c.in-Ok-counted_text.ensures.fit in
     (run.told, last, run.runs, again_short c.args.script.limits core.start core.timeline (starts_within (state_of core) on) told fit short.entries short.tree short.kept)

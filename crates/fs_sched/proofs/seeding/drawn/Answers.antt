@@ -6,7 +6,7 @@ use Rattle.fs_sched.specs.declared.schedule.Schedule.TheVariants.{Seeded}
 use Rattle.fs_sched.specs.code.Done.{IsStop}
 use Rattle.fs_script.specs.declared.script.Script.{Script}
 use Rattle.std.proofs.Common.{ℕ, ◌≡◌, List, length, refl, subst}
-use Rattle.fs_names.specs.declared.limits.TheConstants.{NODE_LIMIT}
+use Rattle.fs_names.specs.Limits.{node_limit}
 use Rattle.fs_timeline.specs.declared.entry.Entry.{Entry}
 use Rattle.fs_machine.specs.States.{State, empty}
 use Rattle.fs_core.specs.CoreValues.{CoreValue, state_of}
@@ -15,7 +15,7 @@ use Rattle.fs_sched.proofs.FromRoot.{root_stop}
 use Rattle.fs_sched.proofs.seeding.drawn.Goals as goal
 
 -- the same run, from the root alone
-from_root : (n : ℕ) (script : Script) (core : CoreValue) (told : List Entry) (last : Stage) → state_of core ≡ empty script.limits NODE_LIMIT → RunsFrom (Seeded n) script (before_all (state_of core) (length script.lists)) told last → Runs (Seeded n) script told last
+from_root : (n : ℕ) (script : Script) (core : CoreValue) (told : List Entry) (last : Stage) → state_of core ≡ empty script.limits (node_limit script.limits) → RunsFrom (Seeded n) script (before_all (state_of core) (length script.lists)) told last → Runs (Seeded n) script told last
 from_root n script core told last root runs = subst (λ (s : State). RunsFrom (Seeded n) script (before_all s (length script.lists)) told last) root runs
 
 pub returns-in-Ok-clause-runs : goal.returns-in-Ok-clause-runs
