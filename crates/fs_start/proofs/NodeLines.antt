@@ -10,10 +10,10 @@ use Rattle.std.proofs.Math.Seq.{get_or-append_seam}
 use Rattle.std.specs.Prelude.{take, drop, ◌==◌}
 use Rattle.std.specs.List.{slice_split, onto_first}
 use Rattle.std.specs.Str.{bytes_eq}
-use Rattle.fs_names.specs.Limits.{same_limits}
+use Rattle.fs_names.specs.Limits.{same_limits, node_limit}
 use Rattle.fs_names.specs.declared.limits.Limits.{Limits}
 use Rattle.fs_names.specs.declared.limits.Limits.TheVariants.{V1, V2}
-use Rattle.fs_names.specs.declared.limits.TheConstants.{NODE_LIMIT}
+use Rattle.fs_names.proofs.LimitLemmas.{some_nodes}
 use Rattle.fs_calls.specs.Tree.{Tree, root_tree}
 use Rattle.fs_calls.specs.Starts.{Start, root_start}
 use Rattle.fs_timeline.specs.declared.entry.Entry.{Entry}
@@ -142,16 +142,16 @@ started_most limits text first = by _ _ _ _ (lines_most limits 2 (behind_first (
     by false true f g h = let one : told (lines_of text) ≡ 1 + told (behind_first (lines_of text)) = first_told limits (lines_of text) first in weaker (Bounds 3 (1 + told (behind_first (lines_of text)))) (Bounds 3 (told (lines_of text))) _ (λ read few. omega (arith, few, one)) h
     by false false f g h = tt
 
--- more nodes than there are numbers are read only of a text that has so many lines
+-- more nodes than the root are read only of a text that has so many lines
 abbrev Many : List ℕ → Start × List Entry → Type 0
-Many text read = NODE_LIMIT < length read.0.tree → Bounds 3 (told (lines_of text)) read
+Many text read = 1 < length read.0.tree → Bounds 3 (told (lines_of text)) read
 
 started_many : (limits : Limits) (text : List ℕ) (other : Read) → Given (Many text) other → Given (Many text) (started_or limits text other)
 started_many limits text other h =
     either_by (Many text) (first_is (started_header limits) (lines_of text)) _ _ (λ first. weaker (Bounds 3 (told (lines_of text))) (Many text) _ (λ read few many. few) (started_most limits text first)) (λ first. h)
 
 root_many : (text : List ℕ) (entries : Result (List Entry) ScriptFault) → Given (Many text) (with_start (root_start V1) entries)
-root_many text (Ok es) = λ many. absurd (let h : NODE_LIMIT < 1 = many in omega (arith, h))
+root_many text (Ok es) = λ many. absurd (let h : 1 < 1 = many in omega (arith, h))
 root_many text (Err f) = tt
 
 journal_many : (text : List ℕ) → Given (Many text) (journal_of text)
@@ -247,43 +247,46 @@ tree_told text e =
 
 -- ---- the tree at which something starts
 
-abbrev HasMany : List ℕ → Start → Type 0
-HasMany text start = NODE_LIMIT < length start.tree → lines_before text + NODE_LIMIT < told (lines_of text)
+abbrev HasMany : Limits → List ℕ → Start → Type 0
+HasMany limits text start = node_limit limits < length start.tree → lines_before text + node_limit limits < told (lines_of text)
 
-behind_one : (limits : Limits) (text : List ℕ) (read : Start × List Entry) → bytes_eq (take 5 text) (codes "tree\n") ≡ true → Many (nodes_journal limits (drop 5 text)) read → HasMany text (read.0)
+more_than_root : (limits : Limits) (start : Start) → node_limit limits < length start.tree → 1 < length start.tree
+more_than_root limits start many = omega (arith, many, some_nodes limits)
+
+behind_one : (limits : Limits) (text : List ℕ) (read : Start × List Entry) → bytes_eq (take 5 text) (codes "tree\n") ≡ true → Many (nodes_journal limits (drop 5 text)) read → HasMany limits text (read.0)
 behind_one limits text read e h many =
     let first : lines_before text ≡ 1 = cond-true _ _ _ e in
-    let few : length read.0.tree + 3 ≤ told (lines_of (nodes_journal limits (drop 5 text))) = h many in
+    let few : length read.0.tree + 3 ≤ told (lines_of (nodes_journal limits (drop 5 text))) = h (more_than_root limits read.0 many) in
     omega (arith, many, few, first, journal_told limits (drop 5 text), tree_told text e)
 
-tree_many : (limits : Limits) (text : List ℕ) → bytes_eq (take 5 text) (codes "tree\n") ≡ true → Given (HasMany text) (start_read (journal_of (nodes_journal limits (drop 5 text))))
+tree_many : (limits : Limits) (text : List ℕ) → bytes_eq (take 5 text) (codes "tree\n") ≡ true → Given (HasMany limits text) (start_read (journal_of (nodes_journal limits (drop 5 text))))
 tree_many limits text e = by (journal_of (nodes_journal limits (drop 5 text))) (journal_many (nodes_journal limits (drop 5 text)))
   where
-    by : (read : Read) → Given (Many (nodes_journal limits (drop 5 text))) read → Given (HasMany text) (start_read read)
+    by : (read : Read) → Given (Many (nodes_journal limits (drop 5 text))) read → Given (HasMany limits text) (start_read read)
     by (Err f) h = tt
     by (Ok read) h = behind_one limits text read e h
 
-behind_two : (text : List ℕ) (read : Start × List Entry) → bytes_eq (take 5 text) (codes "tree\n") ≡ false → Many text read → HasMany text (read.0)
-behind_two text read e h many =
+behind_two : (limits : Limits) (text : List ℕ) (read : Start × List Entry) → bytes_eq (take 5 text) (codes "tree\n") ≡ false → Many text read → HasMany limits text (read.0)
+behind_two limits text read e h many =
     let first : lines_before text ≡ 2 = cond-false _ _ _ e in
-    let few : length read.0.tree + 3 ≤ told (lines_of text) = h many in
+    let few : length read.0.tree + 3 ≤ told (lines_of text) = h (more_than_root limits read.0 many) in
     omega (arith, many, few, first)
 
-plain_many : (limits : Limits) (text : List ℕ) → bytes_eq (take 5 text) (codes "tree\n") ≡ false → Given (HasMany text) (by_limits limits (journal_of text))
+plain_many : (limits : Limits) (text : List ℕ) → bytes_eq (take 5 text) (codes "tree\n") ≡ false → Given (HasMany limits text) (by_limits limits (journal_of text))
 plain_many limits text e = by (journal_of text) (journal_many text)
   where
-    by : (read : Read) → Given (Many text) read → Given (HasMany text) (by_limits limits read)
+    by : (read : Read) → Given (Many text) read → Given (HasMany limits text) (by_limits limits read)
     by (Err f) h = tt
-    by (Ok read) h = either_by (HasMany text) (same_limits limits read.0.limits) (Ok (read.0)) (Err (fault_at 1 kind.BadHeader)) (λ same. behind_two text read e h) (λ other. tt)
+    by (Ok read) h = either_by (HasMany limits text) (same_limits limits read.0.limits) (Ok (read.0)) (Err (fault_at 1 kind.BadHeader)) (λ same. behind_two limits text read e h) (λ other. tt)
 
-start_many : (limits : Limits) (text : List ℕ) → Given (HasMany text) (start_of limits text)
-start_many limits text = either_by (HasMany text) (bytes_eq (take 5 text) (codes "tree\n")) _ _ (tree_many limits text) (plain_many limits text)
+start_many : (limits : Limits) (text : List ℕ) → Given (HasMany limits text) (start_of limits text)
+start_many limits text = either_by (HasMany limits text) (bytes_eq (take 5 text) (codes "tree\n")) _ _ (tree_many limits text) (plain_many limits text)
 
 -- the line of the first node too many is there
-pub node_too_many : (limits : Limits) (text : List ℕ) (start : Start) → start_of limits text ≡ Ok start → NODE_LIMIT < length start.tree → IsNodeTooMany text (get_or (told_lines 1 (lines_of text)) (lines_before text + NODE_LIMIT) (length (lines_of text)))
+pub node_too_many : (limits : Limits) (text : List ℕ) (start : Start) → start_of limits text ≡ Ok start → node_limit limits < length start.tree → IsNodeTooMany limits text (get_or (told_lines 1 (lines_of text)) (lines_before text + node_limit limits) (length (lines_of text)))
 node_too_many limits text start is many =
-    let there : lines_before text + NODE_LIMIT < told (lines_of text) = given_is (HasMany text) (start_of limits text) start (start_many limits text) is many in
-    slice_get-get_or (told_lines 1 (lines_of text)) (lines_before text + NODE_LIMIT) (length (lines_of text)) (omega (arith, there, told_all 1 (lines_of text)))
+    let there : lines_before text + node_limit limits < told (lines_of text) = given_is (HasMany limits text) (start_of limits text) start (start_many limits text) is many in
+    slice_get-get_or (told_lines 1 (lines_of text)) (lines_before text + node_limit limits) (length (lines_of text)) (omega (arith, there, told_all 1 (lines_of text)))
 
 -- ---- the lines one after the other
 

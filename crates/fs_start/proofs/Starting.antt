@@ -1,7 +1,7 @@
 -- Runs from a tree: what is said of one is said of each.
 use Rattle.std.proofs.Common.{◌≡◌, ◌≢◌, ◌<◌, ◌^◌, ℕ, true, List, [], length, Result, Ok, refl, sym, ap, ◌∙◌, subst}
 use Rattle.std.specs.List.{list_any}
-use Rattle.fs_names.specs.declared.limits.TheConstants.{NODE_LIMIT}
+use Rattle.fs_names.specs.Limits.{node_limit}
 use Rattle.fs_calls.specs.Starts.{Start}
 use Rattle.fs_calls.specs.declared.call.Call.{Call}
 use Rattle.fs_nodes.specs.Stores.{graph_of}
@@ -40,10 +40,10 @@ use Rattle.fs_script.proofs.StartNames.{short_start}
 same_before : (start : Start) (threads : ℕ) (a b : Stage) → IsBefore start threads a → IsBefore start threads b → Same a b
 same_before start threads a b (g, is_g, e) (h, is_h, f) =
     subst (λ (x : Stage). Same x b) (sym e)
-    (subst (λ (x : Stage). Same (before_all (fresh NODE_LIMIT start g) threads) x) (sym f) (record {
-      run = Starting NODE_LIMIT start g is_g;
-      other = Starting NODE_LIMIT start h is_h;
-      alike = starts_alike NODE_LIMIT start g h is_g is_h;
+    (subst (λ (x : Stage). Same (before_all (fresh (node_limit start.limits) start g) threads) x) (sym f) (record {
+      run = Starting (node_limit start.limits) start g is_g;
+      other = Starting (node_limit start.limits) start h is_h;
+      alike = starts_alike (node_limit start.limits) start g h is_g is_h;
       begun = refl;
     }))
 
@@ -133,7 +133,7 @@ of_tree schedule tree input script (Tree f) is none = (script, is, none)
 -- ---- where rounds to the end follow
 
 kept_before : (lists : List (List Call)) (start : Start) (first : Stage) → IsBefore start (length lists) first → ListFacts lists [] first
-kept_before lists start first (graph, is, e) = subst (ListFacts lists []) (sym e) (kept_fresh lists NODE_LIMIT start graph (Starting NODE_LIMIT start graph is))
+kept_before lists start first (graph, is, e) = subst (ListFacts lists []) (sym e) (kept_fresh lists (node_limit start.limits) start graph (Starting (node_limit start.limits) start graph is))
 
 pub whole_at : (schedule : Schedule) (tree input : List ℕ) (end : RunEnd) (text : List ℕ) → IsRunAt schedule tree input end text → end.begun < 2 ^ 64 → schedule ≢ Given → IsWhole end
 whole_at schedule tree input end text (script, start, both, told, last, (first, before, runs), (ended, spelled)) fits other =

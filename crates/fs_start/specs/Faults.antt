@@ -1,8 +1,8 @@
 -- The fault of a run from a tree, and the status after it.
 use Rattle.std.specs.Prelude.{ℕ, ◌≡◌, ◌+◌, ◌<◌, ◌⊎◌, max, List, [], ◌∷◌, length, take, slice_get, if◌then◌else◌, codes, Ok, Err, Some}
 use Rattle.std.specs.Str.{bytes_eq}
+use Rattle.fs_names.specs.Limits.{node_limit}
 use Rattle.fs_names.specs.declared.limits.Limits.{Limits}
-use Rattle.fs_names.specs.declared.limits.TheConstants.{NODE_LIMIT}
 use Rattle.fs_calls.specs.Starts.{Start}
 use Rattle.fs_words.specs.Lines.{lines_of, is_passed_over}
 use Rattle.fs_words.specs.Reading.{fault_at}
@@ -42,17 +42,17 @@ told_lines n (line ∷ more) = if is_passed_over line then told_lines (n + 1) mo
 abbrev pub lines_before : List ℕ → ℕ
 lines_before text = if bytes_eq (take 5 text) (codes "tree\n") then 1 else 2
 
--- a line tells the first node for which there is no number
-abbrev pub IsNodeTooMany : List ℕ → ℕ → Type 0
-IsNodeTooMany text line = slice_get (told_lines 1 (lines_of text)) (lines_before text + NODE_LIMIT) ≡ Some line
+-- a line tells the first node for which there is no number by these limits
+abbrev pub IsNodeTooMany : Limits → List ℕ → ℕ → Type 0
+IsNodeTooMany limits text line = slice_get (told_lines 1 (lines_of text)) (lines_before text + node_limit limits) ≡ Some line
 
 -- no tree within these limits is read from a text: it has this fault, or the tree has more nodes than there are numbers, at the line of the first too many
 abbrev pub IsTreeFault : Limits → List ℕ → ScriptFault → Type 0
 IsTreeFault limits text f =
     ((g : ScriptFault) × (start_of limits text ≡ Err g) × (f ≡ told_fault g))
-    ⊎ ((start : Start) × (start_of limits text ≡ Ok start) × (NODE_LIMIT < length start.tree) × (f.kind ≡ kind.TooLarge) × IsNodeTooMany text f.line)
+    ⊎ ((start : Start) × (start_of limits text ≡ Ok start) × (node_limit limits < length start.tree) × (f.kind ≡ kind.TooLarge) × IsNodeTooMany limits text f.line)
 
 -- the same of a text whose tree is there
-abbrev pub IsTooLarge : List ℕ → StartFault → Type 0
-IsTooLarge text (Tree f) = (f.kind ≡ kind.TooLarge) × IsNodeTooMany text f.line
-IsTooLarge text (Run f) = ⊥
+abbrev pub IsTooLarge : Limits → List ℕ → StartFault → Type 0
+IsTooLarge limits text (Tree f) = (f.kind ≡ kind.TooLarge) × IsNodeTooMany limits text f.line
+IsTooLarge limits text (Run f) = ⊥

@@ -1,6 +1,6 @@
 -- Runs of scripts from a tree, by the limits of the script.
 use Rattle.std.specs.Prelude.{ℕ, ◌≡◌, List, length, Ok, Err}
-use Rattle.fs_names.specs.declared.limits.TheConstants.{NODE_LIMIT}
+use Rattle.fs_names.specs.Limits.{node_limit}
 use Rattle.fs_calls.specs.Starts.{Start}
 use Rattle.fs_nodes.specs.Graphs.{Graph}
 use Rattle.fs_timeline.specs.declared.entry.Entry.{Entry}
@@ -18,9 +18,9 @@ use Rattle.fs_start.specs.Faults.{IsTreeFault}
 use Rattle.fs_start.specs.declared.fault.StartFault.{StartFault}
 use Rattle.fs_start.specs.declared.fault.StartFault.TheVariants.{Run, Tree}
 
--- before the first event of so many threads at a tree: nothing has begun, and some nodes spell it
+-- before the first event of so many threads at a tree: nothing has begun, some nodes spell it, and there are as many numbers as its limits have
 abbrev pub IsBefore : Start → ℕ → Stage → Type 0
-IsBefore start threads first = (graph : Graph) × IsStart NODE_LIMIT start graph × (first ≡ before_all (fresh NODE_LIMIT start graph) threads)
+IsBefore start threads first = (graph : Graph) × IsStart (node_limit start.limits) start graph × (first ≡ before_all (fresh (node_limit start.limits) start graph) threads)
 
 -- a run of a script by a schedule from a tree to its last stage, and the entries of the pieces before the last one
 abbrev pub RunsAt : Schedule → Script → Start → List Entry → Stage → Type 0

@@ -2,6 +2,7 @@
 
 ghost use Rattle.std.specs.Prelude.{◌≡◌, ◌≢◌, ◌⊎◌, ◌+◌, ◌-◌, ◌<◌, ◌≤◌, ◌^◌, ℕ, List, length, get_or, Ok, Err, IfOk, OnOk, OnErr, IfErr, IfSome, IsErrOf};
 ghost use Rattle.std.specs.Io.KnownBytes.{Appends, IsAtEnd};
+ghost use Rattle.fs_names.specs.Limits.{node_limit};
 ghost use Rattle.fs_calls.specs.Starts.{Start};
 ghost use Rattle.fs_seq.specs.Rows.{IsWithinLimits};
 ghost use Rattle.fs_words.specs.Lines.{lines_of};
@@ -17,7 +18,7 @@ ghost use Rattle.fs_start.specs.code.Mades.{IsCoreAt, IsNoCore, MakesRunAt};
 use crate::fault::{StartFault, tree_fault};
 use fs_core::{Core, NoStart};
 use fs_io::{Device, Failure, Made, Sink, Source, transform};
-use fs_names::{Limits, NODE_LIMIT};
+use fs_names::Limits;
 use fs_sched::{RunEnd, RunFault, Schedule, Witness, between, run_on, script_in};
 use fs_script::{FaultKind, ScriptFault, read_start};
 use fs_seq::SeqTree;
@@ -51,13 +52,14 @@ fn lines_before(text: &[u8]) -> usize
     if text.starts_with(b"tree\n") { 1 } else { 2 }
 }
 
-/// The fault of the text of a tree, or of a journal, that has more nodes than there are numbers: its line is that of the first
-/// node too many.
-fn too_many_nodes(text: &[u8]) -> StartFault
-    ensures { (limits : Limits) (start : Start) → start_of limits text.now ≡ Ok start → NODE_LIMIT < length start.tree → IsTooLarge text.now result }
+/// The fault of the text of a tree, or of a journal, that has more nodes than there are numbers by these limits: its line is that
+/// of the first node too many.
+#[tactic(auto, using(fs_names::proofs::LimitLemmas::nodes_have_room))]
+fn too_many_nodes(text: &[u8], limits: Limits) -> StartFault
+    ensures { (start : Start) → start_of limits text.now ≡ Ok start → node_limit limits < length start.tree → IsTooLarge limits text.now result }
 {
     StartFault::Tree(ScriptFault {
-        line: line_behind(text, lines_before(text) + NODE_LIMIT),
+        line: line_behind(text, lines_before(text) + limits.nodes()),
         kind: FaultKind::TooLarge,
     })
 }
@@ -65,6 +67,7 @@ fn too_many_nodes(text: &[u8]) -> StartFault
 /// The tree that a text has by these limits.
 fn tree_in(alloc: Global, text: &[u8], limits: Limits) -> Result<SeqTree, StartFault>
     ensures tree { IfOk result (λ start. start_of limits text.now ≡ Ok start) }
+    ensures kept { IfOk result (λ start. start.limits ≡ limits) }
     ensures within { IfOk result (λ start. IsWithinLimits start.limits start.tree) }
     ensures fault { IfErr result (IsNoCore limits text.now) }
 {
@@ -75,6 +78,7 @@ fn tree_in(alloc: Global, text: &[u8], limits: Limits) -> Result<SeqTree, StartF
 }
 
 /// A core at the tree that a text has by these limits.
+#[tactic(auto, using(fs_names::proofs::LimitLemmas::some_nodes))]
 fn core_at(alloc: Global, text: &[u8], limits: Limits) -> Result<Core, StartFault>
     ensures core { IfOk result (IsCoreAt limits text.now) }
     ensures fault { IfErr result (IsNoCore limits text.now) }
@@ -83,12 +87,12 @@ fn core_at(alloc: Global, text: &[u8], limits: Limits) -> Result<Core, StartFaul
         Ok(start) => start,
         Err(fault) => return Err(fault),
     };
-    match Core::from_tree(alloc, start, NODE_LIMIT) {
+    match Core::from_tree(alloc, start, limits.nodes()) {
         Ok(core) => {
             core.told();
             Ok(core)
         }
-        Err(NoStart::TooManyNodes) => Err(too_many_nodes(text)),
+        Err(NoStart::TooManyNodes) => Err(too_many_nodes(text, limits)),
         Err(_) => Err(StartFault::Run(RunFault::OutOfMemory)),
     }
 }

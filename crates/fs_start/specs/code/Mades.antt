@@ -1,7 +1,7 @@
 -- What is made of the texts of a script and of a tree, before it is written.
 use Rattle.std.specs.Prelude.{◌≡◌, ℕ, [], List, Result, Ok, IfOk, OnOk, IfErr}
+use Rattle.fs_names.specs.Limits.{node_limit}
 use Rattle.fs_names.specs.declared.limits.Limits.{Limits}
-use Rattle.fs_names.specs.declared.limits.TheConstants.{NODE_LIMIT}
 use Rattle.fs_nodes.specs.Stores.{graph_of}
 use Rattle.fs_core.specs.CoreValues.{CoreValue, state_of}
 use Rattle.fs_io.specs.declared.shell.Made.{Made}
@@ -18,9 +18,9 @@ use Rattle.fs_start.specs.declared.fault.StartFault.TheVariants.{Run, Tree}
 -- a core at the tree that a text has by these limits, on which nothing has begun
 pub record IsCoreAt (limits : Limits) (text : List ℕ) (core : CoreValue) : Type 0 where
   pub start : start_of limits text ≡ Ok core.start
-  pub fresh : state_of core ≡ fresh NODE_LIMIT core.start (graph_of core.store)
+  pub fresh : state_of core ≡ fresh (node_limit core.start.limits) core.start (graph_of core.store)
   pub seats : core.seats ≡ []
-  pub begins : IsStart NODE_LIMIT core.start (graph_of core.store)
+  pub begins : IsStart (node_limit core.start.limits) core.start (graph_of core.store)
 
 -- why there is none: the text's fault, or out of memory
 abbrev pub IsNoCore : Limits → List ℕ → StartFault → Type 0
