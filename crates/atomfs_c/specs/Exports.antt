@@ -8,6 +8,7 @@ use Rattle.fs_nodes.specs.Graphs.{graph_shapes}
 use Rattle.fs_nodes.specs.Stores.{graph_of}
 use Rattle.fs_timeline.specs.Timeline as timeline
 use Rattle.fs_names.specs.Keys.{Key}
+use Rattle.fs_names.specs.Limits.{node_limit}
 use Rattle.fs_names.specs.Reading.{reading}
 use Rattle.fs_names.specs.declared.fault.PathFault.{PathFault}
 use Rattle.fs_names.specs.declared.limits.TheConstants.{NODE_LIMIT}
@@ -44,14 +45,19 @@ IsOpened limits limit core = (state_of core ≡ empty limits limit) × (core.sea
 abbrev pub IsOpenedAt : Start → ℕ → CoreValue → Type 0
 IsOpenedAt start limit core = (state_of core ≡ fresh limit start (graph_of core.store)) × (graph_shapes (graph_of core.store) ≡ tree_shapes start.tree) × (core.seats ≡ [])
 
--- a status says why a handle is not opened, whatever is to be opened: it is open, or no core has this limit
-abbrev pub IsNotToOpen : Option CoreValue → ℕ → ℕ → Type 0
-IsNotToOpen held limit status = (IsSome held × (status ≡ ALREADY_OPEN)) ⊎ ((held ≡ None) × (status ≡ BAD_LIMIT) × ((limit ≡ 0) ⊎ (NODE_LIMIT < limit)))
+-- the most nodes for which a handle is opened at the tree behind this one: as many as its limits have, and where it is closed as there is room for
+abbrev pub most_at : Option CoreValue → ℕ
+most_at None = NODE_LIMIT
+most_at (Some core) = node_limit core.start.limits
+
+-- a status says why a handle is not opened for `limit` nodes, where a core has `most` at most, whatever is to be opened: it is open, or no core has this limit
+abbrev pub IsNotToOpen : Option CoreValue → ℕ → ℕ → ℕ → Type 0
+IsNotToOpen held most limit status = (IsSome held × (status ≡ ALREADY_OPEN)) ⊎ ((held ≡ None) × (status ≡ BAD_LIMIT) × ((limit ≡ 0) ⊎ (most < limit)))
 
 -- a status says why a handle is not opened at what was read: nothing is to be opened, the text has a fault, whose line is told, the tree has more nodes than the limit, or memory ran out
-abbrev pub IsToldStart : Result Start ScriptFault → Option CoreValue → ℕ → ℕ → ℕ → Type 0
-IsToldStart given held limit status line =
-    IsNotToOpen held limit status ⊎ ((fault : ScriptFault) × (given ≡ Err fault) × (status ≡ fault_status fault.kind) × (line ≡ fault.line)) ⊎ ((start : Start) × (given ≡ Ok start) × (status ≡ FULL) × (limit < length start.tree)) ⊎ (status ≡ NO_MEMORY)
+abbrev pub IsToldStart : Result Start ScriptFault → Option CoreValue → ℕ → ℕ → ℕ → ℕ → Type 0
+IsToldStart given held most limit status line =
+    IsNotToOpen held most limit status ⊎ ((fault : ScriptFault) × (given ≡ Err fault) × (status ≡ fault_status fault.kind) × (line ≡ fault.line)) ⊎ ((start : Start) × (given ≡ Ok start) × (status ≡ FULL) × (limit < length start.tree)) ⊎ (status ≡ NO_MEMORY)
 
 -- the handle is open before and after, and what became of the core is such
 abbrev pub Goes : (CoreValue → CoreValue → Type 0) → Option CoreValue → Option CoreValue → Type 0

@@ -1,7 +1,7 @@
 //! Handles of C's, and the exports that open and close them.
 
 ghost use Rattle.std.specs.Prelude.{◌≡◌, ◌≢◌, ◌<◌, ◌≤◌, ◌++◌, ◌∷◌, [], ◌⊎◌, ◌↔◌, Some, None, is_some, IsSome, IsSomeAnd, MatchOption, length};
-ghost use Rattle.fs_names.specs.declared.limits.TheConstants.{NODE_LIMIT};
+ghost use Rattle.fs_names.specs.Limits.{node_limit};
 ghost use Rattle.fs_names.specs.declared.limits.Limits.TheVariants as Limits;
 ghost use Rattle.fs_core.specs.CoreValues.{state_of};
 ghost use Rattle.fs_embed.specs.Statuses.{IsOfOpen};
@@ -13,7 +13,7 @@ use crate::parts::Parts;
 use fs_core::Core;
 use fs_embed::numbered::{KEEP_ALL, limits_of};
 use fs_embed::status::{ALREADY_OPEN, BAD_LIMIT, BAD_VERSION, CLOSED, NO_MEMORY, OK};
-use fs_names::{Limits, NODE_LIMIT};
+use fs_names::Limits;
 use std::alloc::Global;
 use std::mem;
 
@@ -85,14 +85,15 @@ pub fn give(alloc: Global, handle: &mut Handle, core: Core) -> u8
     }
 }
 
-/// Why a handle is not opened, before anything else is looked at: it is open, or no core has this limit.
-pub fn not_to_open(handle: &Handle, limit: usize) -> Option<u8>
-    ensures { MatchOption result ((handle.now.held.core ≡ None) × (1 ≤ limit) × (limit ≤ NODE_LIMIT)) (λ status. IsNotToOpen handle.now.held.core limit status) }
+/// Why a handle is not opened for `limit` nodes, where a core has `most` at most, before anything else is looked at: it is open,
+/// or no core has this limit.
+pub fn not_to_open(handle: &Handle, limit: usize, most: usize) -> Option<u8>
+    ensures { MatchOption result ((handle.now.held.core ≡ None) × (1 ≤ limit) × (limit ≤ most)) (λ status. IsNotToOpen handle.now.held.core most limit status) }
 {
     if handle.is_open {
         return Some(ALREADY_OPEN);
     }
-    if limit == 0 || limit > NODE_LIMIT {
+    if limit == 0 || limit > most {
         return Some(BAD_LIMIT);
     }
     None
@@ -102,13 +103,13 @@ pub fn not_to_open(handle: &Handle, limit: usize) -> Option<u8>
 fn open(alloc: Global, handle: &mut Handle, limit: usize, limits: Limits) -> u8
     ensures opened { result ≡ OK → (handle.old.held.core ≡ None) × IsSomeAnd handle.new.held.core (IsOpened limits limit) }
     ensures open { IsSome handle.old.held.core → result ≡ ALREADY_OPEN }
-    ensures limit { result ≡ BAD_LIMIT → (limit ≡ 0) ⊎ (NODE_LIMIT < limit) }
+    ensures limit { result ≡ BAD_LIMIT → (limit ≡ 0) ⊎ (node_limit limits < limit) }
     ensures version { result ≢ BAD_VERSION }
     ensures only { IsOfOpen result }
     ensures keeps_all { result ≡ OK → handle.new.most ≡ KEEP_ALL }
     ensures refused { result ≢ OK → (CLOSED < result) × (handle.new.held.core ≡ handle.old.held.core) × (handle.new.most ≡ handle.old.most) }
 {
-    if let Some(status) = not_to_open(handle, limit) {
+    if let Some(status) = not_to_open(handle, limit, limits.nodes()) {
         return status;
     }
     match Core::with_limits(alloc, limit, limits) {
@@ -124,7 +125,7 @@ pub extern "C" fn atomfs_open(alloc: Global, handle: &mut Handle, limit: usize) 
     ensures only { IsOfOpen result }
     ensures opened { result ≡ OK → (handle.old.held.core ≡ None) × IsSomeAnd handle.new.held.core (IsOpened Limits.V1 limit) }
     ensures open { IsSome handle.old.held.core → result ≡ ALREADY_OPEN }
-    ensures limit { result ≡ BAD_LIMIT → (limit ≡ 0) ⊎ (NODE_LIMIT < limit) }
+    ensures limit { result ≡ BAD_LIMIT → (limit ≡ 0) ⊎ (node_limit Limits.V1 < limit) }
     ensures keeps_all { result ≡ OK → handle.new.most ≡ KEEP_ALL }
     ensures refused { result ≢ OK → (CLOSED < result) × (handle.new.held.core ≡ handle.old.held.core) × (handle.new.most ≡ handle.old.most) }
 {
@@ -141,7 +142,7 @@ pub extern "C" fn atomfs_open_with(
 ) -> u8
     ensures opened { result ≡ OK → (handle.old.held.core ≡ None) × IsSomeAnd handle.new.held.core (λ core. IsSomeAnd (limits_of version) (λ limits. IsOpened limits limit core)) }
     ensures open { IsSome handle.old.held.core → IsSome (limits_of version) → result ≡ ALREADY_OPEN }
-    ensures limit { result ≡ BAD_LIMIT → (limit ≡ 0) ⊎ (NODE_LIMIT < limit) }
+    ensures limit { result ≡ BAD_LIMIT → IsSomeAnd (limits_of version) (λ limits. (limit ≡ 0) ⊎ (node_limit limits < limit)) }
     ensures version { (result ≡ BAD_VERSION) ↔ (limits_of version ≡ None) }
     ensures only { IsOfOpen result ⊎ (result ≡ BAD_VERSION) }
     ensures keeps_all { result ≡ OK → handle.new.most ≡ KEEP_ALL }
