@@ -2,7 +2,7 @@
 //! and a second core begins where the first one stands.
 
 ghost use Rattle.std.specs.Prelude.{◌≡◌, ◌≤◌, length};
-ghost use Rattle.fs_names.specs.declared.limits.TheConstants.{NODE_LIMIT};
+ghost use Rattle.fs_names.specs.Limits.{node_limit};
 
 use crate::checkpoints::end;
 use crate::cores::{take_seats, tell};
@@ -10,7 +10,7 @@ use crate::rows::{A, A_F, B, Line, ROOT, rows_of, tells};
 use crate::spelled::{calls_of, is_reply};
 use anyhow::{Result, bail, ensure};
 use fs_core::{Core, NoStart, Refusal};
-use fs_names::{Kind, Limits, NODE_LIMIT, SeatNo};
+use fs_names::{Kind, Limits, SeatNo};
 use fs_seq::Row;
 use fs_timeline::Entry;
 use std::alloc::Global;
@@ -54,7 +54,7 @@ const BEHIND: [Line; 6] = [
 /// Why no core begins at rows, for at most so many nodes.
 fn why_not(alloc: Global, rows: &[Row], limit: usize, limits: Limits) -> Option<NoStart>
     requires least { 1 ≤ limit }
-    requires most { limit ≤ NODE_LIMIT }
+    requires most { limit ≤ node_limit limits }
 {
     Core::from_rows(alloc, rows, limit, limits).err()
 }
@@ -66,13 +66,14 @@ fn begins_at(alloc: Global, core: &Core, rows: &[Row]) -> Result<bool> {
 }
 
 /// Whether this comes of rows: a core that begins at them and has no seats, or the place of one that is bad.
+#[tactic(auto, using(fs_names::proofs::LimitLemmas::some_nodes))]
 pub fn core_comes_out(
     alloc: Global,
     rows: &[Row],
     limits: Limits,
     bad: Option<usize>,
 ) -> Result<bool> {
-    match Core::from_rows(alloc, rows, NODE_LIMIT, limits) {
+    match Core::from_rows(alloc, rows, limits.nodes(), limits) {
         Ok(core) => Ok(bad.is_none() && core.seats() == 0 && begins_at(alloc, &core, rows)?),
         Err(why) => Ok(bad.is_some_and(|place| why == NoStart::Bad(place))),
     }
@@ -111,12 +112,12 @@ fn go_on(alloc: Global, core: &mut Core) -> Result<()>
 /// A second core for so many nodes, which begins where the first one stands.
 fn second_of(alloc: Global, core: &Core, limit: usize) -> Result<Result<Core, NoStart>>
     requires least { 1 ≤ limit }
-    requires most { limit ≤ NODE_LIMIT }
 {
-    match core.prepare(alloc) {
-        Ok(start) => Ok(Core::from_tree(alloc, start, limit)),
-        Err(_) => bail!("a tree where it stands"),
-    }
+    let Ok(start) = core.prepare(alloc) else {
+        bail!("a tree where it stands");
+    };
+    ensure!(limit <= start.limits().nodes(), "so many numbers");
+    Ok(Core::from_tree(alloc, start, limit))
 }
 
 /// It has the nodes of the first one, and no seats.
@@ -183,7 +184,7 @@ fn refuse(alloc: Global, rows: &[Row]) -> Result<()> {
 /// A core of rows.
 fn made(alloc: Global, rows: &[Row], limit: usize) -> Result<Core>
     requires least { 1 ≤ limit }
-    requires most { limit ≤ NODE_LIMIT }
+    requires most { limit ≤ node_limit Limits.V1 }
 {
     match Core::from_rows(alloc, rows, limit, Limits::V1) {
         Ok(core) => Ok(core),
@@ -199,7 +200,7 @@ fn compare_full(alloc: Global, rows: &[Row]) -> Result<()> {
 
 /// A core with room, whose calls leave other rows.
 fn compare_roomy(alloc: Global, rows: &[Row], behind: &[Row]) -> Result<()> {
-    let mut core = made(alloc, rows, NODE_LIMIT)?;
+    let mut core = made(alloc, rows, Limits::V1.nodes())?;
     compare_on(alloc, &mut core, rows, behind)
 }
 
