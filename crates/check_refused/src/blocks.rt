@@ -35,7 +35,10 @@ impl Again {
             Ok(reply) => Ok(reply),
             Err(_) => {
                 self.note();
-                ensure!(self.held.len() == before, "a refused call left another file");
+                ensure!(
+                    self.held.len() == before,
+                    "a refused call left another file"
+                );
                 self.held.finish(alloc, call)
             }
         }
