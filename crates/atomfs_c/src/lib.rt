@@ -3,8 +3,8 @@
 //! A `Handle` lies in C's memory and owns a boxed core. Each export takes the core out of the handle, calls `fs_embed`, and
 //! puts the core back; it tells its answer by a status (`fs_embed::status`) and what it found in bytes that the caller gives. Every
 //! export that changes a core says what it did as begins and steps of the machine, that the timeline is lawful after it
-//! (`lawful`), and that the nodes spell the tree of its commits at rest (`spelled`). Each refuses a closed handle, and says
-//! which statuses it answers (`only`).
+//! (`lawful`), and that the nodes spell the tree of its commits at rest (`spelled`). Each but those that open refuses a closed
+//! handle, and its clauses say which statuses it answers.
 //!
 //! Enter at `handles`, `starting`, `calls`, `texts`, `runs` and `tools`, which have the exports; `embed/atomfs.h` declares them for
 //! C. In `specs/`: `Handles` says what a handle owns, `Exports` and `Tools` what the clauses say; `Told` and `Statuses` of `fs_embed`

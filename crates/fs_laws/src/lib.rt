@@ -7,8 +7,8 @@
 //!
 //! Enter at the module `laws`. The machine that they speak of is `fs_machine`. Read in `specs/`: `Laws` (all
 //! statements), then by law `Below`, `Progress`, `StepsLeft`, `OneCall`. Worked runs with the answer of each event are in
-//! `Examples`, by the words of `Events`. `Invariants`, `CallFacts`, `JournalViews` and `Placed` serve the proofs, and
-//! `docs/ARCHITECTURE.md` has a map of these.
+//! `Examples`, by the words of `Events`. `Invariants`, `CallFacts`, `JournalViews` and `Placed` serve the proofs, of
+//! which the crate's `README.md` has a map.
 #![tactic(auto)]
 
 pub mod examples;
