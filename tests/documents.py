@@ -1093,16 +1093,13 @@ class Numbers(Sentences):
     """Numbers in sentences and tables of pages, and where else they stand."""
 
     def test_limits_of_trees(self):
-        limits = constants("fs_names/src/limits.rt")
         rows = {spans(name)[0]: (first, second) for _, first, second, name in table(SPECIFICATION, "What", "`V1`", "`V2`", "Named by")}
-        room = limits.pop("NODE_LIMIT")
-        self.agrees("the limits", {name: number(first) for name, (first, _) in rows.items() if name in limits}, limits)
         sets = ("path_names", "name", "entries", "file", "nodes")
         (path, deeper), (name, longer), (fewer, entries), (file, larger), (least, nodes) = (map(number, rows[f"Limits::{what}"]) for what in sets)
         source = (CRATES / "fs_names" / "src" / "limits.rt").read_text()
         found = [int(value) for value in re.findall(r"Limits::V[12] => ([\d_]+)", source)]
         self.agrees("the two sets of limits", [path, deeper, name, longer, fewer, entries, file, larger, least, nodes], found)
-        self.agrees("the room for node numbers", room, max(least, nodes))
+        self.agrees("what each set has room for", {"PATH_LIMIT": max(path, deeper), "NODE_LIMIT": max(least, nodes)}, constants("fs_names/src/limits.rt"))
         self.says(README, f"names of {longer} bytes, files of {larger:,}, {entries} entries in a directory, paths of {deeper} names, {nodes:,} nodes")
         self.says(README, f"Scripts `atomfs 1` and `atomfs_open` have names of {name} bytes and files of {file:,}")
         self.says(CHOOSING, f"{entries} entries in a directory, {larger:,} bytes in a file, {longer} in a name")
