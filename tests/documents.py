@@ -871,8 +871,7 @@ def limits():
     of_texts = "fs_words/src/limits.rt", "fs_script/src/limits.rt", "fs_sched/src/schedule.rt", "fs_sched/src/seeding.rt"
     of_searches = "fs_outcomes/src/running.rt", "fs_find/src/finding.rt", "fs_shrink/src/limits.rt", "fs_recorded/src/linearizing.rt"
     found = {name: [value] for file in ("fs_names/src/limits.rt", *of_texts, *of_searches) for name, value in constants(file).items()}
-    values = [int(value) for value in re.findall(r"Limits::V[12] => ([\d_]+)", source("fs_names/src/limits.rt"))]
-    return found | {"path_limit": values[:2], "name_limit": values[2:4], "entry_limit": values[4:6], "file_limit": values[6:8], "node_limit": values[8:]}
+    return found | harness.limits_of_sets()
 
 
 @functools.cache
@@ -1094,11 +1093,10 @@ class Numbers(Sentences):
 
     def test_limits_of_trees(self):
         rows = {spans(name)[0]: (first, second) for _, first, second, name in table(SPECIFICATION, "What", "`V1`", "`V2`", "Named by")}
-        sets = ("path_names", "name", "entries", "file", "nodes")
-        (path, deeper), (name, longer), (fewer, entries), (file, larger), (least, nodes) = (map(number, rows[f"Limits::{what}"]) for what in sets)
-        source = (CRATES / "fs_names" / "src" / "limits.rt").read_text()
-        found = [int(value) for value in re.findall(r"Limits::V[12] => ([\d_]+)", source)]
-        self.agrees("the two sets of limits", [path, deeper, name, longer, fewer, entries, file, larger, least, nodes], found)
+        named = {"path_names": "path_limit", "name": "name_limit", "entries": "entry_limit", "file": "file_limit", "nodes": "node_limit"}
+        told = {limit: [*map(number, rows[f"Limits::{what}"])] for what, limit in named.items()}
+        self.agrees("the two sets of limits", told, harness.limits_of_sets())
+        (path, deeper), (name, longer), (fewer, entries), (file, larger), (least, nodes) = told.values()
         self.agrees("what each set has room for", {"PATH_LIMIT": max(path, deeper), "NODE_LIMIT": max(least, nodes)}, constants("fs_names/src/limits.rt"))
         self.says(README, f"names of {longer} bytes, files of {larger:,}, {entries} entries in a directory, paths of {deeper} names, {nodes:,} nodes")
         self.says(README, f"Scripts `atomfs 1` and `atomfs_open` have names of {name} bytes and files of {file:,}")

@@ -7,6 +7,7 @@ import contextlib
 import functools
 import os
 import pathlib
+import re
 import shlex
 import subprocess
 import sys
@@ -129,6 +130,13 @@ def asks_of_answers():
     """Skips what asks the program of what it has answered where it is asked all at once."""
     if answer is not spawned:
         raise unittest.SkipTest("what was answered is asked of in the program that is proved and built")
+
+
+def limits_of_sets():
+    """What the two sets of limits have, by the definition of each limit."""
+    source = (ROOT / "crates" / "fs_names" / "src" / "limits.rt").read_text()
+    functions = re.findall(r"ensures \{ result ≡ (\w+_limit) self \}\n    \{\n        match self \{\n(.*?)        \}", source, re.S)
+    return {limit: [int(value) for value in re.findall(r"Limits::V\d => ([\d_]+)", arms)] for limit, arms in functions}
 
 
 def compiled(folder, source, *more):

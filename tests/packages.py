@@ -367,11 +367,9 @@ class Numbers(Case):
         self.same("_library.py", of_python, {name: counts.get(name) for name in of_python})
 
     def test_limits(self):
-        limits = dict(re.findall(r"const (\w+): \w+ = ([\d_]+);", (CRATES / "fs_names" / "src" / "limits.rt").read_text()))
+        sets = harness.limits_of_sets()
         library = self.source("python", "src", "atomfs", "_library.py")
-        source = (CRATES / "fs_names" / "src" / "limits.rt").read_text()
-        values = [int(value) for value in re.findall(r"Limits::V[12] => ([\d_]+)", source)]
-        wanted, entries, nodes = values[:2] + values[4:6], values[2:4], values[6:]
+        wanted, entries, nodes = sets["name_limit"] + sets["file_limit"], sets["entry_limit"], sets["node_limit"]
         of_rust = re.findall(r"Limits::V[12] => ([\d_]+)", self.source("rust", "src", "limits.rs"))
         self.same("the two sets of limits.rs", [int(value) for value in of_rust], wanted)
         sys.path.insert(0, str(BINDINGS / "python" / "src" / "atomfs"))
@@ -381,7 +379,7 @@ class Numbers(Case):
         of_python = [getattr(limits, what) for what in ("name_bytes", "file_bytes") for limits in Limits]
         self.same("the two sets of _library.py", of_python, wanted)
         found = re.search(r"^PATH_LIMIT = ([\d_]+)", library, re.M)[1]
-        self.same("PATH_LIMIT of _library.py", int(found), int(limits["PATH_LIMIT"]))
+        self.same("PATH_LIMIT of _library.py", [int(found)] * 2, sets["path_limit"])
         texts = {"_library.py": library, "limits.rs": self.source("rust", "src", "limits.rs")}
         for file, text in texts.items():
             found = re.search(r"\bENTRY_LIMIT(?:: usize)? = ([\d_]+)", text)[1]
