@@ -3,12 +3,13 @@
 //! `parse` reads the arguments by `clap`: the subcommand, a run's schedule, and the numbers of drawn runs, which are within
 //! their ranges (`within`). Nothing here reads input or runs a script.
 //!
-//! Read `cli` for the commands with their arguments, `texts` for what their help says, `subcommand` for what is asked for by
-//! what was matched. The definitions are in `specs/Commands.antt`.
+//! Read `table` for the commands with their arguments, `texts` for what their help says, `cli` for how `clap` is told of them,
+//! `subcommand` for what is asked for by what was matched. The definitions are in `specs/Commands.antt`.
 #![tactic(auto)]
 
 pub mod cli;
 pub mod subcommand;
+mod table;
 mod texts;
 
 pub use cli::parse;

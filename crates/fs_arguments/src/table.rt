@@ -1,0 +1,372 @@
+//! The table of the commands and their arguments, which `cli` tells `clap`.
+
+use crate::texts::*;
+use fs_find::SEARCH_LIMIT;
+use fs_outcomes::OUTCOME_LIMIT;
+use fs_recorded::CONFIGURATION_LIMIT;
+use fs_sched::{RUN_LIMIT, SEED_LIMIT};
+
+/// How an argument is written.
+pub(crate) enum Form {
+    /// `--NAME`.
+    Flag,
+    /// `--NAME` and a text, which help calls by this word.
+    Text(&'static str),
+    /// `--NAME` and a number, which help calls by this word, from the least to the most.
+    Number(&'static str, u64, u64),
+    /// A word that can be explained; help lists them.
+    Kind,
+    /// One more such word, for which help lists nothing.
+    SecondKind,
+}
+
+/// Whether an argument has to be there.
+pub(crate) enum Need {
+    /// It may be left out.
+    Never,
+    /// It is in each use of its command.
+    Always,
+    /// It may be left out where this other one is used.
+    Unless(&'static str),
+}
+
+/// An argument of a command.
+pub(crate) struct Argument {
+    pub(crate) name: &'static str,
+    pub(crate) form: Form,
+    pub(crate) need: Need,
+    /// Those that are not used with it.
+    pub(crate) conflicts: &'static [&'static str],
+    pub(crate) help: &'static str,
+}
+
+/// A command, with its arguments as help has them one behind the other.
+pub(crate) struct Row {
+    pub(crate) name: &'static str,
+    pub(crate) about: &'static str,
+    pub(crate) usage: &'static str,
+    pub(crate) statuses: &'static str,
+    pub(crate) arguments: &'static [Argument],
+}
+
+// The commands as help has them one behind the other, in four lists: at one list of all the prover runs out of its steps.
+
+/// The commands that run a script.
+pub(crate) const RUNS: &[Row] = &[RUN, SEEDS, OUTCOMES];
+
+/// Those that look for something in runs.
+pub(crate) const SEARCHES: &[Row] = &[FIND, SHRINK, TREE];
+
+/// Those that say whether what was done is lawful.
+pub(crate) const VERDICTS: &[Row] = &[THREADS, CHECK, LINEARIZE];
+
+/// Those that tell a run in another form, or what a word means.
+pub(crate) const ACCOUNTS: &[Row] = &[TRACE, DRAW, SCHEDULE, EXPLAIN];
+
+const ROBIN: Argument = Argument {
+    name: "robin",
+    form: Form::Flag,
+    need: Need::Never,
+    conflicts: &[],
+    help: "One event of each thread in turn, in place of the script's schedule",
+};
+
+const SEED: Argument = Argument {
+    name: "seed",
+    form: Form::Number("N", 0, u64::MAX),
+    need: Need::Never,
+    conflicts: &["robin"],
+    help: "Threads drawn from N, 0 to 18446744073709551615, as `atomfs seeds` draws them",
+};
+
+const FIRST_SEED: Argument = Argument {
+    name: "seed",
+    form: Form::Number("N", 0, SEED_LIMIT),
+    need: Need::Always,
+    conflicts: &[],
+    help: "The number that the first run is drawn from, 0 to 9223372036854775807",
+};
+
+const JSON: Argument = Argument {
+    name: "json",
+    form: Form::Flag,
+    need: Need::Never,
+    conflicts: &[],
+    help: "Writes each line as an object of JSON",
+};
+
+const WHERE: Argument = Argument {
+    name: "where",
+    form: Form::Text("WHAT"),
+    need: Need::Always,
+    conflicts: &[],
+    help: "What the run is to have, as below",
+};
+
+const RUN: Row = Row {
+    name: "run",
+    about: "Runs the script on standard input and writes its journal, its tree and its counts",
+    usage: "atomfs run [OPTIONS] < FILE",
+    statuses: RUN_STATUSES,
+    arguments: &[
+        ROBIN,
+        SEED,
+        Argument {
+            name: "from",
+            form: Form::Text("TREE"),
+            need: Need::Never,
+            conflicts: &[],
+            help: "Starts at the tree in the file TREE: a tree text, or a journal, at whose start tree",
+        },
+    ],
+};
+
+const SEEDS: Row = Row {
+    name: "seeds",
+    about: "Runs the script on standard input by drawn schedules, checks each run's journal and writes a line for each",
+    usage: "atomfs seeds --seed <N> --runs <K> [OPTIONS] < FILE",
+    statuses: SEEDS_STATUSES,
+    arguments: &[
+        FIRST_SEED,
+        Argument {
+            name: "runs",
+            form: Form::Number("K", 1, RUN_LIMIT),
+            need: Need::Always,
+            conflicts: &[],
+            help: "How many runs, drawn from N, N + 1, and so on, 1 to 10000",
+        },
+        JSON,
+    ],
+};
+
+const OUTCOMES: Row = Row {
+    name: "outcomes",
+    about: "Runs the script on standard input by drawn schedules and writes a line for each different end, and how often it came",
+    usage: "atomfs outcomes <--seed <N> --runs <K>|--add> [OPTIONS] < FILE",
+    statuses: OUTCOMES_STATUSES,
+    arguments: &[
+        Argument {
+            name: "seed",
+            form: Form::Number("N", 0, SEED_LIMIT),
+            need: Need::Unless("add"),
+            conflicts: &["add"],
+            help: "The number that the first run is drawn from, 0 to 9223372036854775807",
+        },
+        Argument {
+            name: "runs",
+            form: Form::Number("K", 1, OUTCOME_LIMIT),
+            need: Need::Unless("add"),
+            conflicts: &["add"],
+            help: "How many runs, drawn from N, N + 1, and so on, 1 to 1000000",
+        },
+        Argument {
+            name: "trees",
+            form: Form::Flag,
+            need: Need::Never,
+            conflicts: &["add"],
+            help: "Behind each line its tree",
+        },
+        Argument {
+            name: "all",
+            form: Form::Flag,
+            need: Need::Never,
+            conflicts: &[],
+            help: "The replies of all calls, not only of those that differ",
+        },
+        Argument {
+            name: "add",
+            form: Form::Flag,
+            need: Need::Never,
+            conflicts: &[],
+            help: "Reads lines that pieces of a range of numbers wrote with --all, and adds them up",
+        },
+        JSON,
+    ],
+};
+
+const FIND: Row = Row {
+    name: "find",
+    about: "Runs the script on standard input by drawn schedules up to the first run that has WHAT, and writes the script with the events of that run as its schedule",
+    usage: "atomfs find --where <WHAT> --seed <N> --runs <K> [OPTIONS] < FILE",
+    statuses: FIND_STATUSES,
+    arguments: &[
+        WHERE,
+        FIRST_SEED,
+        Argument {
+            name: "runs",
+            form: Form::Number("K", 1, SEARCH_LIMIT),
+            need: Need::Always,
+            conflicts: &[],
+            help: "The most runs, drawn from N, N + 1, and so on, 1 to 1000000",
+        },
+        JSON,
+    ],
+};
+
+const SHRINK: Row = Row {
+    name: "shrink",
+    about: "Cuts calls and words of the script on standard input while its run still has WHAT, and writes what is left",
+    usage: "atomfs shrink --where <WHAT> < FILE",
+    statuses: SHRINK_STATUSES,
+    arguments: &[WHERE],
+};
+
+const TREE: Row = Row {
+    name: "tree",
+    about: "Reads a journal on standard input, or runs a script there, and writes the tree that its commits make, or who changed what stands at a path",
+    usage: "atomfs tree [OPTIONS] < FILE",
+    statuses: TREE_STATUSES,
+    arguments: &[
+        Argument {
+            name: "at",
+            form: Form::Number("N", 0, u64::MAX),
+            need: Need::Never,
+            conflicts: &[],
+            help: "The tree behind the first N commits, in place of all",
+        },
+        Argument {
+            name: "before",
+            form: Form::Text("CALL"),
+            need: Need::Never,
+            conflicts: &["at"],
+            help: "The tree before the commit of CALL",
+        },
+        Argument {
+            name: "who",
+            form: Form::Text("PATH"),
+            need: Need::Never,
+            conflicts: &["at", "before"],
+            help: "The commit that last changed what stands at PATH, in place of a tree",
+        },
+        ROBIN,
+        SEED,
+    ],
+};
+
+const THREADS: Row = Row {
+    name: "threads",
+    about: "Runs each thread of the script on standard input on a real thread, its schedule unused, and writes `lawful calls` and their number, or a fault",
+    usage: "atomfs threads [OPTIONS] < FILE",
+    statuses: THREADS_STATUSES,
+    arguments: &[Argument {
+        name: "journal",
+        form: Form::Flag,
+        need: Need::Never,
+        conflicts: &[],
+        help: "Writes their journal in place of the line",
+    }],
+};
+
+const CHECK: Row = Row {
+    name: "check",
+    about: "Reads the journal on standard input and writes `lawful`, or the place and the kind of its first fault",
+    usage: "atomfs check [OPTIONS] < FILE",
+    statuses: CHECK_STATUSES,
+    arguments: &[JSON],
+};
+
+const LINEARIZE: Row = Row {
+    name: "linearize",
+    about: "Reads a history on standard input and writes it with its commits, a lawful journal, or the first return that nothing explains",
+    usage: "atomfs linearize [OPTIONS] < FILE",
+    statuses: LINEARIZE_STATUSES,
+    arguments: &[
+        Argument {
+            name: "front",
+            form: Form::Flag,
+            need: Need::Never,
+            conflicts: &[],
+            help: "With `none` the journal up to that return, for `atomfs draw`",
+        },
+        Argument {
+            name: "many",
+            form: Form::Flag,
+            need: Need::Never,
+            conflicts: &["front"],
+            help: "Histories one after the other, each begun by its header line: a line for each, and counts",
+        },
+        Argument {
+            name: "limit",
+            form: Form::Number("N", 1, CONFIGURATION_LIMIT),
+            need: Need::Never,
+            conflicts: &[],
+            help: "The most configurations of the search, 1 to 1000000000, or else 10000000",
+        },
+    ],
+};
+
+const TRACE: Row = Row {
+    name: "trace",
+    about: "Runs the script on standard input and writes what each event did, in words, or reads a journal there and tells its entries",
+    usage: "atomfs trace [OPTIONS] < FILE",
+    statuses: TRACE_STATUSES,
+    arguments: &[
+        ROBIN,
+        SEED,
+        Argument {
+            name: "every",
+            form: Form::Flag,
+            need: Need::Never,
+            conflicts: &[],
+            help: "A line for each event, idle turns and repeated waits among them",
+        },
+    ],
+};
+
+const DRAW: Row = Row {
+    name: "draw",
+    about: "Runs the script on standard input, or reads a journal there, and writes a picture of it: an SVG file",
+    usage: "atomfs draw [OPTIONS] < FILE > PICTURE",
+    statuses: DRAW_STATUSES,
+    arguments: &[
+        ROBIN,
+        SEED,
+        Argument {
+            name: "around",
+            form: Form::Number("CALL", 0, u64::MAX),
+            need: Need::Never,
+            conflicts: &[],
+            help: "Only the call of this number, and those that overlap it or help",
+        },
+    ],
+};
+
+const SCHEDULE: Row = Row {
+    name: "schedule",
+    about: "Runs the script on standard input and writes it again, with the events of the run as its schedule",
+    usage: "atomfs schedule <--robin|--seed <N>> < FILE",
+    statuses: SCHEDULE_STATUSES,
+    arguments: &[
+        ROBIN,
+        Argument {
+            name: "seed",
+            form: Form::Number("N", 0, u64::MAX),
+            need: Need::Unless("robin"),
+            conflicts: &["robin"],
+            help: "Threads drawn from N, 0 to 18446744073709551615, as `atomfs seeds` draws them",
+        },
+    ],
+};
+
+const EXPLAIN: Row = Row {
+    name: "explain",
+    about: "Writes what the words of a message mean, and what to write instead",
+    usage: "atomfs explain <KIND> [KIND]",
+    statuses: EXPLAIN_STATUSES,
+    arguments: &[
+        Argument {
+            name: "kind",
+            form: Form::Kind,
+            need: Need::Always,
+            conflicts: &[],
+            help: "A word of a message or a verdict",
+        },
+        Argument {
+            name: "second",
+            form: Form::SecondKind,
+            need: Need::Never,
+            conflicts: &[],
+            help: "Another one, as the second word of `BadPath TrailingSlash`",
+        },
+    ],
+};
