@@ -116,7 +116,7 @@ const RUN: Row = Row {
             form: Form::Text("TREE"),
             need: Need::Never,
             conflicts: &[],
-            help: "Starts at the tree in the file TREE: a tree text, or a journal, at whose start tree",
+            help: "Starts at the tree in the file TREE: a tree text, or the start tree of a journal",
         },
     ],
 };
@@ -323,7 +323,7 @@ const DRAW: Row = Row {
         SEED,
         Argument {
             name: "around",
-            form: Form::Number("CALL", 0, u64::MAX),
+            form: Form::Number("NUMBER", 0, u64::MAX),
             need: Need::Never,
             conflicts: &[],
             help: "Only the call of this number, and those that overlap it or help",
