@@ -211,7 +211,7 @@ class Words(Case):
             ("trace --all", misused("unexpected argument '--all' found", "trace [OPTIONS] < FILE")),
             ("trace --robin --seed 1", misused("the argument '--robin' cannot be used with '--seed <N>'", "trace [OPTIONS] < FILE")),
             ("draw --around -1", misused("unexpected argument '-1' found", "draw [OPTIONS] < FILE > PICTURE")),
-            ("draw --around x", unread("x", "--around <CALL>", "invalid digit found in string")),
+            ("draw --around x", unread("x", "--around <NUMBER>", "invalid digit found in string")),
             ("schedule", misused(f"{missing}\n  --seed <N>", "schedule <--robin|--seed <N>> < FILE")),
             ("schedule --robin --seed 1", misused("the argument '--robin' cannot be used with '--seed <N>'", "schedule <--robin|--seed <N>> < FILE")),
             ("explain", misused(f"{missing}\n  <KIND>", of_explain)),
