@@ -116,12 +116,41 @@ static const char *tree_read(const struct node *node, uint64_t offset, char *out
     return told(atomfs_read(&fs, seat, node->path, node->length, offset, out, PIECE, count, &number), node);
 }
 
+/* The names that were told, a byte 0 behind each, and the path of the last of them. */
+static char names[ATOMFS_LIST_LIMIT * 65], last[66];
+
+static uint64_t told_names(size_t length, size_t *last_length) {
+    uint64_t count = 0;
+    size_t at = 0;
+    for (size_t k = 0; k < length; k++) {
+        if (names[k] != 0) continue;
+        count++;
+        *last_length = k - at + 1;
+        memcpy(last + 1, names + at, k - at);
+        at = k + 1;
+    }
+    return count;
+}
+
+/* Lists a directory: in pieces where the limits have lists. */
 static const char *tree_entries(const struct node *node, uint64_t *count) {
-    struct atomfs_stat there;
-    const char *why = told(atomfs_stat(&fs, seat, node->path, node->length, &there, &number), node);
-    if (why == NULL && !there.is_dir) return "no directory";
-    *count = there.size;
-    return why;
+    size_t length, last_length = 1;
+    uint64_t piece_count;
+    last[0] = '/';
+    if (version != ATOMFS_V3) {
+        const char *why = told(atomfs_readdir(&fs, seat, node->path, node->length, names, sizeof names, &length, &number), node);
+        *count = why == NULL ? told_names(length, &last_length) : 0;
+        return why;
+    }
+    *count = 0;
+    do {
+        uint8_t status = atomfs_list(&fs, seat, node->path, node->length, last, last_length, ATOMFS_LIST_LIMIT, names, sizeof names, &length, &number);
+        const char *why = told(status, node);
+        if (why != NULL) return why;
+        *count += piece_count = told_names(length, &last_length);
+        calls += piece_count == ATOMFS_LIST_LIMIT;
+    } while (piece_count == ATOMFS_LIST_LIMIT);
+    return NULL;
 }
 
 static void tree_end_file(void) {}
@@ -344,7 +373,7 @@ static const struct holder *open_holder(const char *what, const char *given) {
     }
     begins_again = strcmp(what, "checkpoints") == 0 ? hand_out : strcmp(what, "forgetting") == 0 ? forget : NULL;
     version = (uint8_t)atoi(given);
-    uint8_t status = atomfs_open_with(&fs, ATOMFS_NODE_LIMIT, version);
+    uint8_t status = atomfs_open_with(&fs, version == ATOMFS_V3 ? ATOMFS_V3_NODE_LIMIT : ATOMFS_NODE_LIMIT, version);
     if (status == ATOMFS_OK) status = atomfs_seat(&fs, &seat);
     if (status) stop("a tree", atomfs_status_text(status));
     return &tree;

@@ -9,7 +9,8 @@ import re
 import sys
 import time
 
-PIECE, LEAST = 65_536, 1_000
+# How many names a call answers at most.
+PIECE, LEAST, LISTED = 65_536, 1_000, 256
 
 
 class Node:
@@ -100,8 +101,11 @@ class OfTree:
         return self.tree.read(path, offset, PIECE)
 
     def entries(self, path):
-        there = self.tree.stat(path)
-        return there.size if there.is_dir else None
+        return len(self.tree.listdir(path))
+
+    def lists_of(self, entries):
+        """By how many calls so many entries are listed."""
+        return 1 + (entries // LISTED if self.tree.limits.has_list else 0)
 
 
 class BeginningAgain(OfTree):
@@ -230,8 +234,9 @@ class Played:
         """What is wrong with a node that went in."""
         try:
             if node.is_dir:
-                self.calls += 1
-                return None if self.holder.entries(node.path) == node.held else "other entries"
+                entries = self.holder.entries(node.path)
+                self.calls += self.holder.lists_of(entries) if isinstance(self.holder, OfTree) else 1
+                return None if entries == node.held else "other entries"
             self.holder.open_file(node.path)
             is_same = self.is_same(node)
             self.holder.end()

@@ -40,8 +40,13 @@ typedef struct atomfs {
 /* A closed handle: atomfs fs = ATOMFS_INIT; */
 #define ATOMFS_INIT { 0, 0, 0 }
 
-/* The greatest limit of nodes, the number by which all calls are kept, and the first line of the journal of a tree that began empty by the limits ATOMFS_V1. */
+/* The greatest limit of nodes by the limits ATOMFS_V1 and ATOMFS_V2, and by ATOMFS_V3; the most names that a call answers, and the
+ * most bytes; the number by which all calls are kept, and the first line of the journal of a tree that began empty by the limits
+ * ATOMFS_V1. */
 #define ATOMFS_NODE_LIMIT 1048576
+#define ATOMFS_V3_NODE_LIMIT 16777216
+#define ATOMFS_LIST_LIMIT 256
+#define ATOMFS_READ_LIMIT 1048576
 #define ATOMFS_KEEP_ALL 4294967295
 #define ATOMFS_JOURNAL_HEADER "atomfs-journal 1\n"
 
@@ -57,14 +62,14 @@ enum {
     /* From here to ATOMFS_FAILED nothing has changed, but for calls that a tree by atomfs_keep has forgotten before. */
     ATOMFS_CLOSED = 4,        /* the handle is closed */
     ATOMFS_ALREADY_OPEN = 5,  /* the handle is open */
-    ATOMFS_BAD_LIMIT = 6,     /* the limit is 0, or above ATOMFS_NODE_LIMIT */
+    ATOMFS_BAD_LIMIT = 6,     /* the limit is 0, or above ATOMFS_NODE_LIMIT, by ATOMFS_V3 above ATOMFS_V3_NODE_LIMIT */
     ATOMFS_NO_MEMORY = 7,     /* out of memory */
     ATOMFS_NO_SEAT = 8,       /* there is no such seat */
     ATOMFS_SEAT_BUSY = 9,     /* the seat has a call under way */
     ATOMFS_FULL = 10,         /* the call needs a node, and all are in use; or a tree has more than there may be */
     ATOMFS_NO_REPLY = 11,     /* no call of this number has returned */
     ATOMFS_UNDER_WAY = 12,    /* a call is under way, the one of the least number is *number */
-    ATOMFS_BAD_VERSION = 13,  /* the limits are neither ATOMFS_V1 nor ATOMFS_V2 */
+    ATOMFS_BAD_VERSION = 13,  /* the limits are none of ATOMFS_V1, ATOMFS_V2 and ATOMFS_V3, or those of the tree have no such call */
     ATOMFS_NULL = 14,         /* a pointer is null, and may not be */
     ATOMFS_BAD_LENGTH = 15,   /* a length is 2^63 or more */
     /* Faults of what is read: a path, a request, a line, or a script or a journal, whose line *count is. */
@@ -84,7 +89,7 @@ enum {
     ATOMFS_PATH_NOT_ABSOLUTE = 28,   /* the first byte is no slash, or there is none */
     ATOMFS_PATH_NUL = 29,            /* there is a byte 0 */
     ATOMFS_PATH_NAME_TOO_LONG = 30,  /* a name has more bytes than the limits allow */
-    ATOMFS_PATH_TOO_MANY_NAMES = 31, /* there are more than 64 names */
+    ATOMFS_PATH_TOO_MANY_NAMES = 31, /* there are more than 64 names, by ATOMFS_V3 more than 2,048 */
     ATOMFS_PATH_DOT = 32,            /* a name is . or .. */
     ATOMFS_PATH_TRAILING_SLASH = 33, /* there is a name, and a slash at the end */
     /* Of a tool over a text. */
@@ -92,14 +97,16 @@ enum {
     ATOMFS_BAD_CHOICE = 35, /* a schedule, a number or a word is none of those that there are */
     /* The call returned with an error, which is in the journal, and the tree is as before: this and Linux's number of the
        error, as ATOMFS_FAILED + ENOENT. Errors are ENOENT, ENOTDIR, EEXIST, ENOTEMPTY, EISDIR, EINVAL, EBUSY, EPERM,
-       ENOSPC (too many entries) and EFBIG. */
+       ENOSPC (too many entries), EFBIG and EOVERFLOW (more names than a call answers). */
     ATOMFS_FAILED = 128
 };
 
-/* The limits of names and files of a tree. */
+/* The limits of names, paths, directories and files of a tree. */
 enum {
-    ATOMFS_V1 = 1, /* names of at most 32 bytes, files of at most 65,536 */
-    ATOMFS_V2 = 2  /* names of at most 64 bytes, files of at most 1,048,576 */
+    ATOMFS_V1 = 1, /* names of at most 32 bytes, paths of 64 names, directories of 256 entries, files of 65,536 bytes */
+    ATOMFS_V2 = 2, /* names of at most 64 bytes, paths of 64 names, directories of 256 entries, files of 1,048,576 bytes */
+    ATOMFS_V3 = 3  /* names of at most 64 bytes, paths of 2,048 names, directories of 1,048,576 entries, files of 2,147,483,648
+                      bytes; these alone have atomfs_list */
 };
 
 /* What a step did, and what *about is then. */
@@ -138,7 +145,8 @@ enum {
     ATOMFS_CALL_READDIR = 7,
     ATOMFS_CALL_READ = 8,
     ATOMFS_CALL_WRITE = 9,
-    ATOMFS_CALL_TRUNCATE = 10
+    ATOMFS_CALL_TRUNCATE = 10,
+    ATOMFS_CALL_LIST = 11
 };
 
 /* By which schedule a script runs. */
@@ -177,10 +185,10 @@ typedef struct atomfs_request {
     uint8_t call;           /* one of ATOMFS_CALL_ */
     const char *path;       /* the path, of a rename and an exchange the first */
     size_t length;
-    const char *other;      /* the second path of a rename and an exchange */
+    const char *other;      /* the second path of a rename and an exchange, of a list the path whose last name it begins behind */
     size_t other_length;
     uint64_t offset;        /* where a read and a write begin */
-    uint64_t size;          /* how many bytes a read asks for, how many a truncate leaves */
+    uint64_t size;          /* how many bytes a read asks for, how many a truncate leaves, how many names a list asks for */
     const void *bytes;      /* the bytes of a write */
     size_t bytes_length;
 } atomfs_request;
@@ -191,7 +199,7 @@ typedef struct atomfs_request {
  * OK, ALREADY_OPEN, BAD_LIMIT, NO_MEMORY. By an error the handle stays as it was. */
 uint8_t atomfs_open(atomfs *fs, size_t limit);
 
-/* The same by the limits of a version, ATOMFS_V1 or ATOMFS_V2. Paths, lines and files of the tree are bounded by them, and its
+/* The same by the limits of a version, ATOMFS_V1, ATOMFS_V2 or ATOMFS_V3. Paths, lines and files of the tree are bounded by them, and its
  * journal is of their version. OK, ALREADY_OPEN, BAD_LIMIT, BAD_VERSION, NO_MEMORY. By an error the handle stays as it was. */
 uint8_t atomfs_open_with(atomfs *fs, size_t limit, uint8_t version);
 
@@ -246,13 +254,23 @@ uint8_t atomfs_exchange(atomfs *fs, uint64_t seat, const char *path, size_t leng
 /* Tells what stands at a path. At OK *stat is written. */
 uint8_t atomfs_stat(atomfs *fs, uint64_t seat, const char *path, size_t length, struct atomfs_stat *stat, uint64_t *number);
 
-/* Tells all names of a directory, in byte order, a byte 0 behind each: *count bytes with these.
+/* Tells all names of a directory, in byte order, a byte 0 behind each: *count bytes with these. Where there are more than
+ * ATOMFS_LIST_LIMIT, as by ATOMFS_V3 alone, ATOMFS_FAILED + EOVERFLOW: atomfs_list tells them in pieces.
  * TOO_SMALL and UNTOLD too, where the call has returned all the same, and atomfs_reply_names tells its names, as many at a
  * time as there is room for. */
 uint8_t atomfs_readdir(atomfs *fs, uint64_t seat, const char *path, size_t length, char *out, size_t room, size_t *count,
                        uint64_t *number);
 
-/* Reads as many bytes of a file from an offset on as out has room for, or as there are: *count bytes. */
+/* Tells names of a directory, in byte order, a byte 0 behind each: *count bytes with these. Of those above the last name of the
+ * path after, whatever stands there, or of all, where after is the root, it tells the first, at most most and at most
+ * ATOMFS_LIST_LIMIT; none where there are no more. The next piece begins behind a path that ends with the last of them.
+ * BAD_VERSION, where the tree is of other limits than ATOMFS_V3, which is looked at behind NO_SEAT and BAD_PATH and before all
+ * others; TOO_SMALL and UNTOLD, as atomfs_readdir. */
+uint8_t atomfs_list(atomfs *fs, uint64_t seat, const char *path, size_t length, const char *after, size_t after_length,
+                    uint64_t most, char *out, size_t room, size_t *count, uint64_t *number);
+
+/* Reads as many bytes of a file from an offset on as out has room for, or as there are, and at most ATOMFS_READ_LIMIT: *count
+ * bytes. */
 uint8_t atomfs_read(atomfs *fs, uint64_t seat, const char *path, size_t length, uint64_t offset, void *out, size_t room,
                     size_t *count, uint64_t *number);
 
@@ -271,7 +289,7 @@ uint8_t atomfs_truncate(atomfs *fs, uint64_t seat, const char *path, size_t leng
  * WAITS, where its first call is under way on the seat: once atomfs_step has brought that to its return, ask again.
  * CLOSED, NO_SEAT, SEAT_BUSY and BAD_PATH, where no call was made; NO_MEMORY, by which alone something half-done can stay. */
 
-/* Reads all bytes of a file, by stat and read. OK, TOO_SMALL, ATOMFS_FAILED + an error. */
+/* Reads all bytes of a file, by stat and reads. OK, TOO_SMALL, ATOMFS_FAILED + an error. */
 uint8_t atomfs_read_file(atomfs *fs, uint64_t seat, const char *path, size_t length, void *out, size_t room,
                          size_t *count);
 
@@ -288,7 +306,7 @@ uint8_t atomfs_mkdirs(atomfs *fs, uint64_t seat, const char *path, size_t length
 /* ---- Calls step by step */
 
 /* Begins the call of a request. *number is its number.
- * OK, CLOSED, NO_SEAT, SEAT_BUSY, FULL, NO_MEMORY, BAD_PATH, BAD_LINE. By an error nothing has changed. */
+ * OK, CLOSED, NO_SEAT, SEAT_BUSY, FULL, NO_MEMORY, BAD_PATH, BAD_LINE; BAD_VERSION, as atomfs_list. By an error nothing has changed. */
 uint8_t atomfs_begin_call(atomfs *fs, uint64_t seat, const atomfs_request *request, uint64_t *number);
 
 /* Does one step of the call on a seat. *did is one of ATOMFS_DID_, and *about what it speaks of.
@@ -314,7 +332,7 @@ uint8_t atomfs_reply_done(atomfs *fs, uint64_t number);
 /* Tells the reply of a stat. */
 uint8_t atomfs_reply_stat(atomfs *fs, uint64_t number, struct atomfs_stat *stat);
 
-/* Tells the names of a readdir that come behind the name after, in byte order, a byte 0 behind each: as many whole ones as
+/* Tells the names of a readdir or a list that come behind the name after, in byte order, a byte 0 behind each: as many whole ones as
  * out has room for. All names come behind the one of length 0. At OK *count is the length of those told, 0 where there
  * are no more; the last of them is where the next piece begins. TOO_SMALL, where out has no room for the first of them,
  * which needs *count bytes; UNTOLD for want of memory too. */
@@ -485,6 +503,8 @@ uint8_t atomfs_shared_stat(atomfs_session *session, const char *path, size_t len
                            uint64_t *number);
 uint8_t atomfs_shared_readdir(atomfs_session *session, const char *path, size_t length, char *out, size_t room,
                               size_t *count, uint64_t *number);
+uint8_t atomfs_shared_list(atomfs_session *session, const char *path, size_t length, const char *after,
+                           size_t after_length, uint64_t most, char *out, size_t room, size_t *count, uint64_t *number);
 uint8_t atomfs_shared_read(atomfs_session *session, const char *path, size_t length, uint64_t offset, void *out,
                            size_t room, size_t *count, uint64_t *number);
 uint8_t atomfs_shared_write(atomfs_session *session, const char *path, size_t length, uint64_t offset, const void *bytes,
@@ -493,8 +513,8 @@ uint8_t atomfs_shared_truncate(atomfs_session *session, const char *path, size_t
 
 /* ---- Paths, without a handle */
 
-/* Says whether bytes are a path by the limits of a version, ATOMFS_V1 or ATOMFS_V2, and else why not: the first check that they
- * fail, as where another function answers BAD_PATH.
+/* Says whether bytes are a path by the limits of a version, as ATOMFS_V1, and else why not: the first check that they fail, as
+ * where another function answers BAD_PATH.
  * OK, PATH_NOT_ABSOLUTE, PATH_NUL, PATH_NAME_TOO_LONG, PATH_TOO_MANY_NAMES, PATH_DOT, PATH_TRAILING_SLASH, BAD_VERSION,
  * NO_MEMORY. */
 uint8_t atomfs_check_path(const char *path, size_t length, uint8_t version);

@@ -21,6 +21,8 @@ uint8_t PROVED(rename)(atomfs *, uint64_t, const char *, size_t, const char *, s
 uint8_t PROVED(exchange)(atomfs *, uint64_t, const char *, size_t, const char *, size_t, uint64_t *);
 uint8_t PROVED(stat)(atomfs *, uint64_t, const char *, size_t, struct atomfs_stat *, uint64_t *);
 uint8_t PROVED(readdir)(atomfs *, uint64_t, const char *, size_t, char *, size_t, size_t *, uint64_t *);
+uint8_t PROVED(list)(atomfs *, uint64_t, const char *, size_t, const char *, size_t, uint64_t, char *, size_t, size_t *,
+                     uint64_t *);
 uint8_t PROVED(read)(atomfs *, uint64_t, const char *, size_t, uint64_t, void *, size_t, size_t *, uint64_t *);
 uint8_t PROVED(write)(atomfs *, uint64_t, const char *, size_t, uint64_t, const void *, size_t, uint64_t *, uint64_t *);
 uint8_t PROVED(truncate)(atomfs *, uint64_t, const char *, size_t, uint64_t, uint64_t *);
@@ -159,6 +161,15 @@ uint8_t atomfs_stat(atomfs *fs, uint64_t seat, const char *path, size_t length, 
 CALL_AND_TELL(readdir)
 CALL_AND_TELL(call)
 
+uint8_t atomfs_list(atomfs *fs, uint64_t seat, const char *path, size_t length, const char *after, size_t after_length,
+                    uint64_t most, char *out, size_t room, size_t *count, uint64_t *number) {
+    uint8_t status;
+    if (refused(status = may_call_with(fs, path, length, after, after_length))) return status;
+    if (refused(status = may_tell(fs, out, room, count))) return status;
+    return PROVED(list)(fs, seat, from(path), length, from(after), after_length, most, into(out), room, count,
+                        NUMBER_TO(number));
+}
+
 uint8_t atomfs_read(atomfs *fs, uint64_t seat, const char *path, size_t length, uint64_t offset, void *out, size_t room,
                     size_t *count, uint64_t *number) {
     uint8_t status = may_call_and_tell(fs, path, length, out, room, count);
@@ -183,7 +194,8 @@ uint8_t atomfs_begin_call(atomfs *fs, uint64_t seat, const atomfs_request *reque
     uint8_t status;
     if (refused(status = there(request))) return status;
     if (refused(status = may_call(fs, request->path, request->length))) return status;
-    int on_both = request->call == ATOMFS_CALL_RENAME || request->call == ATOMFS_CALL_EXCHANGE;
+    int on_both = request->call == ATOMFS_CALL_RENAME || request->call == ATOMFS_CALL_EXCHANGE ||
+                  request->call == ATOMFS_CALL_LIST;
     int writes = request->call == ATOMFS_CALL_WRITE;
     const char *other = on_both ? request->other : NULL;
     size_t other_length = on_both ? request->other_length : 0;
@@ -351,6 +363,7 @@ const char *atomfs_errno_name(uint8_t status) {
     case 27: return "EFBIG";
     case 28: return "ENOSPC";
     case 39: return "ENOTEMPTY";
+    case 75: return "EOVERFLOW";
     default: return NULL;
     }
 }
@@ -364,9 +377,10 @@ static const char *failed_text(uint8_t status) {
     case 20: return "not a directory (ENOTDIR)";
     case 21: return "a directory, where a file is needed (EISDIR)";
     case 22: return "a directory cannot be moved below itself (EINVAL)";
-    case 27: return "the file would have more than 65,536 bytes, or than 1,048,576 by the second limits (EFBIG)";
-    case 28: return "the directory has 256 entries, and no more may be made in it (ENOSPC)";
+    case 27: return "the file would have more than 65,536 bytes, 1,048,576 by the second limits or 2,147,483,648 by the third (EFBIG)";
+    case 28: return "the directory has 256 entries, or 1,048,576 by the third limits, and no more may be made in it (ENOSPC)";
     case 39: return "the directory is not empty (ENOTEMPTY)";
+    case 75: return "the directory has more names than a call answers, which are 256 (EOVERFLOW)";
     default: return "no status of this library";
     }
 }
@@ -386,7 +400,7 @@ const char *atomfs_status_text(uint8_t status) {
     case ATOMFS_FULL: return "all nodes are in use";
     case ATOMFS_NO_REPLY: return "no call of this number has returned";
     case ATOMFS_UNDER_WAY: return "a call is under way";
-    case ATOMFS_BAD_VERSION: return "no limits have this version";
+    case ATOMFS_BAD_VERSION: return "no limits have this version, or those of the tree have no such call";
     case ATOMFS_NULL: return "a pointer is null";
     case ATOMFS_BAD_LENGTH: return "a length is 2^63 or more";
     case ATOMFS_BAD_HEADER: return "the first line is another than it has to be";
@@ -404,7 +418,7 @@ const char *atomfs_status_text(uint8_t status) {
     case ATOMFS_PATH_NOT_ABSOLUTE: return "the path does not begin with a slash";
     case ATOMFS_PATH_NUL: return "the path has a byte 0";
     case ATOMFS_PATH_NAME_TOO_LONG: return "a name of the path is too long";
-    case ATOMFS_PATH_TOO_MANY_NAMES: return "the path has more than 64 names";
+    case ATOMFS_PATH_TOO_MANY_NAMES: return "the path has more than 64 names, or than 2,048 by the third limits";
     case ATOMFS_PATH_DOT: return "a name of the path is . or ..";
     case ATOMFS_PATH_TRAILING_SLASH: return "the path ends with a slash";
     case ATOMFS_NO_CALL: return "no call has this number";

@@ -16,7 +16,14 @@ uint8_t atomfs_read_file(atomfs *fs, uint64_t seat, const char *path, size_t len
         *count = (size_t)found.size;
         return ATOMFS_TOO_SMALL;
     }
-    return atomfs_read(fs, seat, path, length, 0, out, room, count, NULL);
+    size_t done = 0, more = 0;
+    do {
+        void *next = done == 0 ? out : (char *)out + done;
+        if (refused(status = atomfs_read(fs, seat, path, length, done, next, room - done, &more, NULL))) return status;
+        done += more;
+    } while (more > 0 && done < found.size);
+    *count = done;
+    return ATOMFS_OK;
 }
 
 /* What a file that is there had beyond the bytes is cut only once these are written, so that an error leaves it as it was. */

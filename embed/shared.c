@@ -9,8 +9,8 @@
 #include <pthread.h>
 #include <stdlib.h>
 
-/* Names of a directory take no more bytes, each with its byte 0. */
-enum { MOST_NAMES = 256 * 65, MOST_NAME = 64, SOME_NAMES = 2048 };
+/* The names of a reply take no more bytes, each with its byte 0. */
+enum { MOST_NAMES = ATOMFS_LIST_LIMIT * 65, MOST_NAME = 64, SOME_NAMES = 2048 };
 
 struct atomfs_session {
     atomfs_shared *shared;
@@ -328,14 +328,27 @@ static uint8_t tell_names(atomfs *fs, uint64_t number, char *out, size_t room, s
     return atomfs_reply_names(fs, number, NULL, 0, out, room, count);
 }
 
+/* Makes a call that replies names, and tells them. */
+static uint8_t names(atomfs_session *session, const atomfs_request *request, char *out, size_t room, size_t *count,
+                     uint64_t *number) {
+    uint8_t status;
+    if (refused(status = may_tell(session, out, room, count))) return status;
+    if (refused(status = returned(session, request, number))) return status;
+    return told(session, tell_names(&session->shared->fs, *number, out, room, count));
+}
+
 uint8_t atomfs_shared_readdir(atomfs_session *session, const char *path, size_t length, char *out, size_t room,
                               size_t *count, uint64_t *number) {
     atomfs_request request = { .call = ATOMFS_CALL_READDIR, .path = path, .length = length };
-    uint8_t status;
-    if (refused(status = may_tell(session, out, room, count))) return status;
-    number = NUMBER_TO(number);
-    if (refused(status = returned(session, &request, number))) return status;
-    return told(session, tell_names(&session->shared->fs, *number, out, room, count));
+    return names(session, &request, out, room, count, NUMBER_TO(number));
+}
+
+uint8_t atomfs_shared_list(atomfs_session *session, const char *path, size_t length, const char *after,
+                           size_t after_length, uint64_t most, char *out, size_t room, size_t *count, uint64_t *number) {
+    atomfs_request request = { .call = ATOMFS_CALL_LIST, .path = path, .length = length, .size = most };
+    request.other = after;
+    request.other_length = after_length;
+    return names(session, &request, out, room, count, NUMBER_TO(number));
 }
 
 uint8_t atomfs_shared_read(atomfs_session *session, const char *path, size_t length, uint64_t offset, void *out,

@@ -144,6 +144,7 @@ class Library:
             **{name: [handle, number, *text, *text, numbers] for name in ("rename", "exchange")},
             "stat": [handle, number, *text, ctypes.POINTER(Stat), numbers],
             "readdir": [handle, number, *text, *told, numbers],
+            "list": [handle, number, *text, *text, number, *told, numbers],
             "read": [handle, number, *text, number, *told, numbers],
             "write": [handle, number, *text, number, *text, numbers, numbers],
             "truncate": [handle, number, *text, number, numbers],
@@ -287,8 +288,16 @@ class Tree:
 
     def readdir(self, seat, path, room=1024):
         """The names of a directory. The call is made once: where they have no room, the others are asked for behind the last one."""
+        return self.names(self.library.atomfs_readdir, seat, path, len(path), room=room)
+
+    def list(self, seat, path, after, most, room=1024):
+        """Names of a directory above the last one of a path, at most so many."""
+        return self.names(self.library.atomfs_list, seat, path, len(path), after, len(after), most, room=room)
+
+    def names(self, function, *given, room):
+        """The names that a call replies."""
         out, count, number = ctypes.create_string_buffer(room), ctypes.c_size_t(), ctypes.c_uint64()
-        status = self.library.atomfs_readdir(self.handle, seat, path, len(path), out, room, count, number)
+        status = function(self.handle, *given, out, room, count, number)
         if status == Status.OK:
             return out.raw[: count.value].split(b"\0")[:-1]
         if status not in (Status.TOO_SMALL, Status.UNTOLD):

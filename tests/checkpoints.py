@@ -121,7 +121,7 @@ def deep():
 
 def full():
     """A directory with as many entries as it may have, and a file with as many bytes."""
-    return [[f"mknod /f{number}" for number in range(model.ENTRIES)] + [f"truncate /f9 {model.BYTES[1]}"], ["mknod /g", "stat /f9", "write /f9 65535 ff"]]
+    return [[f"mknod /f{number}" for number in range(model.ENTRIES[1])] + [f"truncate /f9 {model.BYTES[1]}"], ["mknod /g", "stat /f9", "write /f9 65535 ff"]]
 
 
 class Checkpoints(harness.Case):

@@ -2,7 +2,7 @@
 
 A paragraph is a row. Its comment is its name; the lines below it are asked in order, and each has its answer behind ` -> `, or indented under it.
 
-    open LIMIT SEATS    opens a tree for so many nodes, with so many seats
+    open LIMIT SEATS    opens a tree for so many nodes, with so many seats; a number behind these is the version of its limits
     SEAT CALL           begins a call on a seat
     SEAT                does a step of a seat; `SEAT end` does the steps up to the return
     run SEAT CALL       runs a call from its begin to its return; `CALL` alone does so on the first seat
@@ -27,7 +27,7 @@ from atomfs import Did, Status
 MOST_NODES = 1_048_576
 # The calls of a paragraph have fewer steps together.
 MOST_STEPS = 1_000
-CALLS = ("mkdir", "mknod", "unlink", "rmdir", "rename", "exchange", "stat", "readdir", "read", "write", "truncate")
+CALLS = ("mkdir", "mknod", "unlink", "rmdir", "rename", "exchange", "stat", "readdir", "list", "read", "write", "truncate")
 # What a step did, and whether that is about a node or a call. Else the number that is told is 0.
 STEPS = {
     Did.IDLE: ("idle", False),
@@ -151,8 +151,9 @@ class Stage:
         replies = [self.ran(0, call.replace("#", str(number)))[1] for number in range(int(count)) for call in calls.split("; ")]
         return f"{replies.count('ok')} ok"
 
-    def on_open(self, limit, seats):
-        self.tree, self.seats = atomfs.Tree(harness.library(), int(limit)), int(seats)
+    def on_open(self, limit, rest):
+        self.seats, version = (*map(int, rest.split(" ")), 1)[:2]
+        self.tree = atomfs.Tree(harness.library(), int(limit), version)
         numbers = [self.tree.seat() for _ in range(self.seats)]
         return "" if numbers == list(range(self.seats)) else f"seats {numbers}"
 

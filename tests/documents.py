@@ -97,7 +97,7 @@ def number(text):
 # What stands for a word in a line or a command of a page, and the words that are put there.
 FILLED = {
     **{"PATH": ("/a", "/b"), "NUMBER": ("1", "2"), "HEX": ("6869",), "ERRNO": ("ENOENT",)},
-    **{"p": ("/a",), "q": ("/b",), "offset": ("1",), "count": ("2",), "bytes": ("6869",), "size": ("1",)},
+    **{"p": ("/a",), "q": ("/b",), "after": ("/b",), "offset": ("1",), "count": ("2",), "bytes": ("6869",), "size": ("1",)},
     **{"N": ("7",), "K": ("3",), "KIND": ("TrailingSlash",), "WHAT": ("'not helped m#3'",)},
 }
 
@@ -460,12 +460,12 @@ class Grammar(Page):
         shown = [span for row in table(FORMATS, "Line", "The words behind the first") for span in spans(row[0])]
         also = [call for row in table(SPECIFICATION, "Call", "Errors, in order", "Else") for call in row[0].split(", ")]
         self.each(((line, filled(line)) for line in (*shown, *also)), self.look_at_call)
-        names = re.findall(r"^    (\w+)\(", body_of("fs_calls/src/call.rt", "Call"), re.M)
-        for calls in (shown, also):
-            self.agrees(calls, sorted(call.split(" ")[0] for call in calls), sorted(map(str.lower, names)))
+        for lines in (shown, also):
+            self.agrees(lines, sorted(call.split(" ")[0] for call in lines), sorted(calls()))
 
     def look_at_call(self, call):
-        given = text_of("atomfs 1", "thread t", call, "schedule", "finish")
+        """By the third limits, which have every call."""
+        given = text_of("atomfs 3", "thread t", call, "schedule", "finish")
         self.same(given, model.begun(run(given, "run").output.decode()), {0: [call]})
 
     def test_replies(self):
@@ -851,9 +851,13 @@ def beside():
     return [*crates, *files]
 
 
+# The words of calls that are others than their names as constructors.
+WORDS = {"ListAfter": "list"}
+
+
 def calls():
     """The calls by their words, with their names as constructors."""
-    return {name.lower(): name for name in re.findall(r"^    (\w+)\(", body_of("fs_calls/src/call.rt", "Call"), re.M)}
+    return {WORDS.get(name, name.lower()): name for name in re.findall(r"^    (\w+)\(", body_of("fs_calls/src/call.rt", "Call"), re.M)}
 
 
 @functools.cache
@@ -867,7 +871,7 @@ def naming_call(call):
 
 
 def limits():
-    """The limits by their constants, and those that each set of limits has, which are two numbers each."""
+    """The limits by their constants, and those that each set of limits has, which are three numbers each."""
     of_texts = "fs_words/src/limits.rt", "fs_script/src/limits.rt", "fs_sched/src/schedule.rt", "fs_sched/src/seeding.rt"
     of_searches = "fs_outcomes/src/running.rt", "fs_find/src/finding.rt", "fs_shrink/src/limits.rt", "fs_recorded/src/linearizing.rt"
     found = {name: [value] for file in ("fs_names/src/limits.rt", *of_texts, *of_searches) for name, value in constants(file).items()}
@@ -900,7 +904,8 @@ class Touched(Sentences):
         *(("PATH_LIMIT", file) for file in ("crates/fs_walk/src/walk.rt", "crates/fs_names/specs/Keys.antt", "tests/data/explained/TooManyNames")),
         *(("path_limit", file) for file in ("crates/fs_names/specs/Reading.antt", "crates/fs_text/specs/Fits.antt", "tests/data/explained/TooManyNames")),
         *(("entry_limit", file) for file in ("crates/fs_calls/specs/Forms.antt", "crates/fs_calls/specs/Examples.antt", "crates/fs_seq/specs/Rows.antt", "tests/data/transcripts/trees")),
-        *(("NODE_LIMIT", file) for file in ("crates/fs_nodes/src/store.rt", "crates/fs_laws/specs/Events.antt", "embed/atomfs.h", "docs/SPECIFICATION.md")),
+        *(("NODE_LIMIT", file) for file in ("crates/fs_nodes/src/store.rt", "crates/fs_names/specs/Limits.antt", "embed/atomfs.h", "docs/SPECIFICATION.md")),
+        *(("node_limit", file) for file in ("crates/fs_laws/specs/Events.antt", "tests/core.py", "bindings/rust/src/limits.rs")),
         *(("TEXT_LIMIT", file) for file in ("crates/fs_io/specs/Devices.antt", "crates/fs_words/proofs/ReadLemmas.antt", "docs/FORMATS.md", "tests/data/explained/TooLarge")),
         *(("file_limit", file) for file in ("crates/fs_names/specs/Limits.antt", "crates/fs_calls/specs/Examples.antt", "tests/data/transcripts/trees", "embed/atomfs.h")),
     )
@@ -961,7 +966,7 @@ class Guarantees(Sentences):
 
     PAGE = DOCS / "GUARANTEES.md"
     # How many wrong bodies stand in all crates at most, in one at most, and in one that has some at least.
-    MOST_EDITS, MOST_OF_A_CRATE, LEAST_OF_A_CRATE = 40, 9, 3
+    MOST_EDITS, MOST_OF_A_CRATE, LEAST_OF_A_CRATE = 43, 9, 3
 
     def test_promises(self):
         """Each crate of the product has a row, with functions and clauses of it."""
@@ -1063,7 +1068,7 @@ class Listed(Page):
     def test_numbers_of_errors(self):
         """The numbers of errors, and of the kinds of a verdict."""
         cells = [cell for row in table(SPECIFICATION, "Number", "Error", "Number", "Error") for cell in row]
-        errors = sorted((int(value), error) for value, error in zip(cells[::2], cells[1::2]))
+        errors = sorted((int(value), error) for value, error in zip(cells[::2], cells[1::2]) if value)
         self.agrees("errors", errors, [(value, error.upper()) for value, error in variants("fs_calls/src/errno.rt", "Errno")])
         kinds = [(int(value), spans(kind)[0]) for value, kind, _ in table(SPECIFICATION, "Number", "Kind", "What is wrong")]
         self.agrees("kinds", kinds, variants("fs_timeline/src/verdict.rt", "FaultKind"))
@@ -1092,17 +1097,28 @@ class Numbers(Sentences):
     """Numbers in sentences and tables of pages, and where else they stand."""
 
     def test_limits_of_trees(self):
-        rows = {spans(name)[0]: (first, second) for _, first, second, name in table(SPECIFICATION, "What", "`V1`", "`V2`", "Named by")}
-        named = {"path_names": "path_limit", "name": "name_limit", "entries": "entry_limit", "file": "file_limit", "nodes": "node_limit"}
+        rows = {spans(name)[0]: sets for _, *sets, name in table(SPECIFICATION, "What", "`V1`", "`V2`", "`V3`", "Named by")}
+        named = {"path_names": "path_limit", "name": "name_limit", "entries": "entry_limit", "file": "file_limit", "read": "read_limit", "nodes": "node_limit"}
         told = {limit: [*map(number, rows[f"Limits::{what}"])] for what, limit in named.items()}
-        self.agrees("the two sets of limits", told, harness.limits_of_sets())
-        (path, deeper), (name, longer), (fewer, entries), (file, larger), (least, nodes) = told.values()
-        self.agrees("what each set has room for", {"PATH_LIMIT": max(path, deeper), "NODE_LIMIT": max(least, nodes)}, constants("fs_names/src/limits.rt"))
-        self.says(README, f"names of {longer} bytes, files of {larger:,}, {entries} entries in a directory, paths of {deeper} names, {nodes:,} nodes")
-        self.says(README, f"Scripts `atomfs 1` and `atomfs_open` have names of {name} bytes and files of {file:,}")
-        self.says(CHOOSING, f"{entries} entries in a directory, {larger:,} bytes in a file, {longer} in a name")
+        self.agrees("the sets of limits", told, harness.limits_of_sets())
+        names, reads = constants("fs_names/src/limits.rt")["LIST_LIMIT"], told["read_limit"]
+        rooms = {"PATH_LIMIT": max(told["path_limit"]), "NODE_LIMIT": max(told["node_limit"]), "LIST_LIMIT": names}
+        self.agrees("what each set has room for", rooms, constants("fs_names/src/limits.rt"))
+        first, second, third = ({what: sets[at] for what, sets in told.items()} for at in range(3))
+        self.says(SPECIFICATION, f"No call answers more than {names} names")
+        self.says(SPECIFICATION, f"A **path** is a key of at most {third['path_limit']:,} names")
+        told_of = f"{second['entry_limit']} entries in a directory, paths of {second['path_limit']} names, {second['node_limit']:,} nodes"
+        self.says(README, f"names of {second['name_limit']} bytes, files of {second['file_limit']:,}, {told_of}")
+        told_of = f"files of {third['file_limit']:,}, {third['entry_limit']:,} entries, {third['path_limit']:,} names, {third['node_limit']:,} nodes"
+        self.says(README, f"by `atomfs 3`, `Limits.V3` {told_of}")
+        self.says(README, f"by the first (`atomfs 1`, `atomfs_open`) names of {first['name_limit']}, files of {first['file_limit']:,}")
+        told_of = f"{second['file_limit']:,} bytes in a file, {second['name_limit']} in a name"
+        self.says(CHOOSING, f"{second['entry_limit']} entries in a directory, {told_of}")
+        self.says(CHOOSING, f"{third['entry_limit']:,} entries and {third['file_limit']:,} bytes")
         header = (ROOT / "embed" / "atomfs.h").read_text()
-        self.agrees("embed/atomfs.h", [number(re.search("#define ATOMFS_NODE_LIMIT (.*)", header)[1])] * 2, [least, nodes])
+        nodes = {f"ATOMFS{which}_NODE_LIMIT": sets["node_limit"] for which, sets in (("", first), ("", second), ("_V3", third))}
+        due = {**nodes, "ATOMFS_LIST_LIMIT": names, "ATOMFS_READ_LIMIT": max(reads)}
+        self.agrees("embed/atomfs.h", {name: number(re.search(f"#define {name} (.*)", header)[1]) for name in due}, due)
 
     def test_limits_of_texts(self):
         texts, scripts, nodes = constants("fs_words/src/limits.rt"), constants("fs_script/src/limits.rt"), limits()["node_limit"][1]

@@ -9,6 +9,8 @@ HIGH = [1] * 14 + [2] * 4 + [3] * 2
 MOVING = {"rename": 40, "mkdir": 16, "mknod": 10, "stat": 6, "write": 6, "unlink": 5, "rmdir": 5, "readdir": 4, "read": 4, "truncate": 4}
 EXCHANGING = {**MOVING, "rename": 8, "exchange": 32}
 CROWDED = {"mkdir": 22, "rename": 16, "exchange": 6, "mknod": 10, "write": 9, "stat": 8, "readdir": 7, "rmdir": 6, "read": 6, "unlink": 5, "truncate": 5}
+# Of the third limits, whose calls are drawn by themselves.
+LISTING = {"list": 24, "mkdir": 16, "mknod": 16, "rename": 12, "exchange": 5, "write": 5, "stat": 5, "readdir": 5, "rmdir": 4, "read": 3, "unlink": 4, "truncate": 2}
 HELPED = {"rename": 28, "exchange": 12, "write": 20, "truncate": 10, "unlink": 14, "above": 8, "mknod": 4, "rmdir": 4}
 # The directories of a tree for moving calls, those above before those below. The last ones, /b and those below it, are mostly left out.
 DIRECTORIES = "/a /a/a /a/b /a/a/a /a/a/b /a/b/a /a/b/b /b /b/a /b/b /b/a/a /b/a/b /b/b/a /b/b/b".split()
@@ -150,7 +152,32 @@ def crowded(draw):
     return [[crowded_call(draw) for _ in range(draw.randrange(1, most))] for _ in range(draw.randint(2, 16))]
 
 
-def script(threads, schedule="finish"):
+def listing_call(draw):
+    """Any call of the third limits, over three names, at most four deep; of those that are listed some above a name, of a path of one or more."""
+    chosen = kind(draw, LISTING)
+    first = f"{chosen} {crowded_path(draw)}"
+    match chosen:
+        case "list":
+            path = draw.choice(("/", first.split(" ")[1]))
+            return f"list {path} {draw.choice(('/', '/a', '/b', crowded_path(draw)))} {draw.choice((0, 1, 1, 2, 3, 256, 257))}"
+        case "rename" | "exchange":
+            return f"{first} {crowded_path(draw)}"
+        case "read":
+            return f"{first} {draw.randrange(40)} {draw.choice((3, 40, 1_048_577))}"
+        case "write":
+            return f"{first} {draw.choice((0, 3, 30, 2_147_483_647))} {draw.randbytes(draw.randrange(2, 12)).hex()}"
+        case "truncate":
+            return f"{first} {draw.choice((0, 5, 50, 2_147_483_649))}"
+        case _:
+            return first
+
+
+def listing(draw):
+    """Two to six threads of a few calls by the third limits."""
+    return [[listing_call(draw) for _ in range(draw.randint(3, 12))] for _ in range(draw.randint(2, 6))]
+
+
+def script(threads, schedule="finish", version=1):
     """The script of some threads: t0, t1, t2 and so on."""
     blocks = "".join(f"thread t{number}\n" + "".join(f"{line}\n" for line in calls) for number, calls in enumerate(threads))
-    return f"atomfs 1\n{blocks}schedule\n{schedule}\n"
+    return f"atomfs {version}\n{blocks}schedule\n{schedule}\n"

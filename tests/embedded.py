@@ -184,12 +184,12 @@ class Progress(harness.Case):
 
 
 class Paths(harness.Case):
-    """`atomfs_check_path` says of drawn bytes what tests/grammar.py says, by both limits; and a call on them is refused for its path exactly where it does."""
+    """`atomfs_check_path` says of drawn bytes what tests/grammar.py says, by each set of limits; and a call on them is refused for its path exactly where it does."""
 
     def look(self, number):
         draw = random.Random(number)
         path = b"".join(draw.choice(PIECES) for _ in range(draw.randrange(1, 6)))
-        for version, limits in ((1, grammar.V1), (2, grammar.V2)):
+        for version, limits in ((1, grammar.V1), (2, grammar.V2), (3, grammar.V3)):
             try:
                 grammar.path(path, limits)
                 wanted = atomfs.Status.OK

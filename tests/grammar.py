@@ -6,15 +6,15 @@ import collections
 import re
 
 LENGTH, THREADS, CALLS, EVENTS = 16_777_216, 256, 65_536, 1_000_000
-ENTRIES, PATH_NAMES, GREATEST = 256, 64, 2**64 - 1
+GREATEST = 2**64 - 1
 
-Limits = collections.namedtuple("Limits", "name_bytes file_bytes")
-V1, V2 = Limits(32, 65_536), Limits(64, 1_048_576)
-SCRIPTS = {b"atomfs 1": V1, b"atomfs 2": V2}
-JOURNALS = {b"atomfs-journal 1": V1, b"atomfs-journal 2": V1, b"atomfs-journal 3": V2}
+Limits = collections.namedtuple("Limits", "path_names name_bytes entries file_bytes has_list")
+V1, V2, V3 = Limits(64, 32, 256, 65_536, False), Limits(64, 64, 256, 1_048_576, False), Limits(2_048, 64, 1_048_576, 2_147_483_648, True)
+SCRIPTS = {b"atomfs 1": V1, b"atomfs 2": V2, b"atomfs 3": V3}
+JOURNALS = {b"atomfs-journal 1": V1, b"atomfs-journal 2": V1, b"atomfs-journal 3": V2, b"atomfs-journal 4": V3}
 
 CHECKPOINT = b"!checkpoint"
-ERRORS = ("ENOENT", "ENOTDIR", "EEXIST", "ENOTEMPTY", "EISDIR", "EINVAL", "EBUSY", "EPERM", "ENOSPC", "EFBIG")
+ERRORS = ("ENOENT", "ENOTDIR", "EEXIST", "ENOTEMPTY", "EISDIR", "EINVAL", "EBUSY", "EPERM", "ENOSPC", "EFBIG", "EOVERFLOW")
 
 
 class Fault(Exception):
@@ -62,7 +62,7 @@ def path(word, limits):
         raise Fault("BadPath Nul")
     names = [name for name in given.split(b"/") if name]
     for place, name in enumerate(names):
-        if place == PATH_NAMES:
+        if place == limits.path_names:
             raise Fault("BadPath TooManyNames")
         if len(name) > limits.name_bytes:
             raise Fault("BadPath NameTooLong")
@@ -100,6 +100,7 @@ CALL_FORMS = forms(
     *("mkdir PATH", "mknod PATH", "unlink PATH", "rmdir PATH", "rename PATH PATH", "exchange PATH PATH"),
     *("stat PATH", "readdir PATH", "read PATH NUMBER NUMBER", "write PATH NUMBER HEX", "truncate PATH NUMBER"),
 )
+LIST_FORM = forms("list PATH PATH NUMBER")
 REPLY_FORMS = forms("ok", "stat dir NUMBER", "stat file NUMBER", "bytes HEX", "wrote NUMBER", "failed ERRNO")
 
 
@@ -124,8 +125,13 @@ def room(left, more):
     return left - more
 
 
+def call_readers(words, limits):
+    """The readers of the words of a call: only texts of some limits have the call that lists a directory in pieces."""
+    return readers_of(words, CALL_FORMS | LIST_FORM if limits.has_list else CALL_FORMS, "BadLine")
+
+
 def call(words, limits):
-    return spelled(words, readers_of(words, CALL_FORMS, "BadLine"), limits)
+    return spelled(words, call_readers(words, limits), limits)
 
 
 def reply(words, limits):
@@ -138,7 +144,7 @@ def entry(words, limits):
     """An entry of a journal."""
     match words:
         case [b"begin", _, _, _, *_]:
-            return spelled(words, [fixed, number, number, *readers_of(words[3:], CALL_FORMS, "BadLine")], limits)
+            return spelled(words, [fixed, number, number, *call_readers(words[3:], limits)], limits)
         case [b"commit", _]:
             return spelled(words, [fixed, number], limits)
         case [b"return", which, _, *_]:
@@ -197,7 +203,7 @@ def add_node(nodes, line, limits):
         right = not path and not nodes and content is None
     else:
         parent, siblings = path[:-1], [other for other in nodes if other[:-1] == path[:-1] and other]
-        right = path > next(reversed(nodes)) and nodes.get(parent, b"") is None and len(siblings) < ENTRIES and len(content or b"") <= limits.file_bytes
+        right = path > next(reversed(nodes)) and nodes.get(parent, b"") is None and len(siblings) < limits.entries and len(content or b"") <= limits.file_bytes
     if not right:
         raise Fault("BadStart")
     nodes[path] = content

@@ -133,10 +133,11 @@ def asks_of_answers():
 
 
 def limits_of_sets():
-    """What the two sets of limits have, by the definition of each limit."""
+    """What each set of limits has, by the definition of each limit."""
     source = (ROOT / "crates" / "fs_names" / "src" / "limits.rt").read_text()
     functions = re.findall(r"ensures \{ result ≡ (\w+_limit) self \}\n    \{\n        match self \{\n(.*?)        \}", source, re.S)
-    return {limit: [int(value) for value in re.findall(r"Limits::V\d => ([\d_]+)", arms)] for limit, arms in functions}
+    told = {limit: re.findall(r"(Limits::V\d(?: \| Limits::V\d)*) => ([\d_]+)", arms) for limit, arms in functions}
+    return {limit: [int(value) for sets, value in arms for _ in sets.split("|")] for limit, arms in told.items()}
 
 
 def compiled(folder, source, *more):

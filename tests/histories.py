@@ -25,6 +25,14 @@ STARTS = (
     ("atomfs-journal 2", "start", "dir /", "dir /a", "file /a/b 07", "entries"),
     ("atomfs-journal 3", "start", "dir /", "dir /a", "dir /b", "entries"),
 )
+# Of journals of the fourth version, which are drawn by themselves.
+LISTING = *MAKING, "list", "list", "list", "list"
+AFTER = "/", "/", "/a", "/b", "/x/a"
+THIRD_STARTS = (
+    ("atomfs-journal 4", "start", "dir /", "entries"),
+    ("atomfs-journal 4", "start", "dir /", "dir /a", "file /a/b 07", "dir /b", "entries"),
+)
+THIRD_HISTORIES = 300
 CHANGED = "ok", "failed ENOENT", "failed EEXIST", "stat dir 0", "stat dir 1", "names a", "bytes 07"
 
 
@@ -32,10 +40,12 @@ def text_of(lines):
     return "".join(f"{line}\n" for line in lines).encode()
 
 
-def call(draw):
+def call(draw, making=MAKING):
     """The words of a drawn call."""
-    kind, path = draw.choice(MAKING), draw.choice(PATHS)
+    kind, path = draw.choice(making), draw.choice(PATHS)
     match kind:
+        case "list":
+            return [kind, draw.choice(("/", "/a", path)), draw.choice(AFTER), str(draw.randrange(4))]
         case "rename" | "exchange":
             return [kind, path, draw.choice(PATHS)]
         case "write":
@@ -57,15 +67,15 @@ def returned(draw, reply):
     return "stat dir ?" if reply.startswith("stat dir ") else reply
 
 
-def history(draw):
+def history(draw, starts=STARTS, making=MAKING):
     """The lines before the entries, and the entries: calls on two to four seats, whose replies come from a hidden order."""
-    start, entries, calls, replies, under_way = draw.choice(STARTS), [], {}, {}, {}
+    start, entries, calls, replies, under_way = draw.choice(starts), [], {}, {}, {}
     tree, seats, count = model.started(list(start))[0], draw.randint(2, 4), draw.randint(2, 6)
     while len(calls) < count or under_way and draw.randrange(30):
         seat = draw.randrange(seats)
         if seat not in under_way and len(calls) < count:
             number = len(calls) + 1
-            calls[number], under_way[seat] = call(draw), number
+            calls[number], under_way[seat] = call(draw, making), number
             entries.append(("begin", number, seat, calls[number]))
         elif seat in under_way and under_way[seat] not in replies:
             replies[under_way[seat]] = tree.apply(calls[under_way[seat]])
@@ -245,7 +255,7 @@ class Histories(harness.Case):
             ("one that is not known, and a fault", (none, fault), Outcome(1, b"unknown 3\nfault 3 SeatBusy\nlawful 0 none 0 fault 1 unknown 1\n"), ("--limit", "2")),
             ("a fault of the text", (lawful, lawful, text_of((*BEGUN, "commit 1"))), Outcome(3, b"", b"atomfs: line 14: BadLine\n")),
             ("what comes before a header", (b"# histories\n", lawful), Outcome(3, b"", b"atomfs: line 1: BadHeader\n")),
-            ("no version", (lawful, b"atomfs-journal 4\n"), Outcome(3, b"", b"atomfs: line 6: BadLine\n")),
+            ("no version", (lawful, b"atomfs-journal 5\n"), Outcome(3, b"", b"atomfs: line 6: BadLine\n")),
         ), self.many)
 
     def test_limit(self):
@@ -269,8 +279,7 @@ class Histories(harness.Case):
             else:
                 self.same(given, line, told)
 
-    def by_every_order(self, seed):
-        start, entries = history(random.Random(seed))
+    def by_every_order(self, start, entries):
         given = text_of((*start, *map(line_of, entries)))
         came = run(given, "linearize")
         if has_order(start, entries, entries):
@@ -286,19 +295,24 @@ class Histories(harness.Case):
 
     def test_every_order(self):
         harness.asks_of_answers()
-        self.each(((f"drawn {seed}", seed) for seed in range(HISTORIES)), self.by_every_order)
+        self.each(((f"drawn {seed}", *history(random.Random(seed))) for seed in range(HISTORIES)), self.by_every_order)
 
-    def comes_back(self, seed):
+    def test_every_order_of_lists(self):
+        """Of the third limits, with calls that list a directory in pieces."""
+        harness.asks_of_answers()
+        drawn_ones = ((f"drawn {seed}", history(random.Random(f"third {seed}"), THIRD_STARTS, LISTING)) for seed in range(THIRD_HISTORIES))
+        self.each(((name, *one) for name, one in drawn_ones), self.by_every_order)
+
+    def comes_back(self, script):
         """The journal of a run, without its commits."""
-        threads = drawn.moving(random.Random(seed))
-        blocks = [line for number, calls in enumerate(threads) for line in (f"thread t{number}", *calls)]
-        script = text_of(("atomfs 2", *blocks, "schedule", "finish"))
         journal, tree, _ = run(script, "run", "--robin").output.partition(b"tree\n")
         self.explained(without_commits(journal), run(without_commits(journal) + tree, "linearize"))
 
     def test_runs(self):
         harness.asks_of_answers()
-        self.each(((f"drawn {seed}", seed) for seed in range(RUNS)), self.comes_back)
+        rows = [(f"drawn {seed}", drawn.script(drawn.moving(random.Random(seed)), version=2).encode()) for seed in range(RUNS)]
+        rows += [(f"listing {seed}", drawn.script(drawn.listing(random.Random(seed)), version=3).encode()) for seed in range(RUNS // 2)]
+        self.each(rows, self.comes_back)
 
     def shown(self, page):
         """The history that a page shows."""

@@ -1,8 +1,10 @@
 """Inputs at each limit of docs/FORMATS.md and docs/SPECIFICATION.md and one past it, and scripts that make the program hold much, or too much.
 
 `python3 tests/limits.py --measure` also tells the seconds of each run, and the most memory that the program held: no less than Python holds when it
-starts the program. docs/GUARANTEES.md has the bounds. No script has calls enough for all 1,048,576 numbers of nodes.
+starts the program. docs/GUARANTEES.md has the bounds. No script has calls enough for all 1,048,576 numbers of nodes. By the third limits what comes of calls
+is what tests/model.py makes of them.
 """
+import itertools
 import os
 import pathlib
 import resource
@@ -13,6 +15,7 @@ import threading
 import time
 import unittest
 
+import model
 from harness import MOST_SECONDS, Case, Outcome, program, spawned, takes_a_process
 
 TEXT, THREADS, CALLS, EVENTS = 16_777_216, 256, 65_536, 1_000_000
@@ -21,6 +24,9 @@ FILE, ENTRIES, NAME, PATH = 65_536, 256, 32, 64
 STACK = 128 * 1024
 # The largest file by the second limits.
 FILE_BY_SECOND = 1_048_576
+# The third limits, as far as they are others; and the names of a full directory, in order.
+THIRD_FILE, THIRD_READ, THIRD_ENTRIES, THIRD_PATH, THIRD_NAME = 2_147_483_648, 1_048_576, 1_048_576, 2_048, 64
+NAMES = "0123456789ABCDEFGHIJKLMNOPQRSTUV"
 ROOM = 268_435_456
 # The most bytes that are held for each event of a run that is traced, drawn or scheduled.
 EACH_EVENT = 64
@@ -64,6 +70,27 @@ def script(calls, words="finish"):
     yield from ("atomfs 1", "thread t")
     yield from calls
     yield from ("schedule", words)
+
+
+def third(calls):
+    """The script of one thread by the third limits."""
+    yield from ("atomfs 3", *list(script(calls))[1:])
+
+
+def of_model(calls):
+    """The run text of such a script, by the model."""
+    tree, text = model.Tree(3), ["atomfs-journal 4", "start", "dir /", "entries"]
+    for number, call in enumerate(calls, 1):
+        text += [f"begin {number} 0 {call}", f"commit {number}", f"return {number} {tree.apply(call.split(' '))}"]
+    return well("".join(f"{line}\n" for line in (*text, *tree.text())), counts(len(calls)))
+
+
+def full_directory(entries, *more):
+    """A journal that starts at a directory of so many entries."""
+    yield from ("atomfs-journal 4", "start", "dir /")
+    yield from (f"file /{''.join(letters)} -" for letters in itertools.islice(itertools.product(NAMES, repeat=4), min(entries, THIRD_ENTRIES)))
+    yield from (f"file /W{number} -" for number in range(entries - THIRD_ENTRIES))
+    yield from ("entries", *more)
 
 
 def commented(length):
@@ -250,6 +277,38 @@ class Limits(Case):
             (f"a name of {NAME + 1} bytes", script([f"mkdir /{name}n"]), RUN, refused(3, "BadPath NameTooLong")),
             (f"a path of {PATH} names", script([f"stat {path}"]), RUN, well(alone(1, f"stat {path}", "failed ENOENT"), finished(1))),
             (f"a path of {PATH + 1} names", script([f"stat {path}/n"]), RUN, refused(3, "BadPath TooManyNames")),
+        ), self.ends)
+
+    def test_third_limits(self):
+        """Each at the limit and one past it."""
+        name, path, mib = THIRD_NAME * "n", THIRD_PATH * "/n", f"truncate /f {THIRD_READ + 1}"
+        chain = [f"mkdir {path[: 2 * depth]}" for depth in range(1, THIRD_PATH + 1)]
+        edge = THIRD_FILE - 1
+        rows = (
+            (f"a name of {THIRD_NAME} bytes", [f"mkdir /{name}"]),
+            (f"a path of {THIRD_PATH} names", [*chain, f"stat {path}", f"mknod {path[:-2]}/f", f"list {path[:-2]} / 9", "rename /n /m"]),
+            (f"{ENTRIES} entries", [*(f"mknod /{number}" for number in range(ENTRIES)), "readdir /", "list / / 257"]),
+            (f"{ENTRIES + 1} entries", [*(f"mknod /{number}" for number in range(ENTRIES + 1)), "readdir /", "list / / 257", "list / /97 257", "list / /98 257", "rmdir /", "unlink /5", "readdir /"]),
+            (f"{ENTRIES + 1} entries that go", ["mkdir /d", "mkdir /e", *(f"mknod /d/{number}" for number in range(ENTRIES + 1)), "readdir /d", "rename /e /d", "rmdir /d", "rename /d/1 /e/1", "readdir /d", "exchange /d /e", "readdir /e", "list /e /10 3"]),
+            (f"{CALLS} entries", [*(f"mknod /{number}" for number in range(CALLS - 2)), "list / /9999 9", "stat /"]),
+            (f"a file of {THIRD_FILE} bytes", ["mknod /f", f"truncate /f {THIRD_FILE}", "stat /f", f"read /f {edge} 2", f"truncate /f {THIRD_FILE + 1}", "stat /f", "truncate /f 1"]),
+            ("a byte at its end", ["mknod /f", f"write /f {edge} ff", "stat /f", f"write /f {edge} ffff", f"write /f {THIRD_FILE} 00", f"write /f {THIRD_FILE} -", f"read /f {edge - 1} 9", "read /f 0 3", "truncate /f 0"]),
+            (f"reads of {THIRD_READ} bytes", ["mknod /f", mib, f"write /f {THIRD_READ - 1} aabb", f"read /f 0 {THIRD_READ}", f"read /f 0 {THIRD_READ + 1}", f"read /f 1 {2**64 - 1}", f"read /f 2 {THIRD_READ}", "truncate /f 0"]),
+        )
+        self.each((*((name, third(calls), RUN, of_model(calls)) for name, calls in rows), *(
+            (f"a name of {THIRD_NAME + 1} bytes", third([f"mkdir /{name}n"]), RUN, refused(3, "BadPath NameTooLong")),
+            (f"a path of {THIRD_PATH + 1} names", third([f"stat {path}/n"]), RUN, refused(3, "BadPath TooManyNames")),
+            (f"a list behind a path of {THIRD_PATH + 1} names", third([f"list / {path}/n 1"]), RUN, refused(3, "BadPath TooManyNames")),
+            (f"{CALLS} entries, on a real thread", third(f"mknod /{number}" for number in range(CALLS)), ("threads",), well(f"lawful calls {CALLS}\n")),
+        )), self.ends)
+
+    def test_third_directories(self):
+        """No text has calls enough to fill one, but one may start there."""
+        entry, last = "begin 1 0 mknod /X", f"begin 2 1 list / /{4 * NAMES[-1]} 9"
+        self.each((
+            (f"{THIRD_ENTRIES} entries", full_directory(THIRD_ENTRIES, entry, "commit 1", "return 1 failed ENOSPC", last, "commit 2", "return 2 names"), CHECK, LAWFUL),
+            (f"{THIRD_ENTRIES - 1} entries", full_directory(THIRD_ENTRIES - 1, entry, "commit 1", "return 1 ok", "begin 2 0 mknod /Y", "commit 2", "return 2 failed ENOSPC"), CHECK, LAWFUL),
+            (f"{THIRD_ENTRIES + 1} entries", full_directory(THIRD_ENTRIES + 1), CHECK, refused(THIRD_ENTRIES + 4, "BadStart")),
         ), self.ends)
 
     def test_levels(self):

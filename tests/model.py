@@ -7,10 +7,13 @@ import pathlib
 import sys
 from urllib.parse import unquote_to_bytes
 
-ENTRIES = 256
-# The most bytes of a file, by the version of a script; and that version, by the first line of a journal.
-BYTES = {1: 65_536, 2: 1_048_576}
-VERSIONS = {"atomfs-journal 1": 1, "atomfs-journal 2": 1, "atomfs-journal 3": 2}
+# The most names that a call answers.
+LISTED = 256
+# By the version of a script the most entries of a directory, bytes of a file, and bytes that a read answers; and that version, by the first line of a journal.
+ENTRIES = {1: 256, 2: 256, 3: 1_048_576}
+BYTES = {1: 65_536, 2: 1_048_576, 3: 2_147_483_648}
+READ = {1: 65_536, 2: 1_048_576, 3: 1_048_576}
+VERSIONS = {"atomfs-journal 1": 1, "atomfs-journal 2": 1, "atomfs-journal 3": 2, "atomfs-journal 4": 3}
 
 
 class Failed(Exception):
@@ -26,11 +29,41 @@ def escaped(name):
     return "".join(chr(byte) if 0x20 < byte < 0x7F and byte != 0x25 else f"%{byte:02X}" for byte in name)
 
 
+class File:
+    """The bytes of a file: how many there are, and by its offset each that is not 0. No call changes one: it makes another."""
+
+    def __init__(self, content=b""):
+        self.size, self.kept = len(content), {at: byte for at, byte in enumerate(content) if byte}
+
+    def __len__(self):
+        return self.size
+
+    def __eq__(self, other):
+        return isinstance(other, File) and (self.size, self.kept) == (other.size, other.kept)
+
+    def part(self, offset, count):
+        return bytes(self.kept.get(at, 0) for at in range(offset, min(offset + count, self.size)))
+
+    def resized(self, size):
+        made = File()
+        made.size, made.kept = size, {at: byte for at, byte in self.kept.items() if at < size}
+        return made
+
+    def written(self, offset, more):
+        made = self.resized(max(self.size, offset + len(more)))
+        made.kept = {at: byte for at, byte in made.kept.items() if not offset <= at < offset + len(more)}
+        made.kept |= {at: byte for at, byte in enumerate(more, offset) if byte}
+        return made
+
+    def hex(self):
+        return self.part(0, self.size).hex()
+
+
 class Tree:
     """Nodes by their paths: a directory's are its entries' names, a file's its bytes."""
 
     def __init__(self, version=1):
-        self.nodes, self.bytes = {(): set()}, BYTES[version]
+        self.nodes, self.version = {(): set()}, version
 
     @classmethod
     def of(cls, nodes, version=1):
@@ -38,7 +71,7 @@ class Tree:
         tree = cls(version)
         for path, content in nodes.items():
             if path:
-                tree.nodes[path] = set() if content is None else content
+                tree.nodes[path] = set() if content is None else File(content)
                 tree.nodes[path[:-1]].add(path[-1])
         return tree
 
@@ -46,7 +79,7 @@ class Tree:
         """The node at a path, or the error of its longest prefix that is there."""
         for depth in range(len(path)):
             node = self.nodes[path[:depth]]
-            if isinstance(node, bytes):
+            if isinstance(node, File):
                 raise Failed("ENOTDIR")
             if path[depth] not in node:
                 raise Failed("ENOENT")
@@ -54,13 +87,13 @@ class Tree:
 
     def directory(self, path):
         node = self.resolve(path)
-        if isinstance(node, bytes):
+        if isinstance(node, File):
             raise Failed("ENOTDIR")
         return node
 
     def file(self, path):
         node = self.resolve(path)
-        if not isinstance(node, bytes):
+        if not isinstance(node, File):
             raise Failed("EISDIR")
         return node
 
@@ -70,7 +103,7 @@ class Tree:
         entries = self.directory(path[:-1])
         if path[-1] in entries:
             raise Failed("EEXIST")
-        if len(entries) == ENTRIES:
+        if len(entries) == ENTRIES[self.version]:
             raise Failed("ENOSPC")
         entries.add(path[-1])
         self.nodes[path] = node
@@ -84,7 +117,7 @@ class Tree:
         return self.add(path, set())
 
     def mknod(self, path):
-        return self.add(path, b"")
+        return self.add(path, File())
 
     def entry(self, path):
         """The node of an entry that is looked for in its directory."""
@@ -93,7 +126,7 @@ class Tree:
         return self.nodes[path]
 
     def unlink(self, path):
-        if not path or not isinstance(self.entry(path), bytes):
+        if not path or not isinstance(self.entry(path), File):
             raise Failed("EPERM")
         self.remove(path)
         return "ok"
@@ -102,7 +135,7 @@ class Tree:
         if not path:
             raise Failed("EBUSY")
         node = self.entry(path)
-        if isinstance(node, bytes):
+        if isinstance(node, File):
             raise Failed("ENOTDIR")
         if node:
             raise Failed("ENOTEMPTY")
@@ -121,14 +154,14 @@ class Tree:
             return "ok"
         moved, victim = self.nodes[old], self.nodes.get(new)
         if victim is not None:
-            if isinstance(victim, bytes) and not isinstance(moved, bytes):
+            if isinstance(victim, File) and not isinstance(moved, File):
                 raise Failed("ENOTDIR")
-            if isinstance(moved, bytes) and not isinstance(victim, bytes):
+            if isinstance(moved, File) and not isinstance(victim, File):
                 raise Failed("EISDIR")
-            if not isinstance(victim, bytes) and victim:
+            if not isinstance(victim, File) and victim:
                 raise Failed("ENOTEMPTY")
             self.remove(new)
-        elif old[:-1] != new[:-1] and len(dest) == ENTRIES:
+        elif old[:-1] != new[:-1] and len(dest) == ENTRIES[self.version]:
             raise Failed("ENOSPC")
         source.discard(old[-1])
         dest.add(new[-1])
@@ -155,27 +188,35 @@ class Tree:
 
     def stat(self, path):
         node = self.resolve(path)
-        return f"stat {'file' if isinstance(node, bytes) else 'dir'} {len(node)}"
+        return f"stat {'file' if isinstance(node, File) else 'dir'} {len(node)}"
 
     def readdir(self, path):
-        return " ".join(["names", *(escaped(name) for name in sorted(self.directory(path)))])
+        entries = self.directory(path)
+        if len(entries) > LISTED:
+            raise Failed("EOVERFLOW")
+        return " ".join(["names", *(escaped(name) for name in sorted(entries))])
+
+    def list(self, path, after, count):
+        """The names above the last one of `after`, and all where that has none."""
+        above = sorted(name for name in self.directory(path) if not after or name > after[-1])
+        return " ".join(["names", *(escaped(name) for name in above[: min(count, LISTED)])])
 
     def read(self, path, offset, count):
-        return f"bytes {self.file(path)[offset:offset + count].hex() or '-'}"
+        return f"bytes {self.file(path).part(offset, min(count, READ[self.version])).hex() or '-'}"
 
     def write(self, path, offset, more):
         old = self.file(path)
-        if more and offset + len(more) > self.bytes:
+        if more and offset + len(more) > BYTES[self.version]:
             raise Failed("EFBIG")
         if more:
-            self.nodes[path] = old[:offset].ljust(offset, b"\0") + more + old[offset + len(more) :]
+            self.nodes[path] = old.written(offset, more)
         return f"wrote {len(more)}"
 
     def truncate(self, path, size):
         old = self.file(path)
-        if size > self.bytes:
+        if size > BYTES[self.version]:
             raise Failed("EFBIG")
-        self.nodes[path] = old[:size].ljust(size, b"\0")
+        self.nodes[path] = old.resized(size)
         return "ok"
 
     def apply(self, words):
@@ -185,6 +226,8 @@ class Tree:
             match kind:
                 case "rename" | "exchange":
                     return getattr(self, kind)(first, path_of(more[0]))
+                case "list" if self.version == 3:
+                    return self.list(first, path_of(more[0]), int(more[1]))
                 case "read":
                     return self.read(first, int(more[0]), int(more[1]))
                 case "write":
@@ -202,7 +245,7 @@ class Tree:
         lines = ["tree"]
         for path in sorted(self.nodes):
             node, shown = self.nodes[path], "/" + "/".join(escaped(name) for name in path)
-            lines.append(f"file {shown} {node.hex() or '-'}" if isinstance(node, bytes) else f"dir {shown}")
+            lines.append(f"file {shown} {node.hex() or '-'}" if isinstance(node, File) else f"dir {shown}")
         return lines
 
 

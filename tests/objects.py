@@ -11,6 +11,8 @@ import harness
 from harness import Case, Outcome, asks_of_answers, run
 
 SCRIPTS, RUNS = 60, 8
+# Scripts of the third limits, behind these.
+LISTING = 12
 DRAWN = drawn.narrow, drawn.moving, drawn.exchanging, drawn.crowded
 WRONG = b"atomfs-journal 1\nbegin 1 0 mkdir /a\ncommit 1\nreturn 1 failed EEXIST\n"
 # Comments with every byte but a line feed, and a name with a quotation mark and a backslash.
@@ -32,6 +34,8 @@ def objects(*values):
 
 
 def script_of(number):
+    if number >= SCRIPTS:
+        return drawn.script(drawn.listing(random.Random(f"listing {number}")), version=3).encode()
     return drawn.script(DRAWN[number % len(DRAWN)](random.Random(number))).encode()
 
 
@@ -75,7 +79,7 @@ class Objects(Case):
             self.same("it is JSON", written(json.loads(line)), line)
 
     def each_script(self, look):
-        self.each(((f"script_{number}", number) for number in range(SCRIPTS)), look)
+        self.each(((f"script_{number}", number) for number in range(SCRIPTS + LISTING)), look)
 
     def test_check(self):
         """Of journals that are lawful, and of those that lack an entry."""

@@ -11,6 +11,8 @@ from documents import constants
 from harness import Case, Outcome, asks_of_answers, rows_of, run
 
 SCRIPTS, RUNS = 200, 12
+# Scripts of the third limits.
+LISTING = 30
 DRAWN = drawn.narrow, drawn.moving, drawn.exchanging, drawn.crowded
 GREATEST = constants("fs_sched/src/seeding.rt")["SEED_LIMIT"]
 # A name `|` in a listing, and threads whose names begin the names of others.
@@ -76,6 +78,9 @@ class Outcomes(Case):
                 script = drawn.script(DRAWN[number % len(DRAWN)](draw)).encode()
                 words = [word for word in ("--all", "--trees") if draw.randrange(2)]
                 yield f"script_{number}", script, draw.randrange(1_000_000), RUNS, *words
+            for number in range(rows_of(LISTING)):
+                draw = random.Random(f"listing {number}")
+                yield f"listing_{number}", drawn.script(drawn.listing(draw), version=3).encode(), draw.randrange(1_000_000), RUNS, "--all"
 
         self.each(rows(), self.look)
 

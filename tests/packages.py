@@ -16,7 +16,7 @@ import unittest
 import zipfile
 
 import harness
-from documents import PACKAGES, blocks, spans, table
+from documents import PACKAGES, blocks, constants, spans, table
 from harness import ROOT, Case
 
 BINDINGS, EMBED, CRATES = ROOT / "bindings", ROOT / "embed", ROOT / "crates"
@@ -367,27 +367,20 @@ class Numbers(Case):
         self.same("_library.py", of_python, {name: counts.get(name) for name in of_python})
 
     def test_limits(self):
-        sets = harness.limits_of_sets()
-        library = self.source("python", "src", "atomfs", "_library.py")
-        wanted, entries, nodes = sets["name_limit"] + sets["file_limit"], sets["entry_limit"], sets["node_limit"]
-        of_rust = re.findall(r"Limits::V[12] => ([\d_]+)", self.source("rust", "src", "limits.rs"))
-        self.same("the two sets of limits.rs", [int(value) for value in of_rust], wanted)
+        """Each set of limits has the same numbers in the packages as in the crates."""
+        named = {"path_names": "path_limit", "name_bytes": "name_limit", "entries": "entry_limit", "file_bytes": "file_limit", "read_bytes": "read_limit", "nodes": "node_limit"}
+        wanted = {what: harness.limits_of_sets()[limit] for what, limit in named.items()}
+        source = self.source("rust", "src", "limits.rs")
+        arms = re.findall(r"pub const fn (\w+)\(self\) -> usize \{\n        match self \{\n(.*?)        \}", source, re.S)
+        self.same("limits.rs", {what: [int(value) for value in re.findall(r"Limits::V\d => ([\d_]+)", lines)] for what, lines in arms}, wanted)
         sys.path.insert(0, str(BINDINGS / "python" / "src" / "atomfs"))
-        from _library import Limits
+        from _library import LISTED, NODE_LIMIT, PATH_LIMIT, Limits
 
         sys.path.pop(0)
-        of_python = [getattr(limits, what) for what in ("name_bytes", "file_bytes") for limits in Limits]
-        self.same("the two sets of _library.py", of_python, wanted)
-        found = re.search(r"^PATH_LIMIT = ([\d_]+)", library, re.M)[1]
-        self.same("PATH_LIMIT of _library.py", [int(found)] * 2, sets["path_limit"])
-        texts = {"_library.py": library, "limits.rs": self.source("rust", "src", "limits.rs")}
-        for file, text in texts.items():
-            found = re.search(r"\bENTRY_LIMIT(?:: usize)? = ([\d_]+)", text)[1]
-            self.same(f"ENTRY_LIMIT of {file}", [int(found)] * 2, entries)
-        texts = {"_library.py": library, "lib.rs": self.source("rust", "src", "lib.rs")}
-        for file, text in texts.items():
-            found = re.search(r"\bNODE_LIMIT(?:: usize)? = ([\d_]+)", text)[1]
-            self.same(f"NODE_LIMIT of {file}", [int(found)] * 2, nodes)
+        self.same("_library.py", {what: [getattr(limits, what) for limits in Limits] for what in wanted}, wanted)
+        self.same("of the set where none is given", (NODE_LIMIT, PATH_LIMIT), (wanted["nodes"][1], wanted["path_names"][1]))
+        names = [LISTED, int(re.search(r"LISTED: usize = ([\d_]+)", source)[1])]
+        self.same("how many names a call answers", names, [constants("fs_names/src/limits.rt")["LIST_LIMIT"]] * 2)
 
 
 if __name__ == "__main__":

@@ -106,6 +106,7 @@ LARGE = (
     ("five_hundred_calls", crowd(4, 125, 2), "--seed", "3"),
     ("twenty_threads", crowd(20, 3, 3), "--seed", "3"),
     ("eight_pieces", crowd_in_pieces(8, 3, 5, 4)),
+    ("lists", drawn.script(drawn.listing(random.Random(5)), version=3).encode(), "--seed", "3"),
 )
 
 

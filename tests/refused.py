@@ -224,6 +224,21 @@ SECOND_SEAT = """\
 mkdir /c
 mkdir /d
 """
+# By the third limits, which alone have lists.
+LISTING = """\
+mkdir /d
+mknod /d/b
+mknod /d/a
+list /d / 256
+list /d /a 9
+list /d /x/b 9
+list / / 0
+list /d/a / 9
+readdir /d
+write /d/a 9000 ff
+read /d/a 8999 9
+truncate /d/a 1
+"""
 # A call of each kind, each on a seat of its own, and what stands when they begin.
 UNDER_WAY = """\
 mkdir /a/d/x
@@ -253,7 +268,7 @@ def on_seat(seat, text):
 
 
 # Calls one after the other, with their seats.
-LISTS = {"one seat": on_seat(0, ONE_SEAT), "two seats": on_seat(0, FIRST_SEAT) + on_seat(1, SECOND_SEAT)}
+LISTS = {"one seat": on_seat(0, ONE_SEAT), "two seats": on_seat(0, FIRST_SEAT) + on_seat(1, SECOND_SEAT), "the third limits": on_seat(0, LISTING)}
 
 # The calls of which tools tell.
 FEW = on_seat(0, "mkdir /a\nmknod /a/f\nwrite /a/f 0 ff\nread /a/f 0 9") + on_seat(1, "rename /a /b\nreaddir /\nstat /none")
@@ -267,10 +282,15 @@ def text_of(lines):
     return "".join(f"{line}\n" for line in lines).encode()
 
 
+def version_of(calls):
+    """The version of the limits by which calls are made."""
+    return 3 if any(line.startswith("list ") for _, line in calls) else 1
+
+
 def script_of(calls):
     """A script whose threads have their turns one after the other."""
     blocks = [line for seat in seats_of(calls) for line in (f"thread t{seat}", *(line for at, line in calls if at == seat))]
-    return text_of(["atomfs 1", *blocks, "schedule", " ".join(f"t{seat}*{MOST_STEPS}" for seat in seats_of(calls))])
+    return text_of([f"atomfs {version_of(calls)}", *blocks, "schedule", " ".join(f"t{seat}*{MOST_STEPS}" for seat in seats_of(calls))])
 
 
 def counts_of(calls):
@@ -280,8 +300,9 @@ def counts_of(calls):
 class Wanted:
     """What the specification says of calls one after the other: their replies, their journal, and their tree."""
 
-    def __init__(self, calls=()):
-        self.model, self.entries, self.count = model.Tree(), [], 0
+    def __init__(self, calls=(), version=None):
+        self.version = version or version_of(calls)
+        self.model, self.entries, self.count = model.Tree(self.version), [], 0
         for seat, line in calls:
             self.call(seat, line)
 
@@ -293,7 +314,8 @@ class Wanted:
         return self.count, reply.encode()
 
     def journal(self):
-        return text_of(["atomfs-journal 1", *self.entries])
+        opening = ["atomfs-journal 1"] if self.version == 1 else ["atomfs-journal 4", "start", "dir /", "entries"]
+        return text_of([*opening, *self.entries])
 
     def tree(self):
         return text_of(self.model.text())
@@ -316,17 +338,18 @@ class Played(atomfs.Tree):
     A function that lacks memory has changed nothing, and is asked again. `refused` has the functions of which a growth was refused, and their status.
     """
 
-    def __init__(self, case, library):
-        self.library, self.handle, self.case = library, atomfs.Handle(), case
+    def __init__(self, case, library, version=1):
+        self.library, self.handle, self.case, self.version = library, atomfs.Handle(), case, version
         self.wanted, self.steps, self.refused = None, [], set()
 
     def open(self, limit=LIMIT):
-        self.done(self.library.atomfs_open(self.handle, limit))
+        opens = (self.library.atomfs_open,) if self.version == 1 else (self.library.atomfs_open_with, self.version)
+        self.done(opens[0](self.handle, limit, *opens[1:]))
 
     def opened(self, seats):
         """Opens the tree, with seats of these numbers."""
         self.asked("open", self.open)
-        self.wanted = Wanted()
+        self.wanted = Wanted(version=self.version)
         for seat in seats:
             self.case.same("the number of a seat", self.asked("seat", self.seat), seat)
 
@@ -386,13 +409,15 @@ class Played(atomfs.Tree):
             answer = getattr(self, name)(seat, path)
         elif name in ("rename", "exchange"):
             answer = getattr(self, name)(seat, path, urllib.parse.unquote_to_bytes(more[0]))
+        elif name == "list":
+            answer = self.list(seat, path, urllib.parse.unquote_to_bytes(more[0]), int(more[1]))
         elif name == "write":
             answer = self.write(seat, path, int(more[0]), bytes.fromhex(more[1]))
         else:
             answer = getattr(self, name)(seat, path, *map(int, more))
         if name == "stat":
             return f"stat {'dir' if answer.is_dir else 'file'} {answer.size}".encode()
-        if name == "readdir":
+        if name in ("readdir", "list"):
             return " ".join(["names", *(model.escaped(name) for name in answer)]).encode()
         if name == "read":
             return f"bytes {answer.hex() or '-'}".encode()
@@ -448,7 +473,7 @@ class Library(Case):
     def played(self, calls, by, number=0):
         """Calls on a tree of their own, where the growth of a number is refused: from then on it is looked at after each call."""
         self.heap.refuse(number, number)
-        with Played(self, self.library) as tree:
+        with Played(self, self.library, version_of(calls)) as tree:
             tree.opened(seats_of(calls))
             for seat, line in calls:
                 by(tree, seat, line)
@@ -801,7 +826,7 @@ class Library(Case):
         """What the steps of a call do, behind the calls before it; with `refuses` no growth is granted behind its begin."""
         seat, line = calls[place]
         self.heap.refuse(0, 0)
-        with Played(self, self.library) as tree:
+        with Played(self, self.library, version_of(calls)) as tree:
             tree.opened(seats_of(calls))
             for before in calls[:place]:
                 tree.by_call(*before)

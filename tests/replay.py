@@ -32,7 +32,7 @@ class Commits:
     def keep(self):
         self.trees.append(text_of(self.tree.text()))
         # A directory is the same whatever is in it.
-        self.looks.append({path: node if isinstance(node, bytes) else None for path, node in self.tree.nodes.items()})
+        self.looks.append({path: node if isinstance(node, model.File) else None for path, node in self.tree.nodes.items()})
 
     def commit(self, number, who, call):
         """The reply of a call that commits."""
@@ -195,7 +195,7 @@ class Rows(Case):
             ("--who /b%20c/f", STARTED, Outcome(0, b"commit 2 call 2 7#2 rename /a /b%20c\n")),
             ("--who /", STARTED, Outcome(1, b"nobody\n")),
             # Input that is none.
-            ("--at 0", b"atomfs-journal 4\n", Outcome(3, b"", b"atomfs: line 1: BadHeader\n")),
+            ("--at 0", b"atomfs-journal 5\n", Outcome(3, b"", b"atomfs: line 1: BadHeader\n")),
             ("--at 0", b"atomfs 1\nthread t\nstat /\n", Outcome(3, b"", b"atomfs: line 4: NoSchedule\n")),
             ("--at 0", b"atomfs 1\nthread t\nmkdir /a\nschedule\nt !checkpoint\n", Outcome(1, b"", b"atomfs: call 1 under way\n")),
         ))), self.look)

@@ -15,6 +15,7 @@ import events
 NARROW_SCRIPTS = 1_000
 SCRIPTS = 2_000
 EXCHANGING_SCRIPTS = 500
+LISTING_SCRIPTS = 200
 # How often each event came where another generator drew by the same shares. Here it comes as often but for an eighth, and never where it did not.
 NARROW_EVENTS = {"begun": 18_000, "took": 25_499, "busy": 13_384, "let go": 25_499, "committed": 18_000, "returned": 18_000}
 EVENTS = {
@@ -32,14 +33,14 @@ class Schedules(harness.Case):
     def setUp(self):
         self.library, self.counts = harness.library(), collections.Counter()
 
-    def look(self, threads_of, number, order):
+    def look(self, threads_of, number, order, version=1):
         """The run of the threads that are drawn from a number, in an order that is."""
         draw = random.Random(number)
         threads = threads_of(draw)
-        with atomfs.Tree(self.library, limit(number)) as tree:
+        with atomfs.Tree(self.library, limit(number), version) as tree:
             run = events.Run(tree, threads).play(events.made_first(order), draw)
             self.counts += run.counts
-            self.same(f"{drawn.script(threads, order.__name__)}limit {limit(number)}", run.fault(), None)
+            self.same(f"{drawn.script(threads, order.__name__, version)}limit {limit(number)}", run.fault(), None)
 
     def came(self, stored):
         """In all rows each event came about as often as is stored."""
@@ -64,6 +65,10 @@ class Schedules(harness.Case):
         self.each(rows, self.look)
         if "ROW" not in os.environ:
             self.same("the events that did not come", [event for event in EVENTS if not self.counts[event]], [])
+
+    def test_third_limits(self):
+        rows = ((f"script_{number}_{order.__name__}", drawn.listing, number, order, 3) for number in range(LISTING_SCRIPTS) for order in (events.rounds, events.drawn))
+        self.each(rows, self.look)
 
     def test_all_calls(self):
         orders = events.rounds, events.drawn, events.words

@@ -13,6 +13,8 @@ import drawn
 import model
 
 SCRIPTS = 200
+# Scripts of the third limits, which are drawn by themselves.
+LISTING = 60
 # What has to come in the runs of all scripts: each call, each reply but those that such calls cannot get, and a commit before one of an earlier call.
 REPLIES = "ok stat names bytes wrote ENOENT ENOTDIR EEXIST ENOTEMPTY EISDIR EINVAL EPERM EFBIG".split()
 KINDS = {*(f"begin {call}" for call in drawn.CROWDED), *(f"return {reply}" for reply in REPLIES), "overtaken"}
@@ -63,6 +65,27 @@ class Scripts(harness.Case):
 
     def test_words(self):
         self.runs(lambda number: ("run",))
+
+    def test_third_limits(self):
+        """By drawn words, round robin, a drawn schedule and real threads; the call that lists a directory in pieces comes, with names and without."""
+        came = collections.Counter()
+
+        def look(number, *words):
+            threads = drawn.listing(random.Random(f"listing {number}"))
+            script, calls = drawn.script(threads, version=3), dict(enumerate(threads))
+            outcome = harness.run(script.encode(), *words)
+            self.same(script, outcome._replace(output=b""), harness.Outcome(0))
+            if words == ("threads",):
+                self.same(script, outcome.output, f"lawful calls {sum(map(len, threads))}\n".encode())
+                return
+            wrong = model.fault(outcome.output.decode(), calls)
+            self.same(script, wrong and f"{wrong}\n{outcome.output.decode()}", None)
+            came.update(kinds(outcome.output.decode()))
+
+        orders = ("run",), ("run", "--robin"), ("run", "--seed", "7"), ("threads",)
+        self.each(((f"script_{number}_{words[-1]}", number, *words) for number in range(LISTING) for words in orders), look)
+        if "ROW" not in os.environ and harness.compares:
+            self.same("what has not come", sorted({"begin list", "return names", "return ENOTDIR", "return EFBIG"} - set(came)), [])
 
     def test_robin(self):
         self.runs(lambda number: ("run", "--robin"))

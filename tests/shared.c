@@ -100,7 +100,7 @@ static void sessions(void) {
     IS(atomfs_shared_close(&shared), ATOMFS_CLOSED);
     IS(atomfs_shared_session(shared, &session, NULL), ATOMFS_CLOSED);
     IS(atomfs_shared_open(&shared, 0, ATOMFS_V1), ATOMFS_BAD_LIMIT);
-    IS(atomfs_shared_open(&shared, 1, 3), ATOMFS_BAD_VERSION);
+    IS(atomfs_shared_open(&shared, 1, 4), ATOMFS_BAD_VERSION);
     IS(shared == NULL, 1);
     open_shared(1, ATOMFS_V1);
     IS(atomfs_shared_open(&shared, 1, ATOMFS_V1), ATOMFS_ALREADY_OPEN);
@@ -138,6 +138,11 @@ static void nulls(void) {
     IS(atomfs_shared_readdir(NULL, PATH("/"), out, 1, &count, NULL), ATOMFS_NULL);
     IS(atomfs_shared_readdir(session, PATH("/"), NULL, 1, &count, NULL), ATOMFS_NULL);
     IS(atomfs_shared_readdir(session, PATH("/"), out, 1, NULL, NULL), ATOMFS_NULL);
+    IS(atomfs_shared_list(NULL, PATH("/"), PATH("/"), 1, out, 1, &count, NULL), ATOMFS_NULL);
+    IS(atomfs_shared_list(session, PATH("/"), NULL, 1, 1, out, 1, &count, NULL), ATOMFS_NULL);
+    IS(atomfs_shared_list(session, PATH("/"), PATH("/"), 1, NULL, 1, &count, NULL), ATOMFS_NULL);
+    IS(atomfs_shared_list(session, PATH("/"), PATH("/"), 1, out, 1, NULL, NULL), ATOMFS_NULL);
+    IS(atomfs_shared_list(session, PATH("/"), PATH("/"), 1, out, 1, &count, NULL), ATOMFS_BAD_VERSION);
     IS(atomfs_shared_read(NULL, PATH("/"), 0, out, 1, &count, NULL), ATOMFS_NULL);
     IS(atomfs_shared_read(session, PATH("/"), 0, NULL, 1, &count, NULL), ATOMFS_NULL);
     IS(atomfs_shared_read(session, PATH("/"), 0, out, SIZE_MAX, &count, NULL), ATOMFS_BAD_LENGTH);
@@ -152,7 +157,7 @@ static void nulls(void) {
 }
 
 /* A directory of as many and as long names as there may be: all are told, or none. */
-static void names(void) {
+static void all_names(void) {
     char path[] = "/0000000000000000000000000000000000000000000000000000000000000000";
     size_t most = 256 * 65;
     open_shared(300, ATOMFS_V2);
@@ -181,6 +186,30 @@ static void names(void) {
     close_shared();
 }
 
+/* A directory of more names than a call answers, in pieces. */
+static void pieces(void) {
+    char path[] = "/000", after[] = "/000";
+    size_t told = 0;
+    open_shared(1000, ATOMFS_V3);
+    for (int i = 0; i < 600; i++) {
+        snprintf(path + 1, 4, "%03d", i);
+        IS(atomfs_shared_mknod(session, PATH(path), NULL), ATOMFS_OK);
+    }
+    FAILS(atomfs_shared_readdir(session, PATH("/"), out, sizeof out, &count, NULL), EOVERFLOW_);
+    IS(atomfs_shared_list(session, PATH("/"), PATH("/"), 600, NULL, 0, &count, NULL), ATOMFS_TOO_SMALL);
+    IS(count, 4 * 256);
+    IS(atomfs_shared_list(session, PATH("/"), PATH("/"), 1, out, sizeof out, &count, NULL), ATOMFS_OK);
+    SAYS(out, count, "000\000");
+    for (told = count / 4; count > 0; told += count / 4) {
+        memcpy(after + 1, out + count - 4, 4);
+        IS(atomfs_shared_list(session, PATH("/"), PATH(after), 600, out, sizeof out, &count, &number), ATOMFS_OK);
+    }
+    IS(told, 600);
+    IS(strcmp(after, "/599"), 0);
+    FAILS(atomfs_shared_list(session, PATH("/000"), PATH("/"), 1, out, sizeof out, &count, NULL), ENOTDIR_);
+    close_shared();
+}
+
 /* ---- Calls of threads */
 
 typedef struct thread {
@@ -205,6 +234,9 @@ static size_t draw_path(thread *self, char *path) {
     return length;
 }
 
+/* Whether the tree has the call that lists a directory in pieces. */
+static int has_lists;
+
 /* Makes a drawn call, and answers its status. */
 static uint8_t drawn_call(thread *self, atomfs_session *its, uint64_t *its_number) {
     char path[8], other[8], room[64];
@@ -219,7 +251,10 @@ static uint8_t drawn_call(thread *self, atomfs_session *its, uint64_t *its_numbe
     case 8: case 9: return atomfs_shared_rename(its, path, length, other, other_length, its_number);
     case 10: return atomfs_shared_exchange(its, path, length, other, other_length, its_number);
     case 11: return atomfs_shared_stat(its, path, length, &found, its_number);
-    case 12: return atomfs_shared_readdir(its, path, length, room, sizeof room, &its_count, its_number);
+    case 12:
+        if (has_lists && draw(self, 4) > 0)
+            return atomfs_shared_list(its, path, length, other, other_length, draw(self, 4), room, sizeof room, &its_count, its_number);
+        return atomfs_shared_readdir(its, path, length, room, sizeof room, &its_count, its_number);
     case 13: return atomfs_shared_read(its, path, length, draw(self, 9), room, sizeof room, &its_count, its_number);
     case 14: return atomfs_shared_write(its, path, length, draw(self, 9), "bytes", 5, &its_wrote, its_number);
     default: return atomfs_shared_truncate(its, path, length, draw(self, 9), its_number);
@@ -290,7 +325,8 @@ static int round_of_calls(int calls, uint32_t seed) {
     uint8_t kind;
     size_t length;
     int returned;
-    IS(atomfs_shared_open(&shared, 1000, ATOMFS_V2), ATOMFS_OK);
+    has_lists = seed % 2 == 0;
+    IS(atomfs_shared_open(&shared, 1000, has_lists ? ATOMFS_V3 : ATOMFS_V2), ATOMFS_OK);
     start(threads, calls, 1, seed);
     join(threads);
     IS(atomfs_shared_lock(shared, &fs), ATOMFS_OK);
@@ -316,10 +352,10 @@ static int helped(int calls) {
 #endif
 }
 
-/* Rounds by one seed after the other, until calls overlapped and helped: at most 100. */
+/* Rounds by one seed after the other, by the second limits and by the third in turn, until calls overlapped and helped: two at least, and at most 100. */
 static void drawn_calls(int calls) {
     int found = 0;
-    for (uint32_t seed = 1; found == 0 || !helped(calls); seed++) {
+    for (uint32_t seed = 1; seed <= 2 || found == 0 || !helped(calls); seed++) {
         IS(seed > 100, 0);
         found += round_of_calls(calls, seed);
     }
@@ -333,6 +369,7 @@ static void checkpoints(int calls) {
     uint64_t all = 0;
     atomfs *fs;
     char *last = NULL;
+    has_lists = 0;
     IS(atomfs_shared_open(&shared, 1000, ATOMFS_V2), ATOMFS_OK);
     start(threads, calls, 0, 0);
     while (all < (uint64_t)calls * THREADS) {
@@ -414,7 +451,8 @@ int main(int argc, char **argv) {
     each_call();
     sessions();
     nulls();
-    names();
+    all_names();
+    pieces();
 #ifdef COUNTED
     IS(sem_init(&gate, 0, 0) + sem_init(&stopped, 0, 0) + sem_init(&waited, 0, 0), 0);
     helps_and_sleeps();

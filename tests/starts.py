@@ -32,6 +32,10 @@ def in_file(name, text):
     return path
 
 
+# More entries than a directory has by the first two sets of limits.
+CROWD = [f"file /{number:03} -" for number in range(300)]
+
+
 def tree_of(*nodes):
     return checkpoints.text_of("tree", "dir /", *nodes)
 
@@ -87,6 +91,19 @@ class Starts(harness.Case):
             ("a call is under way", ("run", "--from", tree), b"atomfs 1\nthread t\nmkdir /b\nschedule\nt !checkpoint\n", Outcome(1, b"", b"atomfs: call 1 under way\n")),
         ), self.ends)
 
+    def test_third_limits(self):
+        """From a directory of more names than a call answers."""
+        calls = ["readdir /", "list / / 300", "list / /255 300", "mknod /x", "stat /", "exchange /000 /x", "unlink /000", "list / /000 1"]
+        tree, entries = model.Tree.of({(): None, **{(line[6:9].encode(),): b"" for line in CROWD}}, 3), []
+        for number, call in enumerate(calls, 1):
+            entries += [f"begin {number} 0 {call}", f"commit {number}", f"return {number} {tree.apply(call.split(' '))}"]
+        count = len(calls)
+        wanted = journal_of(4, *CROWD) + checkpoints.text_of(*entries, *tree.text(), f"begun {count} committed {count} returned {count}")
+        given = checkpoints.text_of("atomfs 3", "thread t", *calls, "schedule", "finish")
+        for name, text in (("a tree", tree_of(*CROWD)), ("a journal", journal_of(4, *CROWD))):
+            self.ends(("run", "--from", in_file(f"crowd, {name}", text)), given, Outcome(0, wanted))
+        self.ends(("check",), wanted, Outcome(0, b"lawful\n"))
+
     def test_behind_one_another(self):
         """A run from the tree that calls made is the run that makes these calls, and begins again behind them."""
 
@@ -109,7 +126,7 @@ class Starts(harness.Case):
     def test_files_without_a_tree(self):
         long, short = "dir /" + "n" * 33, "dir /" + "n" * 32
         large = "file /f " + "61" * 65_537
-        second = ONE_CALL.replace(b"atomfs 1", b"atomfs 2")
+        second, third = (ONE_CALL.replace(b"atomfs 1", b"atomfs %d" % version) for version in (2, 3))
         rows = (
             ("another text", b"hello\n", ONE_CALL, "line 1: BadHeader"),
             ("nothing", b"", ONE_CALL, "line 1: BadHeader"),
@@ -124,6 +141,10 @@ class Starts(harness.Case):
             ("a file of 65,537 bytes", tree_of(large), ONE_CALL, "line 3: BadStart"),
             ("a journal of the other version", journal_of(3, "dir /a"), ONE_CALL, "line 1: BadHeader"),
             ("a journal of the first version", journal_of(2, "dir /a"), second, "line 1: BadHeader"),
+            ("a name of 65 bytes by the third limits", tree_of("dir /" + "n" * 65), third, "line 3: BadStart"),
+            ("257 entries", tree_of(*CROWD[:257]), second, "line 259: BadStart"),
+            ("a journal of the third limits", journal_of(4, "dir /a"), second, "line 1: BadHeader"),
+            ("a journal of the second limits", journal_of(3, "dir /a"), third, "line 1: BadHeader"),
             ("a journal without entries", b"atomfs-journal 2\nstart\ndir /\n", ONE_CALL, "line 4: BadStart"),
             ("a journal with a fault", journal_of(2, "dir /a") + b"begin 1 0 mkdir /c/\n", ONE_CALL, "line 6: BadPath TrailingSlash"),
         )
@@ -144,6 +165,7 @@ class Starts(harness.Case):
         full = in_file("full", many(NODE_LIMIT))
         self.ends(("run", "--from", full), ONE_CALL, Outcome(4, b"", b"atomfs: full\n"))
         self.same("stat /", run(ONE_CALL.replace(b"mkdir /b", b"stat /"), "run", "--from", full).status, 0)
+        self.same("by the third limits", run(ONE_CALL.replace(b"atomfs 1", b"atomfs 3"), "run", "--from", full).status, 0)
         self.row = "a node too many"
         self.refused(("run",), many(NODE_LIMIT + 1), ONE_CALL, f"line {NODE_LIMIT + 2}: TooLarge")
         journal = many(NODE_LIMIT + 1).replace(b"tree\n", b"atomfs-journal 2\n# behind its version\nstart\n") + b"entries\n"

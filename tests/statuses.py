@@ -147,7 +147,7 @@ class Words(Case):
             ("a schedule of a journal", "schedule --robin", of(HELPED, "text"), malformed("line 1: BadHeader")),
             ("a slash too many in a trace", "trace", SLASH, malformed("line 3: BadPath TrailingSlash")),
             ("a slash too many in a picture", "draw", SLASH, malformed("line 3: BadPath TrailingSlash")),
-            ("a journal of another version is drawn", "draw", b"atomfs-journal 4\n", malformed("line 1: BadHeader")),
+            ("a journal of another version is drawn", "draw", b"atomfs-journal 5\n", malformed("line 1: BadHeader")),
             ("a call that no journal has", "draw --around 5", of(HELPED, "text"), Outcome(2, b"", b"atomfs: there is no call 5\n")),
             ("a slash too many on threads", "threads", SLASH, malformed("line 3: BadPath TrailingSlash")),
             ("ends of a journal", "outcomes --seed 0 --runs 1", of(HELPED, "text"), malformed("line 1: BadHeader")),

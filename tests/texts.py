@@ -1,4 +1,4 @@
-"""What the program and the library read of a text: the rows of tests/data/texts, and 20,000 drawn texts.
+"""What the program and the library read of a text: the rows of tests/data/texts, and 24,000 drawn texts.
 
 A row is a text, what is asked of it, and the answer. `|LINE` adds a line to the text, `*COUNT LINE` so many, with the number of each for #, and
 `+COUNT BYTES` so many copies of bytes without a line feed. Asked are
@@ -216,6 +216,9 @@ class Rows:
     def test_versions(self):
         self.each(rows("versions"), self.look)
 
+    def test_listing(self):
+        self.each(rows("listing"), self.look)
+
     def test_lines(self):
         self.each(rows("lines"), self.look)
 
@@ -352,8 +355,8 @@ class Starts(Case):
         "more names than a path has": [f"dir {path}" for path in BRANCH],
         "a file below them": [*(f"dir {path}" for path in BRANCH), f"file {BRANCH[-1]}/f 00"],
     }
-    # The most bytes of a name and of a file, by the version of the journal.
-    LENGTHS = {2: (32, 65_536), 3: (64, 1_048_576)}
+    # The most bytes of a name and of a file, by the version of the journal; a text has no file that is too large by the third limits.
+    LENGTHS = {2: (32, 65_536), 3: (64, 1_048_576), 4: (64, None)}
     PAST = {
         "257 entries": [f"dir /{place:03}" for place in range(257)],
         "257 entries of a directory": ["dir /a", *(f"file /a/{place:03} -" for place in range(257))],
@@ -362,16 +365,13 @@ class Starts(Case):
     @staticmethod
     def lengths(name, content):
         """Nodes with a name, or with bytes, of this length."""
-        return {
-            f"a name of {name} bytes": ["dir /" + "n" * name],
-            f"{name} escaped bytes": ["dir /" + "%FF" * name],
-            f"a file of {content} bytes": ["file /f " + "00" * content],
-        }
+        files = {f"a file of {content} bytes": ["file /f " + "00" * content]} if content else {}
+        return {f"a name of {name} bytes": ["dir /" + "n" * name], f"{name} escaped bytes": ["dir /" + "%FF" * name], **files}
 
     def of_each_version(self, nodes, more):
-        """Journals of both versions that start at these nodes, and at some whose lengths are the greatest and so many more."""
+        """Journals of each version that start at these nodes, and at some whose lengths are the greatest and so many more."""
         for version, greatest in self.LENGTHS.items():
-            for name, lines in {**nodes, **self.lengths(*(length + more for length in greatest))}.items():
+            for name, lines in {**nodes, **self.lengths(*(length and length + more for length in greatest))}.items():
                 yield f"{name}, version {version}", starting(version, *lines), 3 + len(lines)
 
     def test_within(self):
@@ -382,7 +382,11 @@ class Starts(Case):
         self.same(text, run(text, "check"), Outcome(0, b"lawful\n"))
 
     def test_past(self):
-        self.each(self.of_each_version(self.PAST, 1), self.look_past)
+        """By the third limits a directory has more entries than there are here."""
+        self.each((row for row in self.of_each_version(self.PAST, 1) if not re.fullmatch("257 .*, version 4", row[0])), self.look_past)
+
+    def test_within_the_third_limits(self):
+        self.each(((name, starting(4, *lines)) for name, lines in self.PAST.items()), self.look)
 
     def look_past(self, text, line):
         fault = attempted("journal", text)
@@ -404,6 +408,10 @@ CALLS = (
     *("mkdir P", "mknod P", "mkdir P", "unlink P", "rmdir P", "rename P P", "exchange P P"),
     *("stat P", "readdir P", "read P N N", "write P N H", "truncate P N"),
 )
+# Of the third version alone, whose texts are drawn by themselves.
+LISTING = "list P P N", "list / / N", "list P P N"
+OVERFLOWS = ("failed EOVERFLOW",)
+THIRD_JOURNAL = "atomfs-journal 4\nstart\ndir /\nentries"
 REPLIES = "ok", "stat dir N", "stat file N", "names", "names a", "names a b%20c %C3%A9", "bytes H", "wrote N", "failed E"
 EVENTS = "T", "T*1", "T*2", "T*5", "T*9", "T*40"
 BEGINNINGS = (
@@ -433,23 +441,36 @@ def some(draw, patterns, most):
     return [filled(draw, draw.choice(patterns)) for _ in range(draw.randrange(most))]
 
 
-def blocks(draw):
-    return [line for thread in WORDS_OF["T"] for line in (f"thread {thread}", *some(draw, CALLS, 6))]
+def blocks(draw, calls=CALLS):
+    return [line for thread in WORDS_OF["T"] for line in (f"thread {thread}", *some(draw, calls, 6))]
 
 
-def drawn_script(draw):
-    return text_of(draw.choice(SCRIPTS), *blocks(draw), "schedule", *some(draw, EVENTS, 8), *["finish"] * draw.choice((0, 1, 1)))
+def drawn_script(draw, headers=SCRIPTS, calls=CALLS):
+    return text_of(draw.choice(headers), *blocks(draw, calls), "schedule", *some(draw, EVENTS, 8), *["finish"] * draw.choice((0, 1, 1)))
 
 
-def drawn_journal(draw):
-    entries = "commit N", *(f"begin N N {call}" for call in CALLS), *(f"return N {reply}" for reply in REPLIES)
-    weights = 99, *[9] * len(CALLS), *[11] * len(REPLIES)
-    return text_of(draw.choice(JOURNALS), *(filled(draw, entry) for entry in draw.choices(entries, weights, k=draw.randrange(10))))
+def drawn_journal(draw, headers=JOURNALS, calls=CALLS, replies=REPLIES):
+    entries = "commit N", *(f"begin N N {call}" for call in calls), *(f"return N {reply}" for reply in replies)
+    weights = 99, *[9] * len(calls), *[11] * len(replies)
+    return text_of(draw.choice(headers), *(filled(draw, entry) for entry in draw.choices(entries, weights, k=draw.randrange(10))))
 
 
-def drawn_run(draw):
+def drawn_run(draw, headers=SCRIPTS, calls=CALLS):
     """The text of a run of a drawn script."""
-    return library().run(text_of(draw.choice(SCRIPTS), *blocks(draw), "schedule", "finish"))
+    return library().run(text_of(draw.choice(headers), *blocks(draw, calls), "schedule", "finish"))
+
+
+def third_script(draw):
+    """A script of the third version, which may list directories in pieces."""
+    return drawn_script(draw, ("atomfs 3",), (*CALLS, *LISTING))
+
+
+def third_journal(draw):
+    return drawn_journal(draw, (THIRD_JOURNAL,), (*CALLS, *LISTING), (*REPLIES, *OVERFLOWS))
+
+
+def third_run(draw):
+    return drawn_run(draw, ("atomfs 3",), (*CALLS, *LISTING))
 
 
 def drawn_lines(draw):
@@ -518,6 +539,10 @@ WAYS = {
     "changed text of a run": (changed(drawn_run), 4_000, None),
     "lines of words": (drawn_lines, 3_000, None),
     "bytes": (drawn_bytes, 1_000, None),
+    "script of the third version": (third_script, 500, "script"),
+    "changed script of the third version": (changed(third_script), 1_500, None),
+    "journal of the third version": (third_journal, 500, "journal"),
+    "changed text of a run of the third version": (changed(third_run), 1_500, None),
 }
 
 
@@ -536,7 +561,7 @@ class OfTheLibrary(Case):
         self.came = set()
 
     def test_rows(self):
-        rows_of = {file: rows(file) for file in ("scripts", "journals", "lines", "paths", "versions")}
+        rows_of = {file: rows(file) for file in ("scripts", "journals", "lines", "paths", "versions", "listing")}
         self.each(((f"{file}: {name}", text) for file, rows in rows_of.items() for name, text, _, _ in rows), self.look)
 
     def test_drawn_texts(self):

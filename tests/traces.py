@@ -27,7 +27,7 @@ REPLAYED = 150
 DRAWN_PIECES = 40
 PATH = r"/(?:[!-\$&-.0-~]|%[0-9A-F]{2}|/)*"
 WHO = r"([a-z][a-z0-9_]*)#([1-9][0-9]*)"
-ERRNO = "ENOENT|ENOTDIR|EEXIST|ENOTEMPTY|EISDIR|EINVAL|EBUSY|EPERM|ENOSPC|EFBIG"
+ERRNO = "ENOENT|ENOTDIR|EEXIST|ENOTEMPTY|EISDIR|EINVAL|EBUSY|EPERM|ENOSPC|EFBIG|EOVERFLOW"
 EFFECT = rf"adds {PATH}|removes {PATH}|moves {PATH} (?:to|over) {PATH}|exchanges {PATH} with {PATH}|changes {PATH}|changes nothing|answers|fails (?:{ERRNO})"
 WHAT = {
     "begun": re.compile(r"begins (.+)"),
@@ -138,6 +138,11 @@ def begun(moments):
     return pieces
 
 
+def version_of(script):
+    """The version of a script."""
+    return int(script.split(b"\n")[0].removeprefix(b"atomfs "))
+
+
 def words(*more):
     return ("trace", *more)
 
@@ -146,6 +151,11 @@ def script_of(number):
     """A drawn script of calls that meet, with renames and exchanges above them."""
     draw = random.Random(number)
     return drawn.script(drawn.exchanging(draw) if number % 3 == 0 else drawn.moving(draw)).encode()
+
+
+def listing_of(number):
+    """A drawn script of the third limits."""
+    return drawn.script(drawn.listing(random.Random(f"listing {number}")), version=3).encode()
 
 
 def in_pieces(tree_library, number):
@@ -459,7 +469,7 @@ class OnTheLibrary(Case):
     def look(self, script, *schedule):
         tree_library = library()
         told = Trace(run(script, *words("--every"), *schedule).output)
-        with atomfs.Tree(tree_library, 1_048_576, version=int(script.startswith(b"atomfs 2")) + 1) as tree:
+        with atomfs.Tree(tree_library, 1_048_576, version=version_of(script)) as tree:
             self.same(script.decode(errors="backslashreplace"), self.follow(tree, told, calls_of(script)), None)
 
     def test_worked_scripts(self):
@@ -470,6 +480,7 @@ class OnTheLibrary(Case):
     def test_drawn_scripts(self):
         library()
         rows = [(f"script_{number}_{order}", script_of(number), "--seed", str(number)) for number in range(DRAWN) for order in ("seed",)]
+        rows += [(f"listing_{number}", listing_of(number), "--seed", str(number)) for number in range(DRAWN // 3)]
         self.each(rows, self.look)
 
     def test_drawn_pieces(self):
@@ -491,7 +502,7 @@ def steps(path):
 def target_len(words):
     """How many names lead to the node of a call, to the directory of its entry, or to the common directory of its two entries."""
     first, second = map(steps, parts(words))
-    if words[0] in ("stat", "readdir", "read", "write", "truncate"):
+    if words[0] in ("stat", "readdir", "list", "read", "write", "truncate"):
         return len(first)
     return len(os.path.commonprefix([first[:-1], second[:-1]]))
 
@@ -644,7 +655,7 @@ class OnTheModel(Case):
     def look(self, script, *schedule):
         ran = run(script, *words("--every"), *schedule)
         if harness.compares:
-            replay = Replay(int(script.startswith(b"atomfs 2")) + 1)
+            replay = Replay(version_of(script))
             self.same(script.decode(errors="backslashreplace"), replay.follow(Trace(ran.output)), None)
 
     def test_worked_scripts(self):
@@ -660,6 +671,7 @@ class OnTheModel(Case):
         """Of the second half many calls are helped while a file or a directory on their ways moves."""
         rows = [(f"script_{number}", script_of(number), "--seed", str(number)) for number in range(REPLAYED // 2)]
         rows += [(f"helped_{number}", drawn.script(*drawn.helped(random.Random(number))).encode()) for number in range(REPLAYED // 2)]
+        rows += [(f"listing_{number}", listing_of(number), "--seed", str(number)) for number in range(REPLAYED // 5)]
         self.each(rows, self.look)
 
     def test_helped_calls(self):

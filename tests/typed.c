@@ -114,7 +114,7 @@ static void refusals(void) {
     IS(atomfs_begin_call(&fs, seat, &request, &number), ATOMFS_OK);
     IS(atomfs_begin_call(&fs, seat, &request, &number), ATOMFS_SEAT_BUSY);
     IS(atomfs_rmdir(&fs, seat, PATH("/a"), &number), ATOMFS_SEAT_BUSY);
-    request.call = ATOMFS_CALL_TRUNCATE + 1;
+    request.call = ATOMFS_CALL_LIST + 1;
     IS(atomfs_begin_call(&fs, other_seat, &request, &number), ATOMFS_BAD_LINE);
     IS(atomfs_journal(&fs, 0, out, sizeof out, &count, &entries), ATOMFS_OK);
     IS(entries, 7);
@@ -244,12 +244,12 @@ static void some_step(void) {
     IS(atomfs_close(&fs), ATOMFS_OK);
 }
 
-/* Why bytes are no path, by both limits, and its words. */
+/* Why bytes are no path, by each set of limits, and its words. */
 static void checked_paths(void) {
     static const struct {
         const char *path;
         size_t length;
-        uint8_t first, second;
+        uint8_t first, others;
     } rows[] = {
         { PATH("/"), ATOMFS_OK, ATOMFS_OK },
         { PATH("//a/...//b"), ATOMFS_OK, ATOMFS_OK },
@@ -263,10 +263,17 @@ static void checked_paths(void) {
     };
     for (size_t i = 0; i < sizeof rows / sizeof *rows; i++) {
         IS(atomfs_check_path(rows[i].path, rows[i].length, ATOMFS_V1), rows[i].first);
-        IS(atomfs_check_path(rows[i].path, rows[i].length, ATOMFS_V2), rows[i].second);
+        IS(atomfs_check_path(rows[i].path, rows[i].length, ATOMFS_V2), rows[i].others);
+        IS(atomfs_check_path(rows[i].path, rows[i].length, ATOMFS_V3), rows[i].others);
     }
     IS(atomfs_check_path(PATH("/"), 0), ATOMFS_BAD_VERSION);
-    IS(atomfs_check_path(PATH("a"), 3), ATOMFS_BAD_VERSION);
+    IS(atomfs_check_path(PATH("a"), 4), ATOMFS_BAD_VERSION);
+    char many[2 * 2049];
+    for (int i = 0; i < 2049; i++) memcpy(many + 2 * i, "/a", 2);
+    IS(atomfs_check_path(many, 2 * 64, ATOMFS_V2), ATOMFS_OK);
+    IS(atomfs_check_path(many, 2 * 65, ATOMFS_V2), ATOMFS_PATH_TOO_MANY_NAMES);
+    IS(atomfs_check_path(many, 2 * 2048, ATOMFS_V3), ATOMFS_OK);
+    IS(atomfs_check_path(many, 2 * 2049, ATOMFS_V3), ATOMFS_PATH_TOO_MANY_NAMES);
     for (uint8_t status = ATOMFS_PATH_NOT_ABSOLUTE; status <= ATOMFS_PATH_TRAILING_SLASH; status++)
         for (int other = 0; other < 256; other++)
             if (other != status) IS(strcmp(atomfs_status_text(status), atomfs_status_text((uint8_t)other)) != 0, 1);
@@ -846,7 +853,10 @@ static void trees_refused(void) {
     REFUSES("tree\ndir /\ndir /a\ndir /a/b\ndir /c\n", ATOMFS_FULL, 0);
     IS(atomfs_open_from(&fs, 0, ATOMFS_V1, PATH("tree\ndir /\n"), &count), ATOMFS_BAD_LIMIT);
     IS(atomfs_open_from(&fs, ATOMFS_NODE_LIMIT + 1, ATOMFS_V1, PATH("tree\ndir /\n"), &count), ATOMFS_BAD_LIMIT);
-    IS(atomfs_open_from(&fs, 1, 3, PATH("tree\ndir /\n"), &count), ATOMFS_BAD_VERSION);
+    IS(atomfs_open_from(&fs, 1, 4, PATH("tree\ndir /\n"), &count), ATOMFS_BAD_VERSION);
+    IS(atomfs_open_from(&fs, ATOMFS_V3_NODE_LIMIT + 1, ATOMFS_V3, PATH("tree\ndir /\n"), &count), ATOMFS_BAD_LIMIT);
+    IS(atomfs_open_from(&fs, 9, ATOMFS_V3, PATH("atomfs-journal 3\nstart\ndir /\nentries\n"), &count), ATOMFS_BAD_HEADER);
+    IS(atomfs_open_from(&fs, 9, ATOMFS_V2, PATH("atomfs-journal 4\nstart\ndir /\nentries\n"), &count), ATOMFS_BAD_HEADER);
     IS(atomfs_open_from(NULL, 1, ATOMFS_V1, PATH("tree\ndir /\n"), &count), ATOMFS_NULL);
     IS(atomfs_open_from(&fs, 1, ATOMFS_V1, NULL, 1, &count), ATOMFS_NULL);
     IS(atomfs_open_from(&fs, 1, ATOMFS_V1, PATH("tree\ndir /\n"), NULL), ATOMFS_NULL);
@@ -961,21 +971,122 @@ static void by_limits(uint8_t version, size_t name, uint64_t file, const char *o
     IS(atomfs_close(&fs), ATOMFS_OK);
 }
 
-static void both_limits(void) {
+static void each_set_of_limits(void) {
     by_limits(ATOMFS_V1, 32, 65536, ATOMFS_JOURNAL_HEADER);
     by_limits(ATOMFS_V2, 64, 1048576, "atomfs-journal 3\nstart\ndir /\nentries\n");
+    by_limits(ATOMFS_V3, 64, 2147483648u, "atomfs-journal 4\nstart\ndir /\nentries\n");
     IS(atomfs_open_with(&fs, 100, 0), ATOMFS_BAD_VERSION);
-    IS(atomfs_open_with(&fs, 100, 3), ATOMFS_BAD_VERSION);
+    IS(atomfs_open_with(&fs, 100, 4), ATOMFS_BAD_VERSION);
     IS(atomfs_open_with(&fs, 0, ATOMFS_V2), ATOMFS_BAD_LIMIT);
     IS(atomfs_open_with(&fs, ATOMFS_NODE_LIMIT + 1, ATOMFS_V2), ATOMFS_BAD_LIMIT);
+    IS(atomfs_open_with(&fs, 0, ATOMFS_V3), ATOMFS_BAD_LIMIT);
+    IS(atomfs_open_with(&fs, ATOMFS_V3_NODE_LIMIT + 1, ATOMFS_V3), ATOMFS_BAD_LIMIT);
+    IS(atomfs_open_with(&fs, ATOMFS_V3_NODE_LIMIT, ATOMFS_V3), ATOMFS_OK);
+    atomfs copy = ATOMFS_INIT;
+    IS(atomfs_open_at(&copy, ATOMFS_V3_NODE_LIMIT + 1, &fs, NULL), ATOMFS_BAD_LIMIT);
+    IS(atomfs_open_at(&copy, ATOMFS_NODE_LIMIT + 1, &fs, NULL), ATOMFS_OK);
+    IS(atomfs_close(&copy), ATOMFS_OK);
+    IS(atomfs_close(&fs), ATOMFS_OK);
+    IS(atomfs_open_with(&fs, 100, ATOMFS_V2), ATOMFS_OK);
+    IS(atomfs_open_at(&copy, ATOMFS_NODE_LIMIT + 1, &fs, NULL), ATOMFS_BAD_LIMIT);
+    IS(atomfs_close(&fs), ATOMFS_OK);
     IS(atomfs_open_with(NULL, 100, ATOMFS_V2), ATOMFS_NULL);
     IS(atomfs_close(&fs), ATOMFS_CLOSED);
+}
+
+/* A directory of more names than a call answers: no readdir tells it, and lists tell it in pieces. */
+static void lists(void) {
+    char name[] = "/d/000", last[] = "/255";
+    IS(atomfs_open_with(&fs, 1000, ATOMFS_V3), ATOMFS_OK);
+    IS(atomfs_seat(&fs, &seat), ATOMFS_OK);
+    IS(atomfs_seat(&fs, &other_seat), ATOMFS_OK);
+    IS(atomfs_mkdir(&fs, seat, PATH("/d"), &number), ATOMFS_OK);
+    for (int i = 0; i < 300; i++) {
+        if (i == 256) IS(atomfs_readdir(&fs, seat, PATH("/d"), out, sizeof out, &count, &number), ATOMFS_OK);
+        if (i == 256) IS(count, 4 * 256);
+        snprintf(name + 3, 4, "%03d", i);
+        IS(atomfs_mknod(&fs, seat, PATH(name), &number), ATOMFS_OK);
+    }
+    FAILS(atomfs_readdir(&fs, seat, PATH("/d"), out, sizeof out, &count, &number), EOVERFLOW_);
+    FAILS(atomfs_reply_names(&fs, number, NULL, 0, out, sizeof out, &count), EOVERFLOW_);
+    IS(atomfs_list(&fs, seat, PATH("/d"), PATH("/"), UINT64_MAX, out, sizeof out, &count, &number), ATOMFS_OK);
+    IS(count, 4 * ATOMFS_LIST_LIMIT);
+    SAYS(out, (size_t)8, "000\000" "001\000");
+    IS(strcmp(out + count - 4, last + 1), 0);
+    IS(atomfs_list(&fs, seat, PATH("/d"), PATH(last), ATOMFS_LIST_LIMIT, out, sizeof out, &count, &number), ATOMFS_OK);
+    IS(count, 4 * (300 - ATOMFS_LIST_LIMIT));
+    SAYS(out, (size_t)4, "256\000");
+    IS(atomfs_list(&fs, seat, PATH("/d"), PATH("/x/y/298"), 9, out, sizeof out, &count, &number), ATOMFS_OK);
+    SAYS(out, count, "299\000");
+    IS(atomfs_list(&fs, seat, PATH("/d"), PATH("/2985"), 9, out, 4, &count, &number), ATOMFS_OK);
+    SAYS(out, count, "299\000");
+    IS(atomfs_list(&fs, seat, PATH("/d"), PATH("/299"), 9, NULL, 0, &count, &number), ATOMFS_OK);
+    IS(count, 0);
+    IS(atomfs_list(&fs, seat, PATH("/d"), PATH("/"), 0, NULL, 0, &count, NULL), ATOMFS_OK);
+    IS(count, 0);
+    IS(atomfs_list(&fs, seat, PATH("/d"), PATH("/"), 2, out, 7, &count, &number), ATOMFS_TOO_SMALL);
+    IS(count, 8);
+    IS(atomfs_reply_names(&fs, number, PATH("000"), out, 7, &count), ATOMFS_OK);
+    SAYS(out, count, "001\000");
+    IS(atomfs_reply_bytes(&fs, number, out, sizeof out, &count), ATOMFS_UNTOLD);
+    FAILS(atomfs_list(&fs, seat, PATH("/x"), PATH("/"), 9, out, sizeof out, &count, &number), ENOENT_);
+    FAILS(atomfs_list(&fs, seat, PATH("/d/000"), PATH("/"), 9, out, sizeof out, &count, &number), ENOTDIR_);
+    IS(atomfs_list(&fs, seat, PATH("d"), PATH("/"), 9, out, sizeof out, &count, &number), ATOMFS_BAD_PATH);
+    IS(atomfs_list(&fs, seat, PATH("/d"), PATH("a"), 9, out, sizeof out, &count, &number), ATOMFS_BAD_PATH);
+    IS(atomfs_list(&fs, seat, PATH("/d"), NULL, 0, 9, out, sizeof out, &count, &number), ATOMFS_BAD_PATH);
+    IS(atomfs_list(&fs, 9, PATH("/d"), PATH("/"), 9, out, sizeof out, &count, &number), ATOMFS_NO_SEAT);
+    IS(atomfs_list(NULL, seat, PATH("/d"), PATH("/"), 9, out, sizeof out, &count, &number), ATOMFS_NULL);
+    IS(atomfs_list(&fs, seat, NULL, 2, PATH("/"), 9, out, sizeof out, &count, &number), ATOMFS_NULL);
+    IS(atomfs_list(&fs, seat, PATH("/d"), NULL, 1, 9, out, sizeof out, &count, &number), ATOMFS_NULL);
+    IS(atomfs_list(&fs, seat, PATH("/d"), PATH("/"), 9, NULL, 1, &count, &number), ATOMFS_NULL);
+    IS(atomfs_list(&fs, seat, PATH("/d"), PATH("/"), 9, out, 1, NULL, &number), ATOMFS_NULL);
+    IS(atomfs_list(&fs, seat, PATH("/d"), "/", SIZE_MAX / 2 + 1, 9, out, 1, &count, &number), ATOMFS_BAD_LENGTH);
+    atomfs_request request = { ATOMFS_CALL_LIST, PATH("/d"), PATH("/297"), 0, 9, NULL, 0 };
+    IS(atomfs_begin_call(&fs, other_seat, &request, &number), ATOMFS_OK);
+    step_to_return(other_seat);
+    IS(atomfs_reply_names(&fs, number, NULL, 0, out, sizeof out, &count), ATOMFS_OK);
+    SAYS(out, count, "298\000" "299\000");
+    IS(atomfs_call(&fs, seat, PATH("list /d /298 9"), out, sizeof out, &count, &number), ATOMFS_OK);
+    SAYS(out, count, "names 299");
+    request.other = NULL;
+    IS(atomfs_begin_call(&fs, other_seat, &request, &number), ATOMFS_NULL);
+    IS(atomfs_close(&fs), ATOMFS_OK);
+    IS(atomfs_list(&fs, 0, PATH("/"), PATH("/"), 9, out, sizeof out, &count, &number), ATOMFS_CLOSED);
+    /* The other limits have no such call. */
+    open_fs(10);
+    IS(atomfs_list(&fs, seat, PATH("/"), PATH("/"), 9, out, sizeof out, &count, &number), ATOMFS_BAD_VERSION);
+    request.other = "/";
+    request.other_length = 1;
+    IS(atomfs_begin_call(&fs, seat, &request, &number), ATOMFS_BAD_VERSION);
+    IS(atomfs_call(&fs, seat, PATH("list / / 9"), out, sizeof out, &count, &number), ATOMFS_BAD_LINE);
+    IS(entries_now(), 0);
+    IS(atomfs_close(&fs), ATOMFS_OK);
+}
+
+/* A read tells so many bytes at most, and whole files are read by as many reads as they take. */
+static void long_reads(void) {
+    static char large[ATOMFS_READ_LIMIT + 9];
+    IS(atomfs_open_with(&fs, 10, ATOMFS_V3), ATOMFS_OK);
+    IS(atomfs_seat(&fs, &seat), ATOMFS_OK);
+    memset(large, 'x', sizeof large);
+    IS(atomfs_write_file(&fs, seat, PATH("/f"), large, sizeof large), ATOMFS_OK);
+    memset(large, '#', sizeof large);
+    IS(atomfs_read(&fs, seat, PATH("/f"), 2, large, sizeof large, &count, &number), ATOMFS_OK);
+    IS(count, ATOMFS_READ_LIMIT);
+    SAYS(large + ATOMFS_READ_LIMIT - 1, (size_t)2, "x#");
+    IS(atomfs_read_file(&fs, seat, PATH("/f"), large, sizeof large - 1, &count), ATOMFS_TOO_SMALL);
+    IS(count, sizeof large);
+    IS(atomfs_read_file(&fs, seat, PATH("/f"), large, sizeof large, &count), ATOMFS_OK);
+    IS(count, sizeof large);
+    SAYS(large + ATOMFS_READ_LIMIT, (size_t)9, "xxxxxxxxx");
+    IS(atomfs_close(&fs), ATOMFS_OK);
 }
 
 static void words(void) {
     IS(strcmp(atomfs_version(), ATOMFS_VERSION), 0);
     IS(strcmp(atomfs_errno_name(ATOMFS_FAILED + ENOENT_), "ENOENT"), 0);
     IS(strcmp(atomfs_errno_name(ATOMFS_FAILED + ENOTEMPTY_), "ENOTEMPTY"), 0);
+    IS(strcmp(atomfs_errno_name(ATOMFS_FAILED + EOVERFLOW_), "EOVERFLOW"), 0);
     IS(atomfs_errno_name(ATOMFS_OK) == NULL, 1);
     IS(atomfs_errno_name(ENOENT_) == NULL, 1);
     IS(atomfs_errno_name(255) == NULL, 1);
@@ -1010,7 +1121,9 @@ int main(void) {
     trees_refused();
     second_trees();
     closed();
-    both_limits();
+    each_set_of_limits();
+    lists();
+    long_reads();
     words();
     puts("typed calls: as they are to be");
     return 0;

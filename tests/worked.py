@@ -23,7 +23,7 @@ RUNS, JOURNALS, FAULTS, EXAMPLES = (*(DATA / "worked" / folder for folder in ("r
 TOUR = EXAMPLES / "tour"
 # How many inputs a folder has, and what stands behind the name of one.
 FOLDERS = (
-    ("runs", RUNS, 49, ("script", "text", "robin.text", "drawn.text", "status")),
+    ("runs", RUNS, 51, ("script", "text", "robin.text", "drawn.text", "status")),
     ("journals", JOURNALS, 14, ("journal", "verdict", "message", "status")),
     ("faults", FAULTS, 44, ("script", "journal", "message", "status")),
 )

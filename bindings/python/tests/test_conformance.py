@@ -5,6 +5,7 @@ import unittest
 from fs import errors
 from fs.test import FSTestCases
 
+from atomfs import Limits
 from atomfs.fs import AtomFS
 
 # What a test of the suite needs, and a tree has not.
@@ -32,6 +33,12 @@ class Conformance(FSTestCases, unittest.TestCase):
     def destroy_fs(self, fs):
         fs.close()
         self.assertEqual(fs.verdict, "lawful")
+
+
+class OfTheThirdLimits(FSTestCases, unittest.TestCase):
+    """By these all tests of the suite pass."""
+
+    make_fs, destroy_fs = lambda self: Checked(limits=Limits.V3), Conformance.destroy_fs
 
 
 class LeftOut(unittest.TestCase):

@@ -110,6 +110,21 @@ class Runs(unittest.TestCase):
         self.assertEqual(explore({"t": []}, lambda tree, replies: False, runs=0), 0)
         self.assertEqual(failed(self, {"t": []}).journal, "atomfs-journal 3\nstart\ndir /\nentries\n")
 
+    def test_lists(self):
+        """By the third limits threads list directories, and the script is one of these."""
+        threads = {"m": ["mknod /b", "unlink /a"], "l": ["list / / 9", ("list", "/", "/a", 1)]}
+        came = set()
+
+        def check(tree, replies):
+            came.add(tuple(map(tuple, replies["l"])))
+
+        explore(threads, check, runs=200, before=["mknod /a"], limits=atomfs.Limits.V3)
+        self.assertLessEqual({(("a",), ("b",)), (("b",), ("b",)), (("a",), ())}, came)
+        error = failed(self, threads, before=["mknod /a"], limits=atomfs.Limits.V3)
+        self.assertTrue(error.script.startswith("atomfs 3\n"))
+        self.assertIn("\nlist / / 9\nlist / /a 1\n", error.script)
+        self.assertEqual(atomfs.run(error.script).partition("tree\n")[0], error.journal)
+
     def test_interrupted(self):
         def check(tree, replies):
             raise KeyboardInterrupt
@@ -121,9 +136,9 @@ class BadInput(unittest.TestCase):
     def test_calls(self):
         """What is no call raises the error of what it is, before any run."""
         for kind, words, call in (
-            (ValueError, "'mkdr' is none of the eleven calls", "mkdr /a"),
-            (ValueError, "'' is none of the eleven calls", ""),
-            (ValueError, "7 is none of the eleven calls", (7,)),
+            (ValueError, "'mkdr' is none of the twelve calls", "mkdr /a"),
+            (ValueError, "'' is none of the twelve calls", ""),
+            (ValueError, "7 is none of the twelve calls", (7,)),
             (TypeError, "mkdir takes path: 'mkdir /a /b'", "mkdir /a /b"),
             (TypeError, "read takes path, offset, count", ("read", "/a", 0)),
             (OSError, "Path does not begin with a slash: 'a'", "mkdir a"),
@@ -133,6 +148,7 @@ class BadInput(unittest.TestCase):
             (TypeError, "write takes bytes, and this is str", ("write", "/a", 0, "text")),
             (ValueError, "non-hexadecimal", "write /a 0 xy"),
             (ValueError, "invalid literal", "truncate /a x"),
+            (ValueError, "no tree by Limits.V2 has the call list", "list / / 1"),
         ):
             with self.subTest(call):
                 self.assertRaisesRegex(kind, words, explore, {"t": [call]}, self.fail)

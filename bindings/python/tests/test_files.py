@@ -223,6 +223,20 @@ class Files(unittest.TestCase):
         self.assertEqual([info.name for info in self.files.scandir("/", page=(1, 3))], ["b", "\N{SNOWMAN}"])
         self.assertTrue(self.files.exists("\udcff"))
 
+    def test_large_directories(self):
+        """By the third limits a directory comes whole, by several calls."""
+        with AtomFS(limits=atomfs.Limits.V3) as files:
+            names = [f"{at:03}" for at in range(300)]
+            for name in names:
+                files.create(f"d{name}" if name == "000" else name)
+            found = sorted(names[1:] + ["d000"])
+            self.assertEqual(files.listdir("/"), found)
+            self.assertEqual([info.name for info in files.scandir("/")], found)
+            self.assertEqual(files.atom_tree.journal().count(" list / "), 4)
+            self.assertEqual(files.getmeta("atomfs"), {"name_bytes": 64, "path_names": 2_048, "file_bytes": 2_147_483_648})
+            files.makedirs("/n" * 2_048)
+            self.assertRaises(errors.InvalidPath, files.exists, "/n" * 2_049)
+
     def test_removed_while_scanned(self):
         for name in "abc":
             self.files.create(name)

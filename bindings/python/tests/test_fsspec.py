@@ -53,6 +53,20 @@ class Specs(unittest.TestCase):
         self.assertEqual(files.info("/")["type"], "directory")
         self.assertTrue(files.isdir("/a") and files.isfile("/a/f") and not files.exists("/a/f/g"))
 
+    def test_large_directories(self):
+        """By the third limits a directory comes whole, by several calls."""
+        with atomfs.Tree(limits=atomfs.Limits.V3) as tree:
+            files, names = AtomFileSystem(tree=tree), [f"/d/{at:03}" for at in range(300)]
+            files.makedirs("/d")
+            for name in names:
+                files.touch(name)
+            self.assertEqual(files.ls("/d", detail=False), names)
+            files.makedirs("/d", exist_ok=True)
+            self.assertRaises(FileExistsError, files.makedirs, "/d")
+            self.assertRaises(NotADirectoryError, files.makedirs, "/d/000", exist_ok=True)
+            files.rm("/d", recursive=True)
+            self.assertEqual(tree.check(), "lawful")
+
     def test_walks(self):
         files = self.files
         for path in ("/a/b/1.txt", "/a/2.txt", "/3.bin"):

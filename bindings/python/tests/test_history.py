@@ -208,10 +208,30 @@ class Texts(unittest.TestCase):
                 tell(answer)
             self.assertEqual(str(raised.exception)[: len(words)], words)
 
+    def test_lists(self):
+        """By the third limits a history has lists, and the error of a directory that is too large for one reply; others have neither."""
+        history = History(limits=Limits.V3)
+        with history.call("mkdir /a"):
+            pass
+        with history.call("list", "/", "/x", 2) as answer:
+            answer.names([])
+        with history.call("list / / 2") as answer:
+            answer.names(["a"])
+        self.assertIsInstance(history.linearize(), Lawful)
+        with history.call("readdir /a"):
+            raise OSError(errno.EOVERFLOW, "too many")
+        self.assertEqual(lines(history)[2:], ["begin 2 0 list / /x 2", "return 2 names", "begin 3 0 list / / 2", "return 3 names a", "begin 4 0 readdir /a", "return 4 failed EOVERFLOW"])
+        self.assertEqual(history.linearize(), NoOrder(8, 4))
+        with self.assertRaisesRegex(ValueError, "no tree by Limits.V2 has the call list"):
+            self.history.call("list / / 2")
+        with self.history.call("readdir /"):
+            raise OSError(errno.EOVERFLOW, "too many")
+        self.assertEqual(lines(self.history)[-1], "return 1 failed ?")
+
     def test_no_call(self):
         """What is no call is refused, by no error that looks like one of the tree; and nothing is recorded."""
         for kind, words, given in (
-            (ValueError, "'touch /a' is no call: 'touch' is none of the eleven calls", ("touch /a",)),
+            (ValueError, "'touch /a' is no call: 'touch' is none of the twelve calls", ("touch /a",)),
             (ValueError, "'mkdir a' is no call: ", ("mkdir a",)),
             (ValueError, "('mkdir', '/..') is no call: ", ("mkdir", "/..")),
             (ValueError, f"'mkdir /{'a' * 65}' is no call: ", (f"mkdir /{'a' * 65}",)),

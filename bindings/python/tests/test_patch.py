@@ -901,6 +901,25 @@ class Open(OfPatch):
 
         self.compare(row)
 
+    def test_the_third_limits(self):
+        """Directories and files that one call does not tell come whole."""
+        with atomfs.Tree(limits=atomfs.Limits.V3) as tree, atomfs.patch(tree, at=AT):
+            os.mkdir(f"{AT}/d")
+            names = [f"{at:03}" for at in range(300)]
+            for name in names:
+                pathlib.Path(AT, "d", name).touch()
+            self.assertEqual(os.listdir(f"{AT}/d"), names)
+            self.assertEqual([entry.name for entry in os.scandir(f"{AT}/d")], names)
+            self.assertEqual(sorted(os.listdir(os.fsencode(f"{AT}/d"))), [name.encode() for name in names])
+            data = bytes(range(251)) * 12_600
+            pathlib.Path(AT, "f").write_bytes(data)
+            shutil.copyfile(f"{AT}/f", f"{AT}/g")
+            self.assertEqual(pathlib.Path(AT, "g").read_bytes(), data)
+            with descriptor(f"{AT}/f") as number:
+                self.assertEqual((os.read(number, 2_000_000), os.read(number, 2**31)), (data[:2_000_000], data[2_000_000:]))
+            shutil.rmtree(f"{AT}/d")
+            self.assertEqual((sorted(os.listdir(AT)), tree.check()), (["f", "g"], "lawful"))
+
     def test_calls(self):
         """A function is one call of the tree, where one is enough."""
         with atomfs.patch(self.tree, at=AT):

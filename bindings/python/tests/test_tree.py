@@ -141,6 +141,120 @@ class Calls(OfTree):
         tree.close()
 
 
+class Lists(unittest.TestCase):
+    """Directories and files by the third limits: larger than what one call tells."""
+
+    def setUp(self):
+        self.tree = atomfs.Tree(limits=atomfs.Limits.V3)
+        self.names = [f"{at:03}" for at in range(600)]
+        self.tree.mkdir("/d")
+        for name in self.names:
+            self.tree.mknod(f"/d/{name}")
+
+    def tearDown(self):
+        self.assertEqual(self.tree.check(), "lawful")
+        self.tree.close()
+
+    def lists(self, of):
+        """How many calls `list` a function makes."""
+        self.tree.checkpoint()
+        of()
+        return self.tree.journal().count(" list /d ")
+
+    def test_pieces(self):
+        tree, names = self.tree, self.names
+        self.assertEqual(tree.list("/d"), names[:256])
+        self.assertEqual(tree.list("/d", "/255"), names[256:512])
+        self.assertEqual(tree.list("/d", b"/x/y/511", 1_000), names[512:])
+        self.assertEqual(tree.list(b"/d", "/5", 2), [b"500", b"501"])
+        self.assertEqual((tree.list("/d", "/599"), tree.list("/d", count=0)), ([], []))
+        with self.assertRaises(OSError) as raised:
+            tree.readdir("/d")
+        self.assertEqual((raised.exception.errno, raised.exception.filename), (errno.EOVERFLOW, "/d"))
+        self.assertIn("has more than 256 entries", str(raised.exception))
+        self.assertRaises(NotADirectoryError, tree.list, "/d/000")
+        self.assertRaises(FileNotFoundError, tree.list, "/x")
+        self.assertRaises(ValueError, tree.list, "/d", "/", -1)
+        with self.assertRaises(OSError) as raised:
+            tree.list("/d", "000")
+        self.assertEqual((raised.exception.errno, raised.exception.filename), (errno.EINVAL, "/d"))
+
+    def test_whole_directories(self):
+        """Each listing makes a call for as many names as one tells, and one more where these are all there are."""
+        tree, names = self.tree, self.names
+        paths = [f"/d/{name}" for name in names]
+        self.assertEqual(self.lists(lambda: self.assertEqual(tree.listdir("/d"), names)), 3)
+        self.assertEqual(self.lists(lambda: self.assertEqual(tree.listdir(b"/d"), [name.encode() for name in names])), 3)
+        self.assertEqual(self.lists(lambda: self.assertEqual([str(path) for path in tree.path("/d").iterdir()], paths)), 3)
+        self.assertEqual(self.lists(lambda: self.assertEqual(list(tree.walk("/d")), [("/d", [], names)])), 3)
+        self.assertEqual(self.lists(lambda: self.assertEqual(tree.glob("/d/*"), paths)), 3)
+        for name in names[256:]:
+            tree.unlink(f"/d/{name}")
+        self.assertEqual(self.lists(lambda: self.assertEqual(tree.listdir("/d"), names[:256])), 2)
+        tree.rmtree("/d")
+        self.assertEqual(tree.listdir("/"), [])
+        self.assertRaises(FileNotFoundError, tree.listdir, "/d")
+
+    def test_step_by_step(self):
+        seat = self.tree.seat()
+        number = seat.begin.list("/d", "/597", 9)
+        self.assertEqual(seat.finish(), ["598", "599"])
+        self.assertIn(f"begin {number} 1 list /d /597 9\n", self.tree.journal())
+        seat.begin.list(b"/d", count=1)
+        self.assertEqual(seat.finish(), [b"000"])
+        seat.begin.readdir("/d")
+        self.assertRaises(OSError, seat.finish)
+
+    def test_long_files(self):
+        """What is longer than one call reads comes by several, and a file may be far longer than what is in it."""
+        tree, most = self.tree, self.tree.limits.read_bytes
+        data = bytes(range(251)) * (2 * most // 251 + 9)
+        self.assertEqual(tree.write_bytes("/f", data), len(data))
+        for read in (lambda: tree.read("/f"), lambda: tree.read_bytes("/f"), tree.path("/f").read_bytes):
+            self.assertEqual(read(), data)
+        self.assertEqual(tree.read("/f", 7, most + 1), data[7 : 8 + most])
+        self.assertEqual(tree.read("/f", 1, 2**64 - 1), data[1:])
+        self.assertEqual(tree.read("/f", len(data) - 2, 9), data[-2:])
+        for buffering in (-1, 0):
+            with tree.open("/f", "rb", buffering) as file:
+                self.assertEqual((file.read(most + 5), file.read()), (data[: most + 5], data[most + 5 :]))
+        with tree.open("/g", "wb") as file:
+            file.write(data)
+        self.assertEqual(tree.read("/g"), data)
+        tree.truncate("/g", 0)
+        tree.write("/g", tree.limits.file_bytes - 1, b"x")
+        self.assertEqual(tree.stat("/g").size, tree.limits.file_bytes)
+        self.assertEqual(tree.read("/g", tree.limits.file_bytes - 2), b"\0x")
+        with tree.open("/g", "rb") as file:
+            file.seek(-1, os.SEEK_END)
+            self.assertEqual(file.read(), b"x")
+        tree.truncate("/g", most)
+        self.assertEqual(tree.read("/g"), bytes(most))
+        tree.unlink("/g")
+
+    def test_other_limits(self):
+        """The others have no such call, and `listdir` is one `readdir` there."""
+        for limits in (atomfs.Limits.V1, atomfs.Limits.V2):
+            with atomfs.Tree(limits=limits) as tree:
+                tree.mknod("/a")
+                with self.assertRaises(atomfs.Error) as raised:
+                    tree.list("/")
+                self.assertEqual(raised.exception.status, atomfs.Status.BAD_VERSION)
+                self.assertRaises(atomfs.Error, lambda: tree.seat().begin.list("/"))
+                self.assertEqual(tree.listdir("/"), ["a"])
+                self.assertEqual(re.findall("begin .*", tree.journal()), ["begin 1 0 mknod /a", "begin 2 0 readdir /"])
+
+    def test_copies_and_keeps(self):
+        """A tree that forgets by itself notes these calls too, and a copy and a picture of the last calls have these limits."""
+        with atomfs.Tree(limits=atomfs.Limits.V3, journal=atomfs.LAST(2)) as tree:
+            for _ in range(5):
+                tree.list("/")
+            self.assertEqual(tree.calls_before + tree.calls, 5)
+            self.assertEqual(copy.copy(tree).limits, atomfs.Limits.V3)
+            self.assertIn("<svg", tree.draw(last=1).svg)
+        self.assertEqual(pickle.loads(pickle.dumps(self.tree)).listdir("/d"), self.names)
+
+
 class Words(OfTree):
     """What errors say, beside their number and their path."""
 
@@ -177,6 +291,11 @@ class Words(OfTree):
             name = "/" + "n" * 33
             self.says(OSError, f"[Errno 36] Path has a name of more than 32 bytes: {name!r}", lambda: tree.stat(name))
         self.says(OSError, f"[Errno 36] Path has more than 64 names: {'/n' * 65!r}", lambda: self.tree.stat("/n" * 65))
+        with atomfs.Tree(limits=atomfs.Limits.V3) as tree:
+            self.assertRaises(FileNotFoundError, tree.stat, "/n" * 2_048)
+            self.says(OSError, f"[Errno 36] Path has more than 2,048 names: {'/n' * 2_049!r}", lambda: tree.stat("/n" * 2_049))
+            tree.mknod("/f")
+            self.says(OSError, "[Errno 27] The file would have more than 2,147,483,648 bytes: '/f'", lambda: tree.truncate("/f", 2**31 + 1))
 
     def test_paths(self):
         """What the library says of bytes that are no path, the first check that they fail; of two paths, the one that is none."""
@@ -353,11 +472,16 @@ class OpenAndClosed(OfTree):
     def test_limits(self):
         for limit in (0, -1, atomfs.NODE_LIMIT + 1):
             self.assertRaises(ValueError, atomfs.Tree, limit)
-        self.assertRaises(ValueError, lambda: atomfs.Tree(limits=3))
+        self.assertRaises(ValueError, lambda: atomfs.Tree(limits=4))
+        for limits in atomfs.Limits:
+            self.assertRaises(ValueError, atomfs.Tree, limits.nodes + 1, limits=limits)
+            with atomfs.Tree(limits=limits) as tree:
+                self.assertEqual((tree.limit, tree.limits), (limits.nodes, limits))
 
     def test_limits_of_names_and_files(self):
         """What each set of limits takes at most, and the version of the journal."""
-        for limits, header in ((atomfs.Limits.V1, "atomfs-journal 1\n"), (atomfs.Limits.V2, "atomfs-journal 3\nstart\ndir /\nentries\n")):
+        headers = "atomfs-journal 1\n", "atomfs-journal 3\nstart\ndir /\nentries\n", "atomfs-journal 4\nstart\ndir /\nentries\n"
+        for limits, header in zip(atomfs.Limits, headers):
             name = "/" + "n" * limits.name_bytes
             with self.subTest(limits), atomfs.Tree(limits=limits) as tree:
                 tree.mknod(name)

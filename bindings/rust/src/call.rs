@@ -82,6 +82,8 @@ pub enum Call<'a> {
     Stat(&'a [u8]),
     /// Tells the names of a directory.
     Readdir(&'a [u8]),
+    /// Tells the names of a directory above the last name of the second path, at most so many.
+    List(&'a [u8], &'a [u8], u64),
     /// Reads from an offset on at most so many bytes.
     Read(&'a [u8], u64, u64),
     /// Writes bytes into a file at an offset.
@@ -131,6 +133,16 @@ impl<'a> Call<'a> {
         Call::Readdir(path.path_bytes())
     }
 
+    /// Tells the names of a directory above the last name of `after`, or from the first on where that is the root: at most `count`,
+    /// and at most 256. Trees by [`Limits::V3`](crate::Limits::V3) alone have it.
+    pub fn list(
+        path: &'a (impl AsPath + ?Sized),
+        after: &'a (impl AsPath + ?Sized),
+        count: u64,
+    ) -> Self {
+        Call::List(path.path_bytes(), after.path_bytes(), count)
+    }
+
     /// Reads from an offset on at most so many bytes.
     pub fn read(path: &'a (impl AsPath + ?Sized), offset: u64, count: u64) -> Self {
         Call::Read(path.path_bytes(), offset, count)
@@ -165,6 +177,7 @@ impl<'a> Call<'a> {
             Call::Read(path, offset, count) => (8, path, none, offset, count, none),
             Call::Write(path, offset, bytes) => (9, path, none, offset, 0, bytes),
             Call::Truncate(path, size) => (10, path, none, 0, size, none),
+            Call::List(path, after, count) => (11, path, after, 0, count, none),
         };
         Request {
             call,
@@ -179,7 +192,15 @@ impl<'a> Call<'a> {
         }
     }
 
-    /// Its path, and its second one where it has two.
+    /// The path behind whose last name it lists, where it does.
+    pub(crate) fn after(&self) -> Option<&'a [u8]> {
+        match *self {
+            Call::List(_, after, _) => Some(after),
+            _ => None,
+        }
+    }
+
+    /// Its path, and its second one where it looks at two.
     pub(crate) fn paths(&self) -> (&'a [u8], Option<&'a [u8]>) {
         match *self {
             Call::Rename(path, other) | Call::Exchange(path, other) => (path, Some(other)),
@@ -189,6 +210,7 @@ impl<'a> Call<'a> {
             | Call::Rmdir(path)
             | Call::Stat(path)
             | Call::Readdir(path)
+            | Call::List(path, ..)
             | Call::Read(path, ..)
             | Call::Write(path, ..)
             | Call::Truncate(path, _) => (path, None),
@@ -199,7 +221,7 @@ impl<'a> Call<'a> {
     pub(crate) fn kind(&self) -> Kind {
         match self {
             Call::Stat(_) => Kind::Stat,
-            Call::Readdir(_) => Kind::Names,
+            Call::Readdir(_) | Call::List(..) => Kind::Names,
             Call::Read(..) => Kind::Bytes,
             Call::Write(..) => Kind::Wrote,
             _ => Kind::Done,

@@ -8,7 +8,7 @@ use std::path::{Path, PathBuf};
 
 use crate::call::{Call, Seat};
 use crate::ffi;
-use crate::limits::{Limits, ENTRY_LIMIT};
+use crate::limits::{Limits, LISTED};
 
 /// The error of a call, with Linux's number.
 #[derive(Clone, Copy, Debug, PartialEq, Eq, Hash)]
@@ -33,10 +33,12 @@ pub enum Errno {
     ENOSPC = 28,
     /// A directory that is not empty.
     ENOTEMPTY = 39,
+    /// A directory has more names than a call tells.
+    EOVERFLOW = 75,
 }
 
 impl Errno {
-    const ALL: [Errno; 10] = [
+    const ALL: [Errno; 11] = [
         Errno::EPERM,
         Errno::ENOENT,
         Errno::EBUSY,
@@ -47,6 +49,7 @@ impl Errno {
         Errno::EFBIG,
         Errno::ENOSPC,
         Errno::ENOTEMPTY,
+        Errno::EOVERFLOW,
     ];
 
     /// The operating system's number.
@@ -64,7 +67,7 @@ pub enum PathFault {
     Nul,
     /// A name has more bytes than the limits allow.
     NameTooLong,
-    /// It has more than 64 names.
+    /// It has more names than the limits allow.
     TooManyNames,
     /// A name is `.` or `..`.
     Dot,
@@ -149,7 +152,7 @@ impl Error {
     pub(crate) fn of_refused(status: u8, number: u64, call: &Call, limits: Limits) -> Error {
         let (path, other) = call.paths();
         if status == ffi::BAD_PATH {
-            for path in [path].into_iter().chain(other) {
+            for path in [path].into_iter().chain(other).chain(call.after()) {
                 let fault =
                     unsafe { ffi::atomfs_check_path(path.as_ptr(), path.len(), limits as u8) };
                 if fault != ffi::OK {
@@ -228,7 +231,7 @@ pub enum ErrorKind {
     Full,
     /// Out of memory.
     OutOfMemory,
-    /// The limit is 0, or above `NODE_LIMIT`.
+    /// The limit is 0, or above `Limits::nodes`.
     BadLimit,
     /// There is no such seat.
     NoSeat,
@@ -326,12 +329,18 @@ impl fmt::Display for ErrorKind {
 /// The limit that an error of a call is about.
 fn limit_of(errno: Errno) -> Option<String> {
     match errno {
-        Errno::ENOSPC => Some(format!("the directory has {ENTRY_LIMIT} entries")),
-        Errno::EFBIG => Some(format!(
-            "the file would have more than {} bytes by the first limits, or {} by the second ones",
-            Limits::V1.file_bytes(),
-            Limits::V2.file_bytes()
+        Errno::ENOSPC => Some(format!(
+            "the directory has {} entries, or {} by the third limits",
+            Limits::V1.entries(),
+            Limits::V3.entries()
         )),
+        Errno::EFBIG => Some(format!(
+            "the file would have more than {} bytes by the first limits, {} by the second or {} by the third",
+            Limits::V1.file_bytes(),
+            Limits::V2.file_bytes(),
+            Limits::V3.file_bytes()
+        )),
+        Errno::EOVERFLOW => Some(format!("the directory has more than {LISTED} entries")),
         _ => None,
     }
 }

@@ -153,6 +153,19 @@ extern "C" {
         count: *mut usize,
         number: *mut u64,
     ) -> u8;
+    pub fn atomfs_list(
+        fs: *mut Handle,
+        seat: u64,
+        path: *const u8,
+        length: usize,
+        after: *const u8,
+        after_length: usize,
+        most: u64,
+        out: *mut u8,
+        room: usize,
+        count: *mut usize,
+        number: *mut u64,
+    ) -> u8;
     pub fn atomfs_read(
         fs: *mut Handle,
         seat: u64,

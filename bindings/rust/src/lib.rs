@@ -65,8 +65,8 @@ pub use texts::{check, draw, explain, run, schedule, seeds, trace, Schedule};
 pub use tree::Tree;
 pub use whole::{Calls, Entry};
 
-/// The greatest limit of nodes.
-pub const NODE_LIMIT: usize = 1_048_576;
+/// The greatest limit of nodes of a tree whose limits are not told; [`Limits::nodes`] has that of each.
+pub const NODE_LIMIT: usize = Limits::V2.nodes();
 
 /// The version of the library.
 pub fn version() -> &'static str {

@@ -4,6 +4,7 @@ use std::sync::{Arc, Mutex, MutexGuard, PoisonError};
 
 use crate::call::{Call, Did, Reply, Seat, Stat};
 use crate::error::Error;
+use crate::limits::Limits;
 use crate::path::AsPath;
 use crate::tree::Tree;
 use crate::whole::{self, Calls};
@@ -100,6 +101,21 @@ impl Session {
         whole::readdir(self, path.path_bytes())
     }
 
+    /// As [`Tree::list`].
+    pub fn list(
+        &mut self,
+        path: impl AsPath,
+        after: impl AsPath,
+        count: u64,
+    ) -> Result<Vec<Vec<u8>>, Error> {
+        whole::list(self, path.path_bytes(), after.path_bytes(), count)
+    }
+
+    /// As [`Tree::read_dir`]; calls of other threads can come between its calls.
+    pub fn read_dir(&mut self, path: impl AsPath) -> Result<Vec<Vec<u8>>, Error> {
+        whole::read_dir(self, path.path_bytes())
+    }
+
     /// At most `count` bytes of a file from an offset on.
     pub fn read(&mut self, path: impl AsPath, offset: u64, count: u64) -> Result<Vec<u8>, Error> {
         whole::read(self, path.path_bytes(), offset, count)
@@ -124,6 +140,10 @@ impl Session {
 impl Calls for Session {
     fn call(&mut self, call: &Call) -> Result<Reply, Error> {
         Session::call(self, call)
+    }
+
+    fn limits(&mut self) -> Limits {
+        lock(&self.tree).limits()
     }
 }
 

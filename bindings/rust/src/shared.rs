@@ -47,7 +47,7 @@ impl SharedTree {
         Tree::with_limit(limit).map(SharedTree::from)
     }
 
-    /// The same with names and files by these limits.
+    /// The same by these limits.
     pub fn with_limits(limit: usize, limits: Limits) -> Result<SharedTree, Error> {
         Tree::with_limits(limit, limits).map(SharedTree::from)
     }
@@ -115,6 +115,21 @@ impl SharedTree {
         whole::readdir(&mut &*self, path.path_bytes())
     }
 
+    /// As [`Tree::list`].
+    pub fn list(
+        &self,
+        path: impl AsPath,
+        after: impl AsPath,
+        count: u64,
+    ) -> Result<Vec<Vec<u8>>, Error> {
+        whole::list(&mut &*self, path.path_bytes(), after.path_bytes(), count)
+    }
+
+    /// As [`Tree::read_dir`]; calls of other threads can come between its calls.
+    pub fn read_dir(&self, path: impl AsPath) -> Result<Vec<Vec<u8>>, Error> {
+        whole::read_dir(&mut &*self, path.path_bytes())
+    }
+
     /// At most `count` bytes of a file from an offset on.
     pub fn read(&self, path: impl AsPath, offset: u64, count: u64) -> Result<Vec<u8>, Error> {
         whole::read(&mut &*self, path.path_bytes(), offset, count)
@@ -155,7 +170,7 @@ impl SharedTree {
         whole::walk(&mut &*self, path.path_bytes())
     }
 
-    /// All bytes of a file.
+    /// As [`Tree::read_to_end`]; calls of other threads can come between its calls.
     pub fn read_to_end(&self, path: impl AsPath) -> Result<Vec<u8>, Error> {
         whole::read_to_end(&mut &*self, path.path_bytes())
     }
@@ -188,10 +203,18 @@ impl Calls for SharedTree {
     fn call(&mut self, call: &Call) -> Result<Reply, Error> {
         SharedTree::call(self, call)
     }
+
+    fn limits(&mut self) -> Limits {
+        self.lock().limits()
+    }
 }
 
 impl Calls for &SharedTree {
     fn call(&mut self, call: &Call) -> Result<Reply, Error> {
         SharedTree::call(self, call)
+    }
+
+    fn limits(&mut self) -> Limits {
+        self.lock().limits()
     }
 }

@@ -97,7 +97,7 @@ impl Tree {
         Tree::with_limits(limit, Limits::default())
     }
 
-    /// The same with names and files by these limits.
+    /// The same by these limits.
     ///
     /// ```
     /// use atomfs::{Errno, ErrorKind, Limits, Tree, NODE_LIMIT};
@@ -243,7 +243,13 @@ impl Tree {
         Ok(stat_of(stat))
     }
 
-    /// The names of a directory, in byte order.
+    /// The limits of the tree.
+    pub fn limits(&self) -> Limits {
+        self.limits
+    }
+
+    /// The names of a directory, in byte order: `EOVERFLOW` where they are more than 256, as they may be by [`Limits::V3`].
+    /// [`read_dir`](Tree::read_dir) tells these.
     pub fn readdir(&mut self, path: impl AsPath) -> Result<Vec<Vec<u8>>, Error> {
         let own = self.own()?;
         let (path, mut count, mut number) = (path.path_bytes(), 0, 0);
@@ -268,13 +274,58 @@ impl Tree {
         Ok(names_of(&self.room[..count]))
     }
 
-    /// At most `count` bytes of a file from an offset on.
+    /// The names of a directory above the last name of `after`, or from the first on where that is the root, in byte order: at most
+    /// `count`, and at most 256. Trees by [`Limits::V3`] alone have it.
+    ///
+    /// ```
+    /// use atomfs::{Limits, Tree};
+    ///
+    /// let mut tree = Tree::with_limits(Limits::V3.nodes(), Limits::V3)?;
+    /// for name in ["/a", "/b", "/c"] {
+    ///     tree.mknod(name)?;
+    /// }
+    /// assert_eq!(tree.list("/", "/", 2)?, [b"a", b"b"]);
+    /// assert_eq!(tree.list("/", "/b", 2)?, [b"c"]);
+    /// # Ok::<(), atomfs::Error>(())
+    /// ```
+    pub fn list(
+        &mut self,
+        path: impl AsPath,
+        after: impl AsPath,
+        count: u64,
+    ) -> Result<Vec<Vec<u8>>, Error> {
+        let own = self.own()?;
+        let (path, after, mut told, mut number) = (path.path_bytes(), after.path_bytes(), 0, 0);
+        let status = unsafe {
+            ffi::atomfs_list(
+                self.handle,
+                own,
+                path.as_ptr(),
+                path.len(),
+                after.as_ptr(),
+                after.len(),
+                count,
+                self.room.as_mut_ptr(),
+                self.room.len(),
+                &mut told,
+                &mut number,
+            )
+        };
+        if status == TOO_SMALL || status == UNTOLD {
+            self.noted(number);
+            return self.told_names(number);
+        }
+        self.called(status, number, &Call::List(path, after, count))?;
+        Ok(names_of(&self.room[..told]))
+    }
+
+    /// At most `count` bytes of a file from an offset on, and at most `Limits::read_bytes`, as one call reads.
     pub fn read(&mut self, path: impl AsPath, offset: u64, count: usize) -> Result<Vec<u8>, Error> {
         let path = path.path_bytes();
         if count > self.room.len() {
             // The file may be shorter than what is asked for by far.
             let size = usize::try_from(self.stat(path)?.size).unwrap_or(usize::MAX);
-            self.make_room(count.min(size));
+            self.make_room(count.min(size).min(self.limits.read_bytes()));
         }
         let count = count.min(self.room.len());
         let mut room = std::mem::take(&mut self.room);
@@ -283,7 +334,8 @@ impl Tree {
         Ok(self.room[..read?].to_vec())
     }
 
-    /// Reads bytes of a file from an offset on into `out`: as many as it has room for, or as there are.
+    /// Reads bytes of a file from an offset on into `out`: as many as it has room for, or as there are, and at most
+    /// `Limits::read_bytes`.
     pub fn read_into(
         &mut self,
         path: impl AsPath,
@@ -383,6 +435,7 @@ impl Tree {
             Call::Exchange(path, other) => self.exchange(path, other).map(|()| Reply::Done),
             Call::Stat(path) => self.stat(path).map(Reply::Stat),
             Call::Readdir(path) => self.readdir(path).map(Reply::Names),
+            Call::List(path, after, count) => self.list(path, after, count).map(Reply::Names),
             Call::Read(path, offset, count) => {
                 let count = usize::try_from(count).unwrap_or(usize::MAX);
                 self.read(path, offset, count).map(Reply::Bytes)
@@ -646,7 +699,7 @@ impl Tree {
         }
     }
 
-    /// The names that a readdir replied, in pieces for which there is room.
+    /// The names that a call replied, in pieces for which there is room.
     fn told_names(&mut self, number: u64) -> Result<Vec<Vec<u8>>, Error> {
         let mut names: Vec<Vec<u8>> = Vec::new();
         loop {

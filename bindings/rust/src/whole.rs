@@ -7,6 +7,7 @@ use std::path::{Path, PathBuf};
 use crate::call::{Call, Reply, Stat};
 use crate::error::{Errno, Error, ErrorKind};
 use crate::file::{File, OpenOptions};
+use crate::limits::{Limits, LISTED};
 use crate::path::AsPath;
 use crate::tree::Tree;
 
@@ -16,17 +17,30 @@ use crate::tree::Tree;
 pub trait Calls {
     /// Runs a call to its return, and tells its reply.
     fn call(&mut self, call: &Call) -> Result<Reply, Error>;
+
+    /// The limits of the tree that it runs them on.
+    fn limits(&mut self) -> Limits {
+        Limits::default()
+    }
 }
 
 impl<C: Calls + ?Sized> Calls for &mut C {
     fn call(&mut self, call: &Call) -> Result<Reply, Error> {
         (**self).call(call)
     }
+
+    fn limits(&mut self) -> Limits {
+        (**self).limits()
+    }
 }
 
 impl Calls for Tree {
     fn call(&mut self, call: &Call) -> Result<Reply, Error> {
         Tree::call(self, call)
+    }
+
+    fn limits(&mut self) -> Limits {
+        Tree::limits(self)
     }
 }
 
@@ -60,8 +74,14 @@ impl Tree {
         create_dir_all(self, path.path_bytes())
     }
 
-    /// What stands at a path and all below it, each directory before what it has, names in byte order. It takes a call for a file
-    /// and two for a directory.
+    /// All names of a directory, in byte order: by one `readdir`, and by [`Limits::V3`] by a `list` for each 256 of them, each a call of
+    /// its own.
+    pub fn read_dir(&mut self, path: impl AsPath) -> Result<Vec<Vec<u8>>, Error> {
+        read_dir(self, path.path_bytes())
+    }
+
+    /// What stands at a path and all below it, each directory before what it has, names in byte order. It takes a call for a file,
+    /// and for a directory one and those of [`read_dir`](Tree::read_dir).
     ///
     /// ```
     /// let mut tree = atomfs::Tree::new()?;
@@ -75,7 +95,7 @@ impl Tree {
         walk(self, path.path_bytes())
     }
 
-    /// All bytes of a file.
+    /// All bytes of a file, by as many reads as they take: each tells at most `Limits::read_bytes`.
     pub fn read_to_end(&mut self, path: impl AsPath) -> Result<Vec<u8>, Error> {
         read_to_end(self, path.path_bytes())
     }
@@ -135,6 +155,34 @@ pub(crate) fn readdir(calls: &mut impl Calls, path: &[u8]) -> Result<Vec<Vec<u8>
         Reply::Names(names) => Ok(names),
         _ => Err(ErrorKind::NoReply.into()),
     }
+}
+
+pub(crate) fn list(
+    calls: &mut impl Calls,
+    path: &[u8],
+    after: &[u8],
+    count: u64,
+) -> Result<Vec<Vec<u8>>, Error> {
+    match calls.call(&Call::List(path, after, count))? {
+        Reply::Names(names) => Ok(names),
+        _ => Err(ErrorKind::NoReply.into()),
+    }
+}
+
+/// All names of a directory.
+pub(crate) fn read_dir(calls: &mut impl Calls, path: &[u8]) -> Result<Vec<Vec<u8>>, Error> {
+    if !calls.limits().has_list() {
+        return readdir(calls, path);
+    }
+    let mut names = list(calls, path, b"/", LISTED as u64)?;
+    let mut told = names.len();
+    while told == LISTED {
+        let after = below(b"", names.last().map_or(&[][..], Vec::as_slice));
+        let more = list(calls, path, &after, LISTED as u64)?;
+        told = more.len();
+        names.extend(more);
+    }
+    Ok(names)
 }
 
 pub(crate) fn read(
@@ -210,7 +258,15 @@ fn create_missing<'p>(
 
 /// All bytes of a file.
 pub(crate) fn read_to_end(calls: &mut impl Calls, path: &[u8]) -> Result<Vec<u8>, Error> {
-    read(calls, path, 0, u64::MAX)
+    let limits = calls.limits();
+    let mut bytes = read(calls, path, 0, u64::MAX)?;
+    let mut told = bytes.len();
+    while told == limits.read_bytes() && bytes.len() < limits.file_bytes() {
+        let more = read(calls, path, bytes.len() as u64, u64::MAX)?;
+        told = more.len();
+        bytes.extend(more);
+    }
+    Ok(bytes)
 }
 
 /// Makes a file of these bytes, or gives them to the file that is there. By an error the file is as before.
@@ -258,7 +314,7 @@ pub(crate) fn walk(calls: &mut impl Calls, path: &[u8]) -> Result<Vec<Entry>, Er
 fn look(calls: &mut impl Calls, path: &[u8], left: &mut Vec<Vec<u8>>) -> Result<Stat, Error> {
     let found = stat(calls, path)?;
     if found.is_dir {
-        let names = readdir(calls, path)?;
+        let names = read_dir(calls, path)?;
         left.extend(names.iter().rev().map(|name| below(path, name)));
     }
     Ok(found)

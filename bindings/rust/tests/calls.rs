@@ -115,8 +115,8 @@ fn each_error() {
             (Some(errno.number()), of_std)
         );
         let more = match errno {
-            Errno::ENOSPC => ": the directory has 256 entries",
-            Errno::EFBIG => ": the file would have more than 65536 bytes by the first limits, or 1048576 by the second ones",
+            Errno::ENOSPC => ": the directory has 256 entries, or 1048576 by the third limits",
+            Errno::EFBIG => ": the file would have more than 65536 bytes by the first limits, 1048576 by the second or 2147483648 by the third",
             _ => "",
         };
         assert_eq!(
@@ -220,7 +220,7 @@ fn words_of_texts() {
 #[test]
 fn from_texts() {
     let text = "tree\ndir /\ndir /a\nfile /a/f 0068\n";
-    for (limits, number) in [(Limits::V1, 2), (Limits::V2, 3)] {
+    for (limits, number) in [(Limits::V1, 2), (Limits::V2, 3), (Limits::V3, 4)] {
         let start =
             format!("atomfs-journal {number}\nstart\ndir /\ndir /a\nfile /a/f 0068\nentries\n");
         let journal = format!("{start}begin 1 0 mkdir /b\ncommit 1\nreturn 1 ok\n");

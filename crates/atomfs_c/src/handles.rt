@@ -132,7 +132,7 @@ pub extern "C" fn atomfs_open(alloc: Global, handle: &mut Handle, limit: usize) 
     open(alloc, handle, limit, Limits::V1)
 }
 
-/// The same by the limits that have a version, 1 or 2.
+/// The same by the limits that have a version, 1, 2 or 3.
 #[unsafe(no_mangle)]
 pub extern "C" fn atomfs_open_with(
     alloc: Global,

@@ -77,7 +77,7 @@ pub extern "C" fn atomfs_reply_stat(
     status
 }
 
-/// Tells the names of a readdir that come behind one, as many as there is room for.
+/// Tells the names of a readdir or a list that come behind one, as many as there is room for.
 #[unsafe(no_mangle)]
 pub extern "C" fn atomfs_reply_names(
     alloc: Global,

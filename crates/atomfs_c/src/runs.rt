@@ -50,7 +50,7 @@ pub extern "C" fn atomfs_check(
     }
 }
 
-/// Checks bytes as a path by the limits of a version, 1 or 2, and tells the first check that they fail.
+/// Checks bytes as a path by the limits of a version, 1, 2 or 3, and tells the first check that they fail.
 #[unsafe(no_mangle)]
 pub extern "C" fn atomfs_check_path(alloc: Global, path: &[u8], version: u8) -> u8
     ensures { TellsPath (limits_of version) path.now result }

@@ -204,6 +204,39 @@ pub extern "C" fn atomfs_readdir(
     }
 }
 
+/// Tells the names of a directory above the last name of a path, no more than so many, a byte 0 behind each. By limits without
+/// this call it does not begin.
+#[unsafe(no_mangle)]
+pub extern "C" fn atomfs_list(
+    alloc: Global,
+    handle: &mut Handle,
+    seat: u64,
+    path: &[u8],
+    after: &[u8],
+    most: u64,
+    out: &mut [u8],
+    count: &mut usize,
+    number: &mut u64,
+) -> u8
+    ensures called { IsCalled (to_keep handle.old.most) (on_both (λ p q. calls.ListAfter p q most) path.now after.now) seat (λ reply. IsToldNames reply result count.new out.old out.new) result number.new handle.old.held.core handle.new.held.core }
+    ensures untouched { LeavesText result count.old count.new out.old out.new }
+    ensures unnumbered { CLOSED ≤ result → result < FAILED → number.new ≡ number.old }
+    ensures lawful { IsLawful handle.new.held.core }
+    ensures spelled { IsSpelled handle.new.held.core }
+    ensures keeps { handle.new.most ≡ handle.old.most }
+{
+    match run(
+        alloc,
+        handle,
+        seat,
+        Request::ListAfter(path, after, most),
+        number,
+    ) {
+        Ok(reply) => tell_names(alloc, &reply, out, count),
+        Err(status) => status,
+    }
+}
+
 /// Reads as many bytes of a file from an offset on as there is room for.
 #[unsafe(no_mangle)]
 pub extern "C" fn atomfs_read(

@@ -1,4 +1,4 @@
-//! The bytes of a file by both sets of limits: what a sequential tree replies at them and beyond.
+//! The bytes of a file by each set of limits: what a sequential tree replies at them and beyond.
 
 use anyhow::{Result, bail, ensure};
 use fs_calls::{Call, Data, Errno, Reply};
@@ -141,10 +141,11 @@ const LONGER: [Row; 3] = [
     ),
 ];
 
-/// Both sets of limits.
+/// All sets of limits.
 pub fn compare(alloc: Global) -> Result<()> {
     compare_at(alloc, Limits::V1, 65_536)?;
     compare_at(alloc, Limits::V2, 1_048_576)?;
+    compare_at(alloc, Limits::V3, 2_147_483_648)?;
     let mut tree = SeqTree::with_limits(alloc, Limits::V2)?;
     hold(alloc, &mut tree, &LONGER)
 }

@@ -4,7 +4,7 @@ use crate::starts::core_comes_out;
 use anyhow::{Result, bail, ensure};
 use fs_calls::Call;
 use fs_journal::check_from;
-use fs_names::{Kind, Limits, Name, PATH_LIMIT, Path};
+use fs_names::{Kind, Limits, Name, Path};
 use fs_seq::{NotTree, Row, SeqTree};
 use fs_text::read_entries;
 use fs_timeline::{FaultKind, Verdict};
@@ -202,7 +202,7 @@ fn compare_limits(alloc: Global, limits: Limits) -> Result<()> {
         (Shape::Wide, full, Some(full.wrapping_add(1))),
         (Shape::Long, limits.file(), None),
         (Shape::Long, longer, Some(2)),
-        (Shape::Deep, PATH_LIMIT + 6, None),
+        (Shape::Deep, limits.path_names() + 6, None),
     ] {
         compare_shape(alloc, shape, size, limits, bad)?;
     }

@@ -44,7 +44,7 @@ impl Again {
         }
     }
 
-    /// A tree is looked at by a stat, a readdir or a read.
+    /// A tree is looked at by a stat, a readdir, a list or a read.
     fn look(&mut self, tree: &SeqTree, call: &Call) -> Result<Reply, AllocError>
         requires { IsTrue (is_look call.now) }
     {
@@ -108,7 +108,9 @@ impl Again {
     /// A look, by any call.
     fn look_by(&mut self, tree: &SeqTree, call: &Call) -> anyhow::Result<Reply> {
         match call {
-            Call::Stat(_) | Call::Readdir(_) | Call::Read(_, _, _) => Ok(self.look(tree, call)?),
+            Call::Stat(_) | Call::Readdir(_) | Call::ListAfter(_, _, _) | Call::Read(_, _, _) => Ok(
+                self.look(tree, call)?,
+            ),
             _ => bail!("a call that is no look"),
         }
     }

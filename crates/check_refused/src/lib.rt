@@ -26,7 +26,7 @@ use std::time::Clock;
 /// The calls of a session, those of which others are told, and those of the sequential tree, which grow all that it holds:
 /// nodes, entries, bytes and replies; looks at that tree; and those of a file in blocks, at their edges and the limit.
 const CALLS: &[u8] = b"\
-atomfs 1
+atomfs 3
 thread session
 mkdir /a
 mknod /a/f%20g
@@ -35,6 +35,7 @@ read /a/f%20g 1 3
 truncate /a/f%20g 4000
 rename /a/f%20g /g
 readdir /a
+list /a / 9
 stat /a
 exchange /a /g
 exchange /g /a
@@ -57,6 +58,8 @@ mknod /d/c
 mknod /d/h
 readdir /d
 readdir /d/e/f
+list /d / 9
+list /d /b 1
 write /d/a 3 68656c6c6f
 write /d/a 3 68656c6c6f
 truncate /d/a 200
@@ -77,6 +80,7 @@ rmdir /d
 thread looks
 stat /d
 readdir /d
+list /d /a 2
 read /d/e/a 3 5
 thread blocks
 write /f 16382 68656c6c6f

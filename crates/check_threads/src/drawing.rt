@@ -82,7 +82,7 @@ fn write(alloc: Global, random: &mut Pcg32, path: Path) -> Option<Call> {
 }
 
 /// A call, by shares of a hundred: mkdir 26, rename 22, mknod 12, exchange and write 8 each, unlink, rmdir and stat 4 each,
-/// readdir, read and truncate the rest.
+/// read and truncate as many, readdir and list 2 each.
 pub fn call(alloc: Global, random: &mut Pcg32) -> Option<Call> {
     let roll = below(random, 100);
     if roll < 22 {
@@ -100,7 +100,8 @@ pub fn call(alloc: Global, random: &mut Pcg32) -> Option<Call> {
         76..80 => Some(Call::Unlink(path)),
         80..84 => Some(Call::Rmdir(path)),
         84..88 => Some(Call::Stat(path)),
-        88..92 => Some(Call::Readdir(path)),
+        88..90 => Some(Call::Readdir(path)),
+        90..92 => Some(Call::ListAfter(path, Path::parse(alloc, b"/").ok()?, 9)),
         92..96 => Some(Call::Read(path, 1, 4)),
         _ => Some(Call::Truncate(path, 3)),
     }

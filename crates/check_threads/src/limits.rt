@@ -24,7 +24,7 @@ const CALLS: &[u8] = b"atomfs 2\nthread one\nmknod /f\nwrite /f 65536 00\nschedu
 fn reply_by(limits: Limits) -> Reply {
     match limits {
         Limits::V1 => Reply::Failed(Errno::Efbig),
-        Limits::V2 => Reply::Wrote(1),
+        Limits::V2 | Limits::V3 => Reply::Wrote(1),
     }
 }
 
@@ -105,7 +105,7 @@ pub fn are_kept<R: Threads + Wait + Clock + Sync>(rt: &R, alloc: Global) -> Opti
     let lists = lists_of(alloc, CALLS)?;
     let list = calls_of(&lists, 0)?;
     let mut kept = true;
-    for given in [None, Some(Limits::V1), Some(Limits::V2)] {
+    for given in [None, Some(Limits::V1), Some(Limits::V2), Some(Limits::V3)] {
         let due = given.unwrap_or(Limits::V2);
         let opened = by_session(rt, alloc, list, given)?;
         let run = by_lists(rt, alloc, &lists, given)?;

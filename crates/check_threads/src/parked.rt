@@ -15,7 +15,7 @@ use std::time::Clock;
 /// The calls: those that make the tree, those that are held, for each of these one that removes what it is at, and those that
 /// move the directory above.
 const CALLS: &[u8] = b"\
-atomfs 1
+atomfs 3
 thread made
 mkdir /z
 mkdir /a
@@ -32,6 +32,7 @@ rename /a/d/f /a/d/g
 exchange /a/d/e /a/d/f
 stat /a/d/f
 readdir /a/d/e
+list /a/d/e / 9
 read /a/d/f 0 9
 write /a/d/f 1 6a6a
 truncate /a/d/f 1
@@ -44,6 +45,7 @@ unlink /a/d/f
 unlink /a/d/f
 unlink /a/d/f
 rmdir /a/d/e
+rmdir /a/d/e
 unlink /a/d/f
 unlink /a/d/f
 unlink /a/d/f
@@ -55,9 +57,9 @@ schedule
 ";
 
 /// The words of the calls that are held, in their order.
-pub const WORDS: [&str; 11] = [
-    "mkdir", "mknod", "unlink", "rmdir", "rename", "exchange", "stat", "readdir", "read", "write",
-    "truncate",
+pub const WORDS: [&str; 12] = [
+    "mkdir", "mknod", "unlink", "rmdir", "rename", "exchange", "stat", "readdir", "list", "read",
+    "write", "truncate",
 ];
 
 /// After so many events a walk from the root to a name below `/a` has let the root go.

@@ -1,7 +1,7 @@
 -- A call is known by its form, and what no limit changes of it.
 use Rattle.std.proofs.Common.{◌≡◌, refl, sym, ap, ◌∙◌}
 use Rattle.fs_names.specs.Keys.{Key}
-use Rattle.fs_names.specs.Limits.{entry_limit, file_limit}
+use Rattle.fs_names.specs.Limits.{entry_limit, file_limit, read_limit}
 use Rattle.fs_names.specs.declared.limits.Limits.{Limits}
 use Rattle.fs_names.specs.declared.limits.Limits.TheVariants.{V1}
 use Rattle.fs_calls.specs.Forms.{form, Form, AtNode, AtEntry, AtPair, by_text, by_paths, reserves, reserved_by, under}
@@ -12,7 +12,7 @@ use Rattle.fs_calls.specs.declared.target.EntryCall.TheVariants as entries
 use Rattle.fs_calls.specs.declared.target.PairCall.{PairCall}
 use Rattle.fs_calls.specs.declared.target.PairCall.TheVariants as pairs
 use Rattle.fs_calls.specs.declared.call.Call.{Call}
-use Rattle.fs_calls.specs.declared.call.Call.TheVariants.{Mkdir, Mknod, Unlink, Rmdir, Rename, Exchange, Stat, Readdir, Read, Write, Truncate}
+use Rattle.fs_calls.specs.declared.call.Call.TheVariants.{Mkdir, Mknod, Unlink, Rmdir, Rename, Exchange, Stat, Readdir, ListAfter, Read, Write, Truncate}
 
 -- the call of a form
 abbrev of_form : Form → Call
@@ -23,7 +23,8 @@ of_form (AtEntry forms.Rmdir p) = Rmdir p
 of_form (AtPair (forms.Rename most) p q) = Rename p q
 of_form (AtPair forms.Exchange p q) = Exchange p q
 of_form (AtNode forms.Stat p) = Stat p
-of_form (AtNode (forms.Readdir most) p) = Readdir p
+of_form (AtNode forms.Readdir p) = Readdir p
+of_form (AtNode (forms.ListAfter after count) p) = ListAfter p after count
 of_form (AtNode (forms.Read most off count) p) = Read p off count
 of_form (AtNode (forms.Write most off bytes) p) = Write p off bytes
 of_form (AtNode (forms.Truncate most size) p) = Truncate p size
@@ -37,6 +38,7 @@ back limits (Rename p q) = refl
 back limits (Exchange p q) = refl
 back limits (Stat p) = refl
 back limits (Readdir p) = refl
+back limits (ListAfter p after count) = refl
 back limits (Read p off count) = refl
 back limits (Write p off bytes) = refl
 back limits (Truncate p size) = refl
@@ -84,6 +86,7 @@ by_text_any limits (Rename p q) = refl
 by_text_any limits (Exchange p q) = refl
 by_text_any limits (Stat p) = refl
 by_text_any limits (Readdir p) = refl
+by_text_any limits (ListAfter p after count) = refl
 by_text_any limits (Read p off count) = refl
 by_text_any limits (Write p off bytes) = refl
 by_text_any limits (Truncate p size) = refl
@@ -98,6 +101,7 @@ reserves_any limits (Rename p q) = refl
 reserves_any limits (Exchange p q) = refl
 reserves_any limits (Stat p) = refl
 reserves_any limits (Readdir p) = refl
+reserves_any limits (ListAfter p after count) = refl
 reserves_any limits (Read p off count) = refl
 reserves_any limits (Write p off bytes) = refl
 reserves_any limits (Truncate p size) = refl
@@ -107,8 +111,9 @@ reserves_any limits (Truncate p size) = refl
 -- a call on a node has these limits, if it has one
 abbrev pub HasLimit : Limits → forms.NodeCall → Type 0
 HasLimit limits forms.Stat = Unit {0}
-HasLimit limits (forms.Readdir m) = m ≡ entry_limit limits
-HasLimit limits (forms.Read m off count) = m ≡ file_limit limits
+HasLimit limits forms.Readdir = Unit {0}
+HasLimit limits (forms.ListAfter after count) = Unit {0}
+HasLimit limits (forms.Read m off count) = m ≡ read_limit limits
 HasLimit limits (forms.Write m off bytes) = m ≡ file_limit limits
 HasLimit limits (forms.Truncate m size) = m ≡ file_limit limits
 
@@ -139,7 +144,8 @@ form_limited limits (Rmdir p) = tt
 form_limited limits (Rename p q) = refl
 form_limited limits (Exchange p q) = tt
 form_limited limits (Stat p) = tt
-form_limited limits (Readdir p) = refl
+form_limited limits (Readdir p) = tt
+form_limited limits (ListAfter p after count) = tt
 form_limited limits (Read p off count) = refl
 form_limited limits (Write p off bytes) = refl
 form_limited limits (Truncate p size) = refl

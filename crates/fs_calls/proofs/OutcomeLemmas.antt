@@ -5,7 +5,7 @@ use Rattle.fs_calls.specs.Tree.{Tree}
 use Rattle.fs_calls.specs.Laws.{ErrorsChangeNothing}
 use Rattle.fs_calls.specs.Outcomes.{fault, reply, after, success, change, replied, if_sound}
 use Rattle.fs_calls.specs.declared.call.Call.{Call}
-use Rattle.fs_calls.specs.declared.call.Call.TheVariants.{Mkdir, Mknod, Unlink, Rmdir, Rename, Exchange, Stat, Readdir, Read, Write, Truncate}
+use Rattle.fs_calls.specs.declared.call.Call.TheVariants.{Mkdir, Mknod, Unlink, Rmdir, Rename, Exchange, Stat, Readdir, ListAfter, Read, Write, Truncate}
 use Rattle.fs_calls.specs.declared.reply.Reply.TheVariants.{Failed}
 use Rattle.fs_calls.specs.declared.errno.Errno.{Errno}
 
@@ -19,6 +19,7 @@ success_changes_nothing limits t (Rename p q) e h = absurd (cc)
 success_changes_nothing limits t (Exchange p q) e h = absurd (cc)
 success_changes_nothing limits t (Stat p) e h = refl
 success_changes_nothing limits t (Readdir p) e h = refl
+success_changes_nothing limits t (ListAfter p after count) e h = refl
 success_changes_nothing limits t (Read p off count) e h = refl
 success_changes_nothing limits t (Write p off bytes) e h = absurd (cc)
 success_changes_nothing limits t (Truncate p size) e h = absurd (cc)

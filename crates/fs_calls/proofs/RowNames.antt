@@ -4,9 +4,10 @@ use Rattle.fs_names.specs.Failures.{check, first_failure}
 use Rattle.fs_names.specs.Keys.{Key, has_more}
 use Rattle.fs_names.specs.Names.{Name}
 use Rattle.fs_names.specs.Shapes.{Shape, Dir}
-use Rattle.fs_calls.specs.Forms.{Mkdir, Unlink, Rmdir, NodeCall, Stat, Readdir, Read, Write, Truncate}
-use Rattle.fs_calls.specs.Rows.{node_fault, entry_fault, node_row}
+use Rattle.fs_calls.specs.Forms.{Mkdir, Unlink, Rmdir, NodeCall, Stat, Readdir, ListAfter, Read, Write, Truncate}
+use Rattle.fs_calls.specs.Rows.{node_fault, entry_fault, node_reply, node_row, answered}
 use Rattle.fs_calls.specs.declared.errno.Errno.{Errno}
+use Rattle.fs_calls.specs.declared.reply.Reply.{Reply}
 use Rattle.fs_calls.specs.declared.errno.Errno.TheVariants.{Einval}
 
 -- mkdir and mknod
@@ -22,7 +23,7 @@ removing parent there = entry_fault Rmdir parent None there
 
 -- readdir, read, write, truncate
 abbrev pub listing : Option Errno → Option Shape → Option Errno
-listing found there = node_fault (Readdir 0) found there
+listing found there = node_fault Readdir found there
 
 abbrev pub reading : Option Errno → Option Shape → Option Errno
 reading found there = node_fault (Read 0 0 0) found there
@@ -37,10 +38,16 @@ truncating most found there size = node_fault (Truncate most size) found there
 abbrev pub if_below : Option Key → Option Errno
 if_below rest = first_failure (check (has_more rest) Einval ∷ [])
 
+-- where no bytes come without an error, none come at all
+no_bytes : (found : Option Errno) (reply : Reply) → (answered {C = Option (List ℕ)} found None reply None).1 ≡ None
+no_bytes None reply = refl
+no_bytes (Some e) reply = refl
+
 -- a directory gets no bytes
 pub on_dir : (c : NodeCall) (names : List Name) → (node_row c None (Some (Dir names))).1 ≡ None
 on_dir Stat names = refl
-on_dir (Readdir most) names = refl
+on_dir Readdir names = no_bytes (node_fault Readdir None (Some (Dir names))) (node_reply Readdir (Some (Dir names)))
+on_dir (ListAfter after count) names = refl
 on_dir (Read most off count) names = refl
 on_dir (Write most off bytes) names = refl
 on_dir (Truncate most size) names = refl

@@ -12,7 +12,7 @@ use Rattle.fs_calls.specs.Outcomes.{fault, after, change, if_sound, filled, call
 use Rattle.fs_calls.specs.Rows.{written, resized}
 use Rattle.fs_calls.specs.Laws.{StaysATree, PlayedTreesAreTrees, SameTrees, IsMoved, RenamesMove, IsExchanged, ExchangesSwap}
 use Rattle.fs_calls.specs.declared.call.Call.{Call}
-use Rattle.fs_calls.specs.declared.call.Call.TheVariants.{Mkdir, Mknod, Unlink, Rmdir, Rename, Exchange, Stat, Readdir, Read, Write, Truncate}
+use Rattle.fs_calls.specs.declared.call.Call.TheVariants.{Mkdir, Mknod, Unlink, Rmdir, Rename, Exchange, Stat, Readdir, ListAfter, Read, Write, Truncate}
 use Rattle.fs_calls.specs.declared.errno.Errno.{Errno}
 use Rattle.fs_calls.proofs.LookLemmas.{same_key_exact, look-inserted, look-removed, sorted-inserted, sorted-removed, same_tree}
 use Rattle.fs_calls.specs.Sights.{is_same}
@@ -212,6 +212,7 @@ tree-change limits t (Rename p q) is h = keep (is_same p q) t (renamed t p q) is
 tree-change limits t (Exchange p q) is h = keep (is_same p q) t (exchanged t p q) is (λ other. tree-exchanged t p q is (exchange_exchanges limits t p q is h (only_same p q other)))
 tree-change limits t (Stat p) is h = is
 tree-change limits t (Readdir p) is h = is
+tree-change limits t (ListAfter p after count) is h = is
 tree-change limits t (Read p off count) is h = is
 tree-change limits t (Write p off bytes) is h =
     let new : IsTree (inserted t p (File (written (bytes_of (tree_shapes t p)) off bytes))) = rewritten t p (File (written (bytes_of (tree_shapes t p)) off bytes)) is (write_writes limits t p off bytes is h) in

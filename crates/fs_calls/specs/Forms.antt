@@ -2,7 +2,7 @@
 use Rattle.std.specs.Prelude.{ℕ, ◌≡◌, ◌||◌, List, [], ◌∷◌, ◌++◌, Option, Some, None}
 use Rattle.fs_names.specs.Failures.{check, first_failure}
 use Rattle.fs_names.specs.Keys.{Key, is_root, is_proper_prefix}
-use Rattle.fs_names.specs.Limits.{entry_limit, file_limit}
+use Rattle.fs_names.specs.Limits.{entry_limit, file_limit, read_limit}
 use Rattle.fs_names.specs.Shapes.{Shape, Dir, File}
 use Rattle.fs_names.specs.declared.limits.Limits.{Limits}
 use Rattle.fs_names.specs.declared.limits.Limits.TheVariants.{V1}
@@ -11,10 +11,11 @@ use Rattle.fs_calls.specs.declared.call.Call.TheVariants as calls
 use Rattle.fs_calls.specs.declared.errno.Errno.{Errno}
 use Rattle.fs_calls.specs.declared.errno.Errno.TheVariants.{Eexist, Einval, Ebusy, Eperm}
 
--- stat, readdir, read (offset, count), write (offset, bytes), truncate (size); before all else readdir has the most entries of a directory, and the last three the most bytes of a file
+-- stat, readdir, list (after, count), read (offset, count), write (offset, bytes), truncate (size); before all else read has the most bytes of a reply, and the last two the most bytes of a file
 pub data NodeCall : Type 0 where
   Stat : NodeCall
-  Readdir : ℕ → NodeCall
+  Readdir : NodeCall
+  ListAfter : Key → ℕ → NodeCall
   Read : ℕ → ℕ → ℕ → NodeCall
   Write : ℕ → ℕ → List ℕ → NodeCall
   Truncate : ℕ → ℕ → NodeCall
@@ -46,8 +47,9 @@ form limits (calls.Rmdir p) = AtEntry Rmdir p
 form limits (calls.Rename p q) = AtPair (Rename (entry_limit limits)) p q
 form limits (calls.Exchange p q) = AtPair Exchange p q
 form limits (calls.Stat p) = AtNode Stat p
-form limits (calls.Readdir p) = AtNode (Readdir (entry_limit limits)) p
-form limits (calls.Read p off count) = AtNode (Read (file_limit limits) off count) p
+form limits (calls.Readdir p) = AtNode Readdir p
+form limits (calls.ListAfter p after count) = AtNode (ListAfter after count) p
+form limits (calls.Read p off count) = AtNode (Read (read_limit limits) off count) p
 form limits (calls.Write p off bytes) = AtNode (Write (file_limit limits) off bytes) p
 form limits (calls.Truncate p size) = AtNode (Truncate (file_limit limits) size) p
 

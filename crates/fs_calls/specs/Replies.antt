@@ -5,7 +5,7 @@ use Rattle.fs_names.specs.Names.{Name, same_bytes}
 use Rattle.fs_names.specs.declared.kind.Kind.{Kind}
 use Rattle.fs_names.specs.declared.kind.Kind.TheVariants as kind
 use Rattle.fs_calls.specs.declared.errno.Errno.{Errno}
-use Rattle.fs_calls.specs.declared.errno.Errno.TheVariants.{Enoent, Enotdir, Eexist, Enotempty, Eisdir, Einval, Ebusy, Eperm, Enospc, Efbig}
+use Rattle.fs_calls.specs.declared.errno.Errno.TheVariants.{Enoent, Enotdir, Eexist, Enotempty, Eisdir, Einval, Ebusy, Eperm, Enospc, Efbig, Eoverflow}
 use Rattle.fs_calls.specs.declared.reply.Reply.{Reply}
 use Rattle.fs_calls.specs.declared.reply.Reply.TheVariants.{Done, Stat, Names, Bytes, Wrote, Failed}
 
@@ -28,6 +28,7 @@ number_of Ebusy = 7
 number_of Eperm = 8
 number_of Enospc = 9
 number_of Efbig = 10
+number_of Eoverflow = 11
 
 -- whether two lists of names are the same
 abbrev pub same_names : List Name → List Name → Bool

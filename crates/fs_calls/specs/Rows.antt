@@ -1,12 +1,15 @@
 -- The table of errors, replies and changes. A call answers the first error of its row that holds, and an error changes nothing.
 -- A row speaks of what was read and looks nothing up: the tree reads at keys, the machine at the nodes that it holds.
-use Rattle.std.specs.Prelude.{ℕ, ◌+◌, ◌-◌, Bool, false, not, ◌&&◌, ◌||◌, nat_lt, length, take, drop, replicate, List, [], ◌∷◌, ◌++◌, Option, Some, None, if◌then◌else◌}
+use Rattle.std.specs.Prelude.{ℕ, ◌+◌, ◌-◌, Bool, false, not, ◌&&◌, ◌||◌, nat_lt, min, length, take, drop, replicate, List, [], ◌∷◌, ◌++◌, Option, Some, None, if◌then◌else◌}
 use Rattle.fs_names.specs.Failures.{check, first_failure}
-use Rattle.fs_names.specs.Shapes.{Shape, Dir, File, is_there, is_missing, is_dir, is_file, names_of, bytes_of, has_any, has_entries, is_full}
+use Rattle.fs_names.specs.Shapes.{Shape, Dir, File, is_there, is_missing, is_dir, is_file, names_of, bytes_of, has_any, has_entries, is_crowded, is_full}
+use Rattle.fs_names.specs.Names.{names_above}
+use Rattle.fs_names.specs.Keys.{last_of}
+use Rattle.fs_names.specs.declared.limits.TheConstants.{LIST_LIMIT}
 use Rattle.fs_names.specs.declared.kind.Kind.TheVariants as kind
-use Rattle.fs_calls.specs.Forms.{NodeCall, Stat, Readdir, Read, Write, Truncate, EntryCall, Mkdir, Mknod, Unlink, Rmdir, PairCall, Rename, Exchange, new_shape}
+use Rattle.fs_calls.specs.Forms.{NodeCall, Stat, Readdir, ListAfter, Read, Write, Truncate, EntryCall, Mkdir, Mknod, Unlink, Rmdir, PairCall, Rename, Exchange, new_shape}
 use Rattle.fs_calls.specs.declared.errno.Errno.{Errno}
-use Rattle.fs_calls.specs.declared.errno.Errno.TheVariants.{Enoent, Enotdir, Eexist, Enotempty, Eisdir, Eperm, Enospc, Efbig}
+use Rattle.fs_calls.specs.declared.errno.Errno.TheVariants.{Enoent, Enotdir, Eexist, Enotempty, Eisdir, Eperm, Enospc, Efbig, Eoverflow}
 use Rattle.fs_calls.specs.declared.reply.Reply.{Reply}
 use Rattle.fs_calls.specs.declared.reply.Reply.TheVariants as answer
 
@@ -15,7 +18,8 @@ use Rattle.fs_calls.specs.declared.reply.Reply.TheVariants as answer
 -- a call on a node, by what stands at the path
 abbrev pub node_errors : NodeCall → Option Shape → List (Option Errno)
 node_errors Stat there = []
-node_errors (Readdir most) there = check (is_file there) Enotdir ∷ []
+node_errors Readdir there = check (is_file there) Enotdir ∷ check (is_crowded there) Eoverflow ∷ []
+node_errors (ListAfter after count) there = check (is_file there) Enotdir ∷ []
 node_errors (Read most off count) there = check (is_dir there) Eisdir ∷ []
 node_errors (Write most off bytes) there = check (is_dir there) Eisdir ∷ check (has_any bytes && nat_lt most (off + length bytes)) Efbig ∷ []
 node_errors (Truncate most size) there = check (is_dir there) Eisdir ∷ check (nat_lt most size) Efbig ∷ []
@@ -88,8 +92,9 @@ status (Some (File bytes)) = answer.Stat kind.File (length bytes)
 -- a call on a node; all other calls reply Done
 abbrev pub node_reply : NodeCall → Option Shape → Reply
 node_reply Stat there = status there
-node_reply (Readdir most) there = answer.Names (names_of there)
-node_reply (Read most off count) there = answer.Bytes (take count (drop off (bytes_of there)))
+node_reply Readdir there = answer.Names (names_of there)
+node_reply (ListAfter after count) there = answer.Names (take (min count LIST_LIMIT) (names_above (last_of after) (names_of there)))
+node_reply (Read most off count) there = answer.Bytes (take (min count most) (drop off (bytes_of there)))
 node_reply (Write most off bytes) there = answer.Wrote (length bytes)
 node_reply (Truncate most size) there = answer.Done
 
@@ -104,7 +109,8 @@ resized old size = take size old ++ replicate (size - length old) 0
 -- the new bytes of a file, if any
 abbrev pub new_bytes : NodeCall → Option Shape → Option (List ℕ)
 new_bytes Stat there = None
-new_bytes (Readdir most) there = None
+new_bytes Readdir there = None
+new_bytes (ListAfter after count) there = None
 new_bytes (Read most off count) there = None
 new_bytes (Write most off bytes) there = if has_any bytes then Some (written (bytes_of there) off bytes) else None
 new_bytes (Truncate most size) there = Some (resized (bytes_of there) size)

@@ -1,7 +1,7 @@
 -- What stands at each key of a tree, resolution of paths there, and the rows read there.
 use Rattle.std.specs.Prelude.{Bool, [], ◌∷◌, Option, Some, None}
 use Rattle.fs_names.specs.Keys.{Key, after_prefix, parent_of, is_end}
-pub use Rattle.fs_names.specs.Shapes.{Shape, Dir, File, is_there, is_missing, is_dir, is_file, names_of, bytes_of, has_any, has_entries, is_full}
+pub use Rattle.fs_names.specs.Shapes.{Shape, Dir, File, is_there, is_missing, is_dir, is_file, names_of, bytes_of, has_any, has_entries, is_crowded, is_full}
 use Rattle.fs_calls.specs.Tree as tree
 use Rattle.fs_calls.specs.Tree.{Tree, Node, look, names_in}
 use Rattle.fs_calls.specs.Forms.{Form, AtNode, AtEntry, AtPair, Rename, Exchange}

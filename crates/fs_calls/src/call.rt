@@ -20,8 +20,11 @@ pub enum Call {
     Exchange(Path, Path),
     /// Asks for the kind of a node and its size: bytes of a file, entries of a directory (POSIX.1-2017, XSH 3, stat()).
     Stat(Path),
-    /// Asks for all names of a directory.
+    /// Asks for all names of a directory, which are at most 256.
     Readdir(Path),
+    /// Asks for the names of a directory above the last name of the second path, the least first, and for no more than a
+    /// count, or 256: from the first name on where that path is the root (this project's own).
+    ListAfter(Path, Path, u64),
     /// Asks for the bytes of a file from an offset on, and for no more than a count.
     Read(Path, u64, u64),
     /// Writes bytes into a file at an offset; a gap reads as zeros.

@@ -26,10 +26,12 @@ pub enum Errno {
     Enospc = 9,
     /// The file would have more bytes than it can have.
     Efbig = 10,
+    /// The directory has more names than a reply can have.
+    Eoverflow = 11,
 }
 
 impl Errno {
-    /// The number of the error, 1 to 10.
+    /// The number of the error, 1 to 11.
     pub fn number(self) -> u8
         ensures { result ≡ number_of self }
     {

@@ -1,6 +1,6 @@
 //! Calls and replies, and what they mean: the definitions of the tree, with one table of errors, replies and changes.
 //!
-//! A `Call` is one of the eleven calls with its paths; `Call::target` tells what it looks at: a node, an entry, or two entries.
+//! A `Call` is one of the twelve calls with its paths; `Call::target` tells what it looks at: a node, an entry, or two entries.
 //! A `Reply` is what it answers. Both hold no bare vector, so that two that say the same are equal in a contract.
 //! The crate has no tree that runs: it says what one has to answer. `specs/Tree.antt` is the tree as a sorted list,
 //! `specs/Rows.antt` the table, `specs/Outcomes.antt` reads a tree and answers by it (`reply`, `after`), by a set

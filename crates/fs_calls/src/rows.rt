@@ -3,7 +3,7 @@
 ghost use Rattle.std.specs.Prelude.{◌≡◌, Option, None, if◌then◌else◌};
 ghost use Rattle.fs_names.specs.Failures.{first_failure};
 ghost use Rattle.fs_names.specs.Limits.{entry_limit};
-ghost use Rattle.fs_names.specs.Shapes.{Shape, is_there, is_missing, is_dir, is_file, has_entries, is_full};
+ghost use Rattle.fs_names.specs.Shapes.{Shape, is_there, is_missing, is_dir, is_file, has_entries, is_crowded, is_full};
 ghost use Rattle.fs_names.specs.declared.limits.Limits.{Limits};
 ghost use Rattle.fs_names.specs.declared.limits.Limits.TheVariants.{V1};
 ghost use Rattle.fs_calls.specs.declared.errno.Errno.TheVariants.{Enotdir, Enoent};
@@ -26,8 +26,10 @@ pub enum Sight {
     File,
     /// A directory without entries.
     EmptyDir,
-    /// A directory with entries.
+    /// A directory with entries, and no more than a call answers.
     Dir,
+    /// A directory with more entries than a call answers.
+    CrowdedDir,
 }
 
 impl Sight {
@@ -49,7 +51,7 @@ impl Sight {
     pub fn is_dir(self) -> bool
         ensures { (there : Option Shape) → sight there ≡ self → result ≡ is_dir there }
     {
-        matches!(self, Sight::EmptyDir | Sight::Dir)
+        matches!(self, Sight::EmptyDir | Sight::Dir | Sight::CrowdedDir)
     }
 
     /// Whether a file is there.
@@ -63,7 +65,14 @@ impl Sight {
     pub fn has_entries(self) -> bool
         ensures { (there : Option Shape) → sight there ≡ self → result ≡ has_entries there }
     {
-        matches!(self, Sight::Dir)
+        matches!(self, Sight::Dir | Sight::CrowdedDir)
+    }
+
+    /// Whether a directory with more entries than a call answers is there.
+    pub fn is_crowded(self) -> bool
+        ensures { (there : Option Shape) → sight there ≡ self → result ≡ is_crowded there }
+    {
+        matches!(self, Sight::CrowdedDir)
     }
 }
 

@@ -29,7 +29,8 @@ macro_rules! calls {
             nodes {
                 // call             what it does          errors in order, behind those of its path
                 Stat              { [stat()]              [is_missing => Enoent] }
-                Readdir           { [readdir()]           [is_missing => Enoent, is_file => Enotdir] }
+                Readdir           { [readdir()]           [is_missing => Enoent, is_file => Enotdir, is_crowded => Eoverflow] }
+                ListAfter(after, count) { [list(after, count)] [is_missing => Enoent, is_file => Enotdir] }
                 Read(off, count)  { [read(off, count)]    [is_missing => Enoent, is_dir => Eisdir] }
                 Write(off, bytes) { [write(off, bytes)]   [is_missing => Enoent, is_dir => Eisdir, is_too_long(off, bytes) => Efbig] }
                 Truncate(size)    { [truncate(size)]      [is_missing => Enoent, is_dir => Eisdir, is_too_large(size) => Efbig] }

@@ -43,6 +43,8 @@ pub enum NodeCall<'a> {
     Stat,
     /// Its names are told.
     Readdir,
+    /// Its names above a path's last name are told, no more than a count.
+    ListAfter(&'a Path, u64),
     /// Bytes from an offset on are told, no more than a count.
     Read(u64, u64),
     /// Bytes are written at an offset.
@@ -71,6 +73,11 @@ fn on_node(memory: &mut Memory, node: NodeCall<'_>, path: Path) -> Result<Call, 
     match node {
         NodeCall::Stat => Ok(Call::Stat(path)),
         NodeCall::Readdir => Ok(Call::Readdir(path)),
+        NodeCall::ListAfter(after, count) => Ok(Call::ListAfter(
+            path,
+            after.copy_counted(memory)?,
+            count,
+        )),
         NodeCall::Read(offset, count) => Ok(Call::Read(path, offset, count)),
         NodeCall::Write(offset, bytes) => Ok(Call::Write(
             path,
@@ -125,6 +132,9 @@ fn same_node(one: NodeCall<'_>, other: NodeCall<'_>) -> bool
     match one {
         NodeCall::Stat => matches!(other, NodeCall::Stat),
         NodeCall::Readdir => matches!(other, NodeCall::Readdir),
+        NodeCall::ListAfter(after, count) => {
+            matches!(other, NodeCall::ListAfter(behind, most) if same_path(after, behind) && most == count)
+        }
         NodeCall::Read(offset, count) => {
             matches!(other, NodeCall::Read(from, most) if from == offset && most == count)
         }
@@ -184,6 +194,9 @@ impl Call {
             Call::Exchange(one, other) => Target::Pair(PairCall::Exchange, one, other),
             Call::Stat(path) => Target::Node(NodeCall::Stat, path),
             Call::Readdir(path) => Target::Node(NodeCall::Readdir, path),
+            Call::ListAfter(path, after, count) => {
+                Target::Node(NodeCall::ListAfter(after, *count), path)
+            }
             Call::Read(path, off, count) => Target::Node(NodeCall::Read(*off, *count), path),
             Call::Write(path, off, bytes) => Target::Node(NodeCall::Write(*off, bytes), path),
             Call::Truncate(path, size) => Target::Node(NodeCall::Truncate(*size), path),

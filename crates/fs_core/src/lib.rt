@@ -8,9 +8,9 @@
 //! out and begins the timeline again at the tree that they lead to; it changes nothing where a call is under way or there
 //! is no memory. `Core::forget` does the same and drops them. `Core::verdict` has the entries judged as they stand.
 //!
-//! Enter at `Core::new`, at `Core::with_limits` where files keep the limit of the first version, or at `Core::from_rows` where
-//! there is a tree to begin at (`Core::from_tree`, where that is one of a core at rest, as `Core::prepare` tells it); then
-//! `seat`, `begin`, `step` and `timeline`. What a begin and a step do is
+//! Enter at `Core::new`, at `Core::with_limits` where the tree keeps the limits of another version than the second, or at
+//! `Core::from_rows` where there is a tree to begin at (`Core::from_tree`, where that is one of a core at rest, as
+//! `Core::prepare` tells it); then `seat`, `begin`, `step` and `timeline`. What a begin and a step do is
 //! `fs_machine/specs/States.antt`. In `specs/` here `CoreValues` says which of those states a core is in, `Events` what a
 //! list of events does, and `Checkpoints` why there is no checkpoint; `specs/code/` ties the code to them, and changes no
 //! meaning.

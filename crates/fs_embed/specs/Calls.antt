@@ -1,5 +1,6 @@
 -- What begins, steps and calls that a caller asks for do to a core.
-use Rattle.std.specs.Prelude.{◌≡◌, ◌≢◌, ℕ, ◌≤◌, Result, Ok, Err, length}
+use Rattle.std.specs.Prelude.{◌≡◌, ◌≢◌, ℕ, ◌≤◌, true, false, Result, Ok, Err, length}
+use Rattle.fs_names.specs.declared.limits.Limits.{Limits}
 use Rattle.fs_calls.specs.declared.call.Call.{Call}
 use Rattle.fs_calls.specs.declared.reply.Reply.{Reply}
 use Rattle.fs_words.specs.declared.fault.FaultKind.{FaultKind}
@@ -12,15 +13,19 @@ use Rattle.fs_machine.specs.declared.answers.Refusal.{Refusal}
 use Rattle.fs_machine.specs.declared.answers.Refusal.TheVariants.{OutOfMemory, SeatBusy, Full}
 use Rattle.fs_machine.specs.declared.answers.Stepped.{Stepped}
 use Rattle.fs_machine.specs.declared.answers.Stepped.TheVariants.{Idle, Took, Busy, LetGo, Helped, Committed, CarriedOut, Returned}
-use Rattle.fs_embed.specs.Requests.{Asked}
+use Rattle.fs_embed.specs.Requests.{Asked, has_call}
 use Rattle.fs_embed.specs.declared.calls.NotBegun.{NotBegun}
 use Rattle.fs_embed.specs.declared.calls.NotBegun.TheVariants as not_begun
 use Rattle.fs_embed.specs.declared.calls.NotReturned.{NotReturned}
 use Rattle.fs_embed.specs.declared.calls.NotReturned.TheVariants as not_returned
 
+-- the call that is asked for by these limits, which have it
+abbrev pub Asks : Asked → Limits → Call → Type 0
+Asks given limits call = (given limits ≡ Ok call) × (has_call limits call ≡ true)
+
 -- the call that is asked for begins on a seat under a number, and this is the state after
 abbrev pub Opens : CoreValue → ℕ → Asked → ℕ → State → Type 0
-Opens old seat given number first = (call : Call) × (given old.start.limits ≡ Ok call) × Begins (state_of old) seat call (Ok number) first
+Opens old seat given number first = (call : Call) × Asks given old.start.limits call × Begins (state_of old) seat call (Ok number) first
 
 -- the same, nothing else happens, and no memory was refused
 abbrev pub BeginsCall : CoreValue → ℕ → Asked → ℕ → CoreValue → Type 0
@@ -41,7 +46,8 @@ IsCounted Full old new = new ≡ old
 abbrev pub IsNotBegun : CoreValue → ℕ → Asked → NotBegun → CoreValue → Type 0
 IsNotBegun old seat given not_begun.NoSeat new = (length old.seats ≤ seat) × (new ≡ old)
 IsNotBegun old seat given (not_begun.Unread k) new = IsNoCall (given old.start.limits) k × (new ≡ old)
-IsNotBegun old seat given (not_begun.Refused refusal) new = (call : Call) × (given old.start.limits ≡ Ok call) × Begins (state_of old) seat call (Err refusal) (state_of new) × IsCounted refusal old.refusals new.refusals
+IsNotBegun old seat given not_begun.NoSuchCall new = (call : Call) × (given old.start.limits ≡ Ok call) × (has_call old.start.limits call ≡ false) × (new ≡ old)
+IsNotBegun old seat given (not_begun.Refused refusal) new = (call : Call) × Asks given old.start.limits call × Begins (state_of old) seat call (Err refusal) (state_of new) × IsCounted refusal old.refusals new.refusals
 
 -- steps of a seat, none or more, of which none returns
 pub data Steps (seat : ℕ) : State → State → Type 0 where

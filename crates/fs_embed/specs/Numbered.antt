@@ -1,8 +1,8 @@
 -- What a caller asks for by a number.
 use Rattle.std.specs.Prelude.{ℕ, ◌==◌, eqb, Bool, true, false, List, Option, Some, None, Err, if◌then◌else◌}
 use Rattle.fs_names.specs.declared.limits.Limits.{Limits}
-use Rattle.fs_names.specs.declared.limits.Limits.TheVariants.{V1, V2}
-use Rattle.fs_calls.specs.declared.call.Call.TheVariants.{Mkdir, Mknod, Unlink, Rmdir, Rename, Exchange, Stat, Readdir, Read, Write, Truncate}
+use Rattle.fs_names.specs.declared.limits.Limits.TheVariants.{V1, V2, V3}
+use Rattle.fs_calls.specs.declared.call.Call.TheVariants.{Mkdir, Mknod, Unlink, Rmdir, Rename, Exchange, Stat, Readdir, ListAfter, Read, Write, Truncate}
 use Rattle.fs_words.specs.declared.fault.FaultKind.TheVariants as kind
 use Rattle.fs_sched.specs.declared.schedule.Schedule.{Schedule}
 use Rattle.fs_sched.specs.declared.schedule.Schedule.TheVariants.{Given, RoundRobin, Seeded}
@@ -17,7 +17,8 @@ asked_with_more number path other off size bytes =
     else (if number == 8 then on_path (λ p. Read p off size) path
     else (if number == 9 then on_path (λ p. Write p off bytes) path
     else (if number == 10 then on_path (λ p. Truncate p size) path
-    else λ limits. Err kind.BadLine))))
+    else (if number == 11 then on_both (λ p q. ListAfter p q size) path other
+    else λ limits. Err kind.BadLine)))))
 
 -- the call of a number, with the parts that it has of those that may stand with it
 abbrev pub asked_by : ℕ → List ℕ → List ℕ → ℕ → ℕ → List ℕ → Asked
@@ -32,7 +33,7 @@ asked_by number path other off size bytes =
 
 -- the limits of names and files that have a version
 abbrev pub limits_of : ℕ → Option Limits
-limits_of version = if eqb version 1 then Some V1 else if eqb version 2 then Some V2 else None
+limits_of version = if eqb version 1 then Some V1 else if eqb version 2 then Some V2 else if eqb version 3 then Some V3 else None
 
 -- how many calls a core is to keep by a number: so many, or all
 abbrev pub to_keep : ℕ → Option ℕ

@@ -1,6 +1,7 @@
 -- What a caller asks for.
-use Rattle.std.specs.Prelude.{ℕ, List, Result, Ok, Err}
+use Rattle.std.specs.Prelude.{ℕ, Bool, true, List, Result, Ok, Err}
 use Rattle.fs_names.specs.Keys.{Key}
+use Rattle.fs_names.specs.Limits.{has_list}
 use Rattle.fs_names.specs.Reading.{reading}
 use Rattle.fs_names.specs.declared.limits.Limits.{Limits}
 use Rattle.fs_calls.specs.declared.call.Call.{Call}
@@ -10,7 +11,7 @@ use Rattle.fs_words.specs.declared.fault.FaultKind.TheVariants as kind
 use Rattle.fs_words.specs.Reading.{◌>>=◌, or_bad_path, words_of}
 use Rattle.fs_text.specs.Calls.{call_of}
 use Rattle.fs_embed.specs.declared.request.Request.{Request}
-use Rattle.fs_embed.specs.declared.request.Request.TheVariants.{Line, Mkdir, Mknod, Unlink, Rmdir, Rename, Exchange, Stat, Readdir, Read, Write, Truncate, Nothing}
+use Rattle.fs_embed.specs.declared.request.Request.TheVariants.{Line, Mkdir, Mknod, Unlink, Rmdir, Rename, Exchange, Stat, Readdir, ListAfter, Read, Write, Truncate, Nothing}
 
 -- what is asked for, by the limits of names and paths: a call, or what is wrong with the request
 abbrev pub Asked : Type 0
@@ -43,7 +44,13 @@ asked (Rename path other) = on_both call.Rename path.now other.now
 asked (Exchange path other) = on_both call.Exchange path.now other.now
 asked (Stat path) = on_path call.Stat path.now
 asked (Readdir path) = on_path call.Readdir path.now
+asked (ListAfter path after count) = on_both (λ p q. call.ListAfter p q count) path.now after.now
 asked (Read path off count) = on_path (λ p. call.Read p off count) path.now
 asked (Write path off bytes) = on_path (λ p. call.Write p off bytes.now) path.now
 asked (Truncate path size) = on_path (λ p. call.Truncate p size) path.now
 asked Nothing = λ limits. Err kind.BadLine
+
+-- whether limits have a call: all have each, but the one that lists a directory in pieces
+abbrev pub has_call : Limits → Call → Bool
+has_call limits (call.ListAfter p after count) = has_list limits
+has_call limits c = true

@@ -1,7 +1,7 @@
 -- Which number each answer has.
 use Rattle.std.specs.Prelude.{◌≡◌, ◌<◌, ◌≤◌, ◌+◌, ◌⊎◌, ℕ, List, Result}
 use Rattle.fs_calls.specs.declared.errno.Errno.{Errno}
-use Rattle.fs_calls.specs.declared.errno.Errno.TheVariants.{Enoent, Enotdir, Eexist, Enotempty, Eisdir, Einval, Ebusy, Eperm, Enospc, Efbig}
+use Rattle.fs_calls.specs.declared.errno.Errno.TheVariants.{Enoent, Enotdir, Eexist, Enotempty, Eisdir, Einval, Ebusy, Eperm, Enospc, Efbig, Eoverflow}
 use Rattle.fs_names.specs.declared.fault.PathFault.{PathFault}
 use Rattle.fs_names.specs.declared.fault.PathFault.TheVariants as path
 use Rattle.fs_machine.specs.declared.answers.Refusal.{Refusal}
@@ -20,7 +20,7 @@ use Rattle.fs_embed.specs.declared.calls.NotReturned.TheVariants as not_returned
 use Rattle.fs_words.specs.declared.fault.FaultKind.{FaultKind}
 use Rattle.fs_words.specs.declared.fault.FaultKind.TheVariants as kind
 use Rattle.fs_words.specs.declared.fault.ScriptFault.{ScriptFault}
-use Rattle.fs_embed.specs.declared.status.TheConstants.{OK, UNTOLD, WAITS, CLOSED, ALREADY_OPEN, BAD_LIMIT, NO_MEMORY, NO_SEAT, SEAT_BUSY, FULL, NO_REPLY, UNDER_WAY, BAD_HEADER, BAD_LINE, BAD_THREAD, THREAD_TWICE, BAD_PATH, BAD_NUMBER, BAD_HEX, NO_SCHEDULE, BAD_WORD, TOO_LARGE, BAD_REPLY, BAD_START, PATH_NOT_ABSOLUTE, PATH_NUL, PATH_NAME_TOO_LONG, PATH_TOO_MANY_NAMES, PATH_DOT, PATH_TRAILING_SLASH, FAILED}
+use Rattle.fs_embed.specs.declared.status.TheConstants.{OK, UNTOLD, WAITS, CLOSED, ALREADY_OPEN, BAD_LIMIT, NO_MEMORY, NO_SEAT, SEAT_BUSY, FULL, NO_REPLY, UNDER_WAY, BAD_VERSION, BAD_HEADER, BAD_LINE, BAD_THREAD, THREAD_TWICE, BAD_PATH, BAD_NUMBER, BAD_HEX, NO_SCHEDULE, BAD_WORD, TOO_LARGE, BAD_REPLY, BAD_START, PATH_NOT_ABSOLUTE, PATH_NUL, PATH_NAME_TOO_LONG, PATH_TOO_MANY_NAMES, PATH_DOT, PATH_TRAILING_SLASH, FAILED}
 
 -- a status of a call that has returned: done, or failed
 abbrev pub IsReturned : ℕ → Type 0
@@ -59,6 +59,7 @@ linux_number Ebusy = 16
 linux_number Eperm = 1
 linux_number Enospc = 28
 linux_number Efbig = 27
+linux_number Eoverflow = 75
 
 -- of a call that failed
 abbrev pub failed_status : Errno → ℕ
@@ -100,6 +101,7 @@ refusal_status refusals.SeatBusy = SEAT_BUSY
 abbrev pub begin_status : NotBegun → ℕ
 begin_status not_begun.NoSeat = NO_SEAT
 begin_status (not_begun.Unread k) = fault_status k
+begin_status not_begun.NoSuchCall = BAD_VERSION
 begin_status (not_begun.Refused refusal) = refusal_status refusal
 
 -- of the reason why a run has no text, with the line of a fault of the input or the number of a call under way; bytes in memory are there to be read and written, so else memory ran out

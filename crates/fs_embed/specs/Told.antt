@@ -64,7 +64,7 @@ IsToldStat (answer.Stat kind size) status stat = (status ≡ OK) × (stat.is_dir
 IsToldStat (Failed errno) status stat = status ≡ failed_status errno
 IsToldStat _ status stat = status ≡ UNTOLD
 
--- of a readdir, a byte 0 behind each name: where there is no memory for them, they are not told
+-- of a readdir or a list, a byte 0 behind each name: where there is no memory for them, they are not told
 abbrev pub IsToldNames : Reply → ℕ → ℕ → List ℕ → List ℕ → Type 0
 IsToldNames (Names names) status count old new = Tells status (names_text names) count old new × (status ≤ UNTOLD)
 IsToldNames (Failed errno) status count old new = status ≡ failed_status errno
@@ -82,7 +82,7 @@ IsToldWrote (Wrote bytes) status wrote = (status ≡ OK) × (wrote ≡ bytes)
 IsToldWrote (Failed errno) status wrote = status ≡ failed_status errno
 IsToldWrote _ status wrote = status ≡ UNTOLD
 
--- of a readdir, the names behind one, as many as there is room for
+-- of a readdir or a list, the names behind one, as many as there is room for
 abbrev pub IsToldBehind : Reply → List ℕ → ℕ → ℕ → List ℕ → List ℕ → Type 0
 IsToldBehind (Names names) after status count old new = (shown : List (List ℕ)) × IsShown names after (length old) shown × Tells status (names_text shown) count old new × (status ≤ UNTOLD)
 IsToldBehind (Failed errno) after status count old new = status ≡ failed_status errno

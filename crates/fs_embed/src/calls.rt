@@ -6,7 +6,7 @@ ghost use Rattle.fs_core.specs.CoreValues.{state_of, IsAtRest};
 ghost use Rattle.fs_embed.specs.Requests.{asked};
 ghost use Rattle.fs_embed.specs.Calls.{BeginsCall, IsNotBegun, RunsCall, IsNotReturned, Steps, IsWaiting, StepsAs, StandsStill, GoesOnAs, code_of, about_of};
 
-use crate::request::Request;
+use crate::request::{Request, has_call};
 use fs_calls::Reply;
 use fs_core::{Core, Refusal, Stepped};
 use fs_names::{CallNo, SeatNo};
@@ -20,6 +20,8 @@ pub enum NotBegun {
     NoSeat,
     /// What was asked for is no call: what is wrong with it, or out of memory as it was read.
     Unread(FaultKind),
+    /// The limits of the tree have no such call.
+    NoSuchCall,
     /// The core refused the call.
     Refused(Refusal),
 }
@@ -55,7 +57,8 @@ fn has_seat(core: &Core, seat: SeatNo) -> bool
     seat.get() < core.seats() as u64
 }
 
-/// Begins the call that is asked for on a seat, and answers its number.
+/// Begins the call that is asked for on a seat, and answers its number. Whether there is the seat is looked at first, then what
+/// was asked for, then whether the limits have the call: all of that before anything begins.
 pub fn begin_call(
     alloc: Global,
     core: &mut Core,
@@ -70,10 +73,14 @@ pub fn begin_call(
     if !has_seat(core, seat) {
         return Err(NotBegun::NoSeat);
     }
-    let call = match request.call(alloc, core.start().limits()) {
+    let limits = core.start().limits();
+    let call = match request.call(alloc, limits) {
         Ok(call) => call,
         Err(kind) => return Err(NotBegun::Unread(kind)),
     };
+    if !has_call(limits, &call) {
+        return Err(NotBegun::NoSuchCall);
+    }
     match core.begin(alloc, seat, &call) {
         Ok(number) => Ok(number),
         Err(refusal) => Err(NotBegun::Refused(refusal)),

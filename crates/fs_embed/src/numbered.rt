@@ -34,6 +34,7 @@ pub fn request_of<'a>(
         8 => Request::Read(path, off, size),
         9 => Request::Write(path, off, bytes),
         10 => Request::Truncate(path, size),
+        11 => Request::ListAfter(path, other, size),
         _ => Request::Nothing,
     }
 }
@@ -45,6 +46,7 @@ pub fn limits_of(version: u8) -> Option<Limits>
     match version {
         1 => Some(Limits::V1),
         2 => Some(Limits::V2),
+        3 => Some(Limits::V3),
         _ => None,
     }
 }

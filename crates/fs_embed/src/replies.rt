@@ -61,7 +61,7 @@ pub fn tell_reply_stat(core: &Core, number: u64, stat: &mut Stat) -> u8
     }
 }
 
-/// Tells the names of a readdir that come behind one, as many as there is room for.
+/// Tells the names of a readdir or a list that come behind one, as many as there is room for.
 pub fn tell_reply_names(
     alloc: Global,
     core: &Core,

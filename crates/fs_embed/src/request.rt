@@ -4,7 +4,7 @@ ghost use Rattle.std.specs.Prelude.{◌≡◌, Ok, IsOk, MatchOption};
 ghost use Rattle.fs_names.specs.Reading.{reading, FailsWith};
 ghost use Rattle.fs_words.specs.Reading.{or_bad_path};
 ghost use Rattle.fs_words.specs.code.Answers.{Gives};
-ghost use Rattle.fs_embed.specs.Requests.{asked, call_in, both_in};
+ghost use Rattle.fs_embed.specs.Requests.{asked, call_in, both_in, has_call};
 
 use fs_calls::Call;
 use fs_names::{Data, Limits, Path, PathFault};
@@ -34,6 +34,8 @@ pub enum Request<'a> {
     Stat(&'a [u8]),
     /// Asks for all names of a directory.
     Readdir(&'a [u8]),
+    /// Asks for the names of a directory above the last name of the second path, and for no more than a count.
+    ListAfter(&'a [u8], &'a [u8], u64),
     /// Asks for the bytes of a file from an offset on, and for no more than a count.
     Read(&'a [u8], u64, u64),
     /// Writes bytes into a file at an offset.
@@ -95,6 +97,16 @@ fn both_in(
     }
 }
 
+/// Whether limits have a call: all have each, but the one that lists a directory in pieces.
+pub(crate) fn has_call(limits: Limits, call: &Call) -> bool
+    ensures { result ≡ has_call limits call.now }
+{
+    match call {
+        Call::ListAfter(_, _, _) => limits.has_list(),
+        _ => true,
+    }
+}
+
 /// The same bytes in memory of their own.
 fn copied(alloc: Global, bytes: &[u8]) -> Result<Data, FaultKind>
     ensures { Gives (λ copy. copy) result (Ok bytes.now) }
@@ -126,6 +138,10 @@ impl<'a> Request<'a> {
             }
             Request::Stat(path) => Ok(Call::Stat(path_in(alloc, limits, path)?)),
             Request::Readdir(path) => Ok(Call::Readdir(path_in(alloc, limits, path)?)),
+            Request::ListAfter(path, after, count) => {
+                let (path, after) = both_in(alloc, limits, path, after)?;
+                Ok(Call::ListAfter(path, after, count))
+            }
             Request::Read(path, off, count) => Ok(Call::Read(
                 path_in(alloc, limits, path)?,
                 off,

@@ -48,7 +48,7 @@ pub const NO_REPLY: u8 = 11;
 /// A call is under way.
 pub const UNDER_WAY: u8 = 12;
 
-/// No limits of names and files have this version.
+/// No limits of names and files have this version, or those of the tree have no such call.
 pub const BAD_VERSION: u8 = 13;
 
 /// The first line is another than it has to be. The numbers from here on are faults of what is read.
@@ -97,7 +97,7 @@ pub const PATH_NUL: u8 = 29;
 /// A name of a path has more bytes than the limits allow.
 pub const PATH_NAME_TOO_LONG: u8 = 30;
 
-/// A path has more than 64 names.
+/// A path has more names than the limits allow.
 pub const PATH_TOO_MANY_NAMES: u8 = 31;
 
 /// A name of a path is `.` or `..`.
@@ -131,6 +131,7 @@ fn linux_number(errno: Errno) -> u8
         Errno::Eperm => 1,
         Errno::Enospc => 28,
         Errno::Efbig => 27,
+        Errno::Eoverflow => 75,
     }
 }
 
@@ -198,6 +199,7 @@ pub fn begin_status(why: NotBegun) -> u8
     match why {
         NotBegun::NoSeat => NO_SEAT,
         NotBegun::Unread(kind) => fault_status(kind),
+        NotBegun::NoSuchCall => BAD_VERSION,
         NotBegun::Refused(refusal) => refusal_status(refusal),
     }
 }

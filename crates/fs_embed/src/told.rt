@@ -86,7 +86,7 @@ pub fn tell_stat(reply: &Reply, stat: &mut Stat) -> u8
     }
 }
 
-/// Tells the names of a readdir, a byte 0 behind each.
+/// Tells the names of a readdir or a list, a byte 0 behind each.
 pub fn tell_names(alloc: Global, reply: &Reply, out: &mut [u8], count: &mut usize) -> u8
     ensures told { IsToldNames reply.now result count.new out.old out.new }
     ensures returned { IsReturned result }
@@ -131,7 +131,7 @@ pub fn tell_wrote(reply: &Reply, wrote: &mut u64) -> u8
     }
 }
 
-/// Tells the names of a readdir that come behind one, as many as there is room for.
+/// Tells the names of a readdir or a list that come behind one, as many as there is room for.
 pub fn tell_behind(
     alloc: Global,
     reply: &Reply,

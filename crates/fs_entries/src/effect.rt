@@ -6,7 +6,7 @@ use fs_seq::SeqTree;
 use fs_text::{Addition, errno_text};
 use std::alloc::{AllocError, Global};
 
-/// The paths of a call: of one that has one path, that path twice.
+/// The paths of the nodes of a call: of one that has one, that path twice.
 fn paths_of(call: &Call) -> (&Path, &Path) {
     match call {
         Call::Rename(from, to) => (from, to),
@@ -17,6 +17,7 @@ fn paths_of(call: &Call) -> (&Path, &Path) {
         | Call::Rmdir(path)
         | Call::Stat(path)
         | Call::Readdir(path)
+        | Call::ListAfter(path, _, _)
         | Call::Read(path, _, _)
         | Call::Write(path, _, _)
         | Call::Truncate(path, _) => (path, path),
@@ -77,7 +78,8 @@ fn push_done(
         (Call::Write(_, _, _) | Call::Truncate(_, _), _) => {
             push_one(alloc, b"changes ", call, words)
         }
-        (Call::Stat(_) | Call::Readdir(_) | Call::Read(_, _, _), _) => words.push(b"answers"),
+        (Call::Stat(_) | Call::Readdir(_) | Call::ListAfter(_, _, _) | Call::Read(_, _, _), _) =>
+            words.push(b"answers"),
     }
 }
 

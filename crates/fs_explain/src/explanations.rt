@@ -14,11 +14,11 @@ use fs_timeline::FaultKind as EntryFault;
 use std::alloc::{AllocError, Global};
 
 const BAD_HEADER: &str = "\
-BadHeader: the first line is not `atomfs 1` or `atomfs 2`, for a journal `atomfs-journal 1`, `2` or `3`, for a tree `tree`; or the input is empty
+BadHeader: the first line is not `atomfs 1`, `2` or `3`, for a journal `atomfs-journal 1`, `2`, `3` or `4`, for a tree `tree`; or the input is empty
 
-In a script, for    atomfs 3
-write               atomfs 2
-because             there are two versions, and no line precedes theirs
+In a script, for    atomfs 4
+write               atomfs 3
+because             there are three versions, and no line precedes theirs
 
 In a journal, for   atomfs 1
 write               atomfs-journal 1
@@ -34,7 +34,7 @@ because             a call belongs to the thread above it
 
 In a script, for    touch /a
 write               mknod /a
-because             there are eleven calls, and `touch` is none of them
+because             there are twelve calls (`list` only in version 3), and `touch` is none of them
 
 In a script, for    write /a 68656c6c6f
 write               write /a 0 68656c6c6f
@@ -98,19 +98,19 @@ because             no name has a byte zero, and `%25` is a `%`
 ";
 
 const NAME_TOO_LONG: &str = "\
-NameTooLong: a name in a path has more than 32 bytes, in a text of version 2 more than 64
+NameTooLong: a name in a path has more than 32 bytes, in a text of version 2 or 3 more than 64
 
 In a script, for    stat /abcdefghijklmnopqrstuvwxyz0123456
 write               stat /abcdefghijklmnopqrstuvwxyz012345
-because             a name has at most 32 bytes, in a text of version 2 at most 64
+because             a name has at most 32 bytes, in a text of version 2 or 3 at most 64
 ";
 
 const TOO_MANY_NAMES: &str = "\
-TooManyNames: a path has more than 64 names
+TooManyNames: a path has more than 64 names, in a text of version 3 more than 2,048
 
 In a script, for    stat /n/n/n/n/n/n/n/n/n/n/n/n/n/n/n/n/n/n/n/n/n/n/n/n/n/n/n/n/n/n/n/n/n/n/n/n/n/n/n/n/n/n/n/n/n/n/n/n/n/n/n/n/n/n/n/n/n/n/n/n/n/n/n/n/n
 write               stat /n/n/n/n/n/n/n/n/n/n/n/n/n/n/n/n/n/n/n/n/n/n/n/n/n/n/n/n/n/n/n/n/n/n/n/n/n/n/n/n/n/n/n/n/n/n/n/n/n/n/n/n/n/n/n/n/n/n/n/n/n/n/n/n
-because             a path has at most 64 names
+because             a path has at most 64 names, in a text of version 3 at most 2,048
 ";
 
 const DOT: &str = "\

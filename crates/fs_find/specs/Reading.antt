@@ -2,7 +2,7 @@
 use Rattle.std.specs.Prelude.{ℕ, ◌+◌, ◌==◌, nat_le, Bool, true, false, ◌&&◌, List, [], ◌∷◌, ◌++◌, take, drop, position, Result, Ok, Err, Option, Some, None, is_some, if◌then◌else◌, codes}
 use Rattle.std.specs.List.{flat_map, list_any, slice_split}
 use Rattle.std.specs.Str.{bytes_eq}
-use Rattle.fs_names.specs.declared.limits.Limits.TheVariants.{V2}
+use Rattle.fs_names.specs.Limits.{largest}
 use Rattle.fs_calls.specs.declared.reply.Reply.{Reply}
 use Rattle.fs_timeline.specs.declared.entry.Entry.{Entry}
 use Rattle.fs_timeline.specs.declared.entry.Entry.TheVariants.{Return}
@@ -46,9 +46,9 @@ abbrev pub only_reply : Result (List Entry) ScriptFault → Result Reply WhatFau
 only_reply (Ok (Return c r ∷ [])) = Ok r
 only_reply _ = Err BadReply
 
--- the entries of a text behind a line `reply`
+-- the entries of a text behind a line `reply`, by the largest limits
 abbrev pub entries_behind : List ℕ → Result (List Entry) ScriptFault
-entries_behind text = behind_header (codes "reply") text >>= entries_from V2 2
+entries_behind text = behind_header (codes "reply") text >>= entries_from largest 2
 
 -- the reply that words say, as a journal has it
 unfoldable pub reply_of : List Word → Result Reply WhatFault

@@ -128,7 +128,11 @@ fn is_memory(kind: FaultKind) -> bool
 fn entries_behind(alloc: Global, text: &[u8]) -> Result<Vec<Entry>, ScriptFault>
     ensures { GivesText (λ entries. entries.items) result (entries_behind text.now) }
 {
-    entries_in(alloc, Limits::V2, Lines::behind_header(text, b"reply")?)
+    entries_in(
+        alloc,
+        Limits::LARGEST,
+        Lines::behind_header(text, b"reply")?,
+    )
 }
 
 /// The reply of the only entry of a text.

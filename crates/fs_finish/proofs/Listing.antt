@@ -1,21 +1,23 @@
--- How the names of a directory are told one after another.
-use Rattle.std.specs.Prelude.{ℕ, ◌≡◌, ◌≤◌, ◌++◌, ◌-◌, List, Option, option_map, slice_get, length}
+-- How the names of a directory above one are told one after another.
+use Rattle.std.specs.Prelude.{ℕ, ◌≡◌, ◌≤◌, ◌++◌, List, [], ◌∷◌, Option, Some, option_map, length}
 use Rattle.fs_names.specs.Names.{Name}
 use Rattle.fs_names.specs.Shapes.{names_of}
 use Rattle.fs_nodes.specs.Graphs.{Graph}
 use Rattle.fs_nodes.specs.Stores.{names_above, next_entry, IsNextName}
 
--- the last of some names
-abbrev pub last_listed : List Name → Option Name
-last_listed told = slice_get told (length told - 1)
+-- the last of some names, or the one that they are above
+abbrev pub last_listed : Option Name → List Name → Option Name
+last_listed low [] = low
+last_listed low (x ∷ told) = last_listed (Some x) told
 
--- the names told so far and those above the last of them are all names, for which there is room
-pub record IsListed (told names : List Name) (room : ℕ) : Type 0 where
-  pub all : told ++ names_above (last_listed told) names ≡ names
-  pub fits : length names ≤ room
+-- the names told so far, which are no more than the most, and those above the last of them are all above the given one
+pub record IsListed (low : Option Name) (most : ℕ) (told names : List Name) : Type 0 where
+  pub all : told ++ names_above (last_listed low told) names ≡ names_above low names
+  pub within : length told ≤ most
 
--- the same of a directory, with its next entry
-pub record IsListing (graph : Graph) (dir : ℕ) (told : List Name) (room : ℕ) (next : Option (Name × ℕ)) : Type 0 where
-  pub is_told : IsListed told (names_of (graph.shape dir)) room
-  pub next_is : next ≡ next_entry graph dir (last_listed told)
-  pub rest : IsNextName (names_of (graph.shape dir)) (last_listed told) (option_map (λ entry. entry.0) next)
+-- the same of a directory, with its next entry, and with room for the most
+pub record IsListing (graph : Graph) (dir : ℕ) (low : Option Name) (most : ℕ) (told : List Name) (room : ℕ) (next : Option (Name × ℕ)) : Type 0 where
+  pub is_told : IsListed low most told (names_of (graph.shape dir))
+  pub fits : most ≤ room
+  pub next_is : next ≡ next_entry graph dir (last_listed low told)
+  pub rest : IsNextName (names_of (graph.shape dir)) (last_listed low told) (option_map (λ entry. entry.0) next)

@@ -1,12 +1,24 @@
 -- On names that are told one after another.
-use Rattle.std.proofs.Common.{◌≡◌, ℕ, ◌+◌, ◌-◌, ◌<◌, ◌≤◌, List, [], ◌∷◌, ◌++◌, length, Option, Some, None, refl, ap, sym, ◌∙◌, arith, append_assoc, append-nil, length-append, subst}
-use Rattle.std.specs.Prelude.{slice_get, option_map}
+use Rattle.std.proofs.Common.{◌≡◌, ◌≢◌, ℕ, ◌+◌, ◌-◌, ◌<◌, ◌≤◌, Bool, true, false, IsTrue, List, [], ◌∷◌, ◌++◌, length, take, Option, Some, None, refl, ap, sym, ◌∙◌, arith, append_assoc, append-nil, length-append, subst}
+use Rattle.std.specs.Prelude.{option_map, nat_lt}
+use Rattle.std.proofs.lemmas.Bool.Decides.{nat_tests}
 use Rattle.std.specs.List.{find}
-use Rattle.fs_names.specs.Names.{Name}
-use Rattle.fs_names.specs.Shapes.{names_of}
+use Rattle.std.specs.Ordering.{is_lt}
+use Rattle.std.proofs.lemmas.List.{take_all, take_at}
+use Rattle.fs_names.specs.Names as orders
+use Rattle.fs_names.specs.Names.{Name, name_cmp, can_name}
+use Rattle.fs_names.specs.Shapes.{Shape, Dir, File, names_of}
+use Rattle.fs_names.specs.Failures.{check, first_failure}
+use Rattle.fs_names.specs.declared.limits.TheConstants.{LIST_LIMIT}
+use Rattle.fs_calls.specs.Forms.{Readdir}
+use Rattle.fs_calls.specs.Rows.{answered, node_fault, node_row}
+use Rattle.fs_calls.specs.declared.errno.Errno.TheVariants.{Eoverflow}
+use Rattle.fs_calls.specs.declared.reply.Reply.TheVariants.{Names}
 use Rattle.fs_nodes.specs.Graphs.{Graph}
+use Rattle.fs_nodes.specs.Seen.{Ascends}
 use Rattle.fs_nodes.specs.Stores.{is_above, names_above, next_entry, IsNextName, IsEntryAfter, IsNameAfter}
 use Rattle.fs_nodes.proofs.EntryLemmas.{entry_child}
+use Rattle.fs_finish.specs.Lows.{bytes_above}
 use Rattle.fs_finish.proofs.Listing.{last_listed, IsListed, IsListing}
 
 -- all names are above none
@@ -14,70 +26,113 @@ pub all_above : (names : List Name) → names_above None names ≡ names
 all_above [] = refl
 all_above (x ∷ names) = ap (λ (l : List Name). x ∷ l) (all_above names)
 
+-- so as many as there may be are all
+pub all_taken : (most : ℕ) (names : List Name) → length names ≤ most → take most (names_above None names) ≡ names
+all_taken most names h = ap (take most) (all_above names) ∙ take_all most names h
+
+-- what a call without an error answers of them
+pub all_told : (s : Option Shape) → node_fault Readdir None s ≡ None → Names (take LIST_LIMIT (names_above None (names_of s))) ≡ (node_row Readdir None s).0
+all_told None none = cc
+all_told (Some (File bytes)) none = cc
+all_told (Some (Dir names)) none = go (nat_lt LIST_LIMIT (length names)) refl none
+  where
+    go : (b : Bool) → nat_lt LIST_LIMIT (length names) ≡ b → first_failure (check b Eoverflow ∷ []) ≡ None → Names (take LIST_LIMIT (names_above None names)) ≡ (answered {C = Option (List ℕ)} (first_failure (check b Eoverflow ∷ [])) None (Names names) None).0
+    go true e h = cc
+    go false e h = ap Names (all_taken LIST_LIMIT names (grind (arith, nat_tests)))
+
+-- ---- names above no bytes
+
+-- what is above a name has bytes
+above_bytes : (x y : Name) → is_lt (name_cmp x y) ≡ true → is_lt (name_cmp [] y) ≡ true
+above_bytes [] [] h = h
+above_bytes (a ∷ x) [] h = cc
+above_bytes x (b ∷ y) h = refl
+
+-- so names that ascend from one are above no bytes
+above_nothing : (x : Name) (names : List Name) → Ascends (Some x) names → orders.names_above [] names ≡ names
+above_nothing x [] a = refl
+above_nothing x (y ∷ names) a = rw (above_bytes x y a.0) (ap (λ (l : List Name). y ∷ l) (above_nothing y names a.1))
+
+-- the names above one, by its bytes
+above_one : (x : Name) (names : List Name) → names_above (Some x) names ≡ orders.names_above x names
+above_one x names = refl
+
+-- where the first name has bytes, all are above none as above no bytes
+above_first : (names : List Name) (x : Name) (rest : List Name) → Ascends None names → names ≡ x ∷ rest → IsTrue (can_name x) → names_above None names ≡ orders.names_above [] names
+above_first [] x rest a e named = cc
+above_first ([] ∷ names) x rest a e named = let same : x ≡ [] = cc in let z : IsTrue (can_name []) = subst (λ (y : Name). IsTrue (can_name y)) same named in cc
+above_first ((b ∷ y) ∷ names) x rest a e named = all_above ((b ∷ y) ∷ names) ∙ ap (λ (l : List Name). (b ∷ y) ∷ l) (sym (above_nothing (b ∷ y) names a.1))
+
+-- what is above a name, or above none, is above its bytes, where the first name has some
+pub above_some : (low : Option Name) (names : List Name) (x : Name) → Ascends None names → IsNextName names low (Some x) → IsTrue (can_name x) → names_above low names ≡ orders.names_above (bytes_above low) names
+above_some (Some y) names x a rest named = above_one y names
+above_some None names x a rest named = above_first names x (names_above (Some x) names) a (sym (all_above names) ∙ rest) named
+
+-- and where there is none
+pub above_none : (low : Option Name) (names : List Name) → IsNextName names low None → names_above low names ≡ orders.names_above (bytes_above low) names
+above_none (Some y) names rest = above_one y names
+above_none None names rest = rest ∙ sym (ap (orders.names_above []) (sym (all_above names) ∙ rest))
+
+-- ---- names told so far
+
 -- the last one where one was added
-get_end : (told : List Name) (x : Name) → slice_get (told ++ x ∷ []) (length told) ≡ Some x
-get_end [] x = refl
-get_end (y ∷ told) x = get_end told x
+pub last_pushed : (low : Option Name) (told : List Name) (x : Name) → last_listed low (told ++ x ∷ []) ≡ Some x
+last_pushed low [] x = refl
+last_pushed low (y ∷ told) x = last_pushed (Some y) told x
 
-pub last_pushed : (told : List Name) (x : Name) → last_listed (told ++ x ∷ []) ≡ Some x
-last_pushed told x = ap (slice_get (told ++ x ∷ [])) (let same : length (told ++ x ∷ []) - 1 ≡ length told = simp length-append (omega arith) in same) ∙ get_end told x
+-- at first, and after one more
+told_first : (low : Option Name) (most : ℕ) (names : List Name) → IsListed low most [] names
+told_first low most names = record { all = refl; within = omega arith }
 
--- at first, after one more, and at the end
-pub told_first : (names : List Name) (room : ℕ) → length names ≤ room → IsListed [] names room
-told_first names room h = record { all = all_above names; fits = h }
-
-pub told_more : (told names : List Name) (room : ℕ) (low : Option Name) (x : Name) → IsListed told names room → low ≡ last_listed told → names_above low names ≡ x ∷ names_above (Some x) names → IsListed (told ++ x ∷ []) names room
-told_more told names room low x h l e = record {
-  all = append_assoc told (x ∷ []) (names_above (last_listed (told ++ x ∷ [])) names) ∙ ap (λ (o : Option Name). told ++ x ∷ names_above o names) (last_pushed told x) ∙ ap (λ (rest : List Name). told ++ rest) (sym e ∙ ap (λ (o : Option Name). names_above o names) l) ∙ h.all;
-  fits = h.fits;
+told_more : (low : Option Name) (most : ℕ) (told names : List Name) (x : Name) → IsListed low most told names → length told ≢ most → names_above (last_listed low told) names ≡ x ∷ names_above (Some x) names → IsListed low most (told ++ x ∷ []) names
+told_more low most told names x h fewer e = record {
+  all = append_assoc told (x ∷ []) (names_above (last_listed low (told ++ x ∷ [])) names) ∙ ap (λ (o : Option Name). told ++ x ∷ names_above o names) (last_pushed low told x) ∙ ap (λ (rest : List Name). told ++ rest) (sym e) ∙ h.all;
+  within = (let k : length (told ++ x ∷ []) ≡ length told + 1 = length-append told (x ∷ []) in let w = h.within in omega (arith, k, w, fewer));
 }
 
-pub told_all : (told names : List Name) (room : ℕ) (low : Option Name) → IsListed told names room → low ≡ last_listed told → names_above low names ≡ [] → told ≡ names
-told_all told names room low h l e = sym (append-nil told) ∙ ap (λ (rest : List Name). told ++ rest) (sym e ∙ ap (λ (o : Option Name). names_above o names) l) ∙ h.all
+-- at the end: no name is left, or so many are told
+told_all : (low : Option Name) (most : ℕ) (told names : List Name) → IsListed low most told names → names_above (last_listed low told) names ≡ [] → told ≡ take most (names_above low names)
+told_all low most told names h e =
+    let all : told ≡ names_above low names = sym (append-nil told) ∙ ap (λ (rest : List Name). told ++ rest) (sym e) ∙ h.all in
+    all ∙ sym (take_all most (names_above low names) (subst (λ (l : List Name). length l ≤ most) all h.within))
 
--- where a name is left to tell, there is room for it
-pub told_room : (told names : List Name) (room : ℕ) (low : Option Name) (x : Name) → IsListed told names room → low ≡ last_listed told → names_above low names ≡ x ∷ names_above (Some x) names → length told < room
-told_room told names room low x h l e =
-    let k : length told + length (x ∷ names_above (Some x) names) ≡ length names = sym (length-append told (x ∷ names_above (Some x) names)) ∙ ap length (ap (λ (rest : List Name). told ++ rest) (sym e ∙ ap (λ (o : Option Name). names_above o names) l) ∙ h.all) in
-    let f = h.fits in
-    omega arith
-
--- one more, in other words for the same
-pub told_pushed : (told names new : List Name) (room room' : ℕ) (low : Option Name) (x : Name) → IsListed told names room → low ≡ last_listed told → names_above low names ≡ x ∷ names_above (Some x) names → new ≡ told ++ x ∷ [] → room' ≡ room → IsListed new names room'
-told_pushed told names new room room' low x h l e n r = subst (λ (z : List Name). IsListed z names room') (sym n) (subst (λ (m : ℕ). IsListed (told ++ x ∷ []) names m) (sym r) (told_more told names room low x h l e))
+told_most : (low : Option Name) (most : ℕ) (told names : List Name) → IsListed low most told names → length told ≡ most → told ≡ take most (names_above low names)
+told_most low most told names h e = sym (take_at told (names_above (last_listed low told) names) most e) ∙ ap (take most) h.all
 
 -- ---- the same of a directory
 
-pub listing_first : (graph : Graph) (dir room : ℕ) (told : List Name) (next : Option (Name × ℕ)) → told ≡ [] → length (names_of (graph.shape dir)) ≤ room → next ≡ next_entry graph dir None → IsNextName (names_of (graph.shape dir)) None (option_map (λ entry. entry.0) next)
-    → IsListing graph dir told room next
-listing_first graph dir room told next none h entry rest = subst (λ (l : List Name). IsListing graph dir l room next) (sym none) (record { is_told = told_first (names_of (graph.shape dir)) room h; next_is = entry; rest = rest })
+pub listing_first : (graph : Graph) (dir : ℕ) (low : Option Name) (most room : ℕ) (told : List Name) (next : Option (Name × ℕ)) → told ≡ [] → most ≤ room → next ≡ next_entry graph dir low → IsNextName (names_of (graph.shape dir)) low (option_map (λ entry. entry.0) next)
+    → IsListing graph dir low most told room next
+listing_first graph dir low most room told next none h entry rest = subst (λ (l : List Name). IsListing graph dir low most l room next) (sym none) (record { is_told = told_first low most (names_of (graph.shape dir)); fits = h; next_is = entry; rest = rest })
 
--- the name of the next entry
-listing_name : (graph : Graph) (dir room : ℕ) (told : List Name) (next : Option (Name × ℕ)) (x : Name) (n : ℕ) → IsListing graph dir told room next → next ≡ Some (x, n) → names_above (last_listed told) (names_of (graph.shape dir)) ≡ x ∷ names_above (Some x) (names_of (graph.shape dir))
-listing_name graph dir room told next x n l is = subst (λ (o : Option (Name × ℕ)). IsNextName (names_of (graph.shape dir)) (last_listed told) (option_map (λ entry. entry.0) o)) is l.rest
+-- where fewer are told, there is room for one
+pub listing_room : (graph : Graph) (dir : ℕ) (low : Option Name) (most : ℕ) (told : List Name) (room : ℕ) (next : Option (Name × ℕ)) → IsListing graph dir low most told room next → length told ≢ most → length told < room
+listing_room graph dir low most told room next l fewer = let w = l.is_told.within in let f = l.fits in omega (arith, w, f, fewer)
 
-pub listing_room : (graph : Graph) (dir room : ℕ) (told : List Name) (next : Option (Name × ℕ)) (x : Name) (n : ℕ) → IsListing graph dir told room next → next ≡ Some (x, n) → length told < room
-listing_room graph dir room told next x n l is = told_room told (names_of (graph.shape dir)) room (last_listed told) x l.is_told refl (listing_name graph dir room told next x n l is)
-
-pub listing_pushed : (graph : Graph) (dir room room' : ℕ) (told new : List Name) (next after : Option (Name × ℕ)) (x : Name) (n : ℕ) → IsListing graph dir told room next → next ≡ Some (x, n) → new ≡ told ++ x ∷ [] → room' ≡ room
-    → IsEntryAfter graph n after → IsNameAfter graph n (option_map (λ entry. entry.0) after) → IsListing graph dir new room' after
-listing_pushed graph dir room room' told new next after x n l is pushed same entry rest =
-    let child : graph.child dir x ≡ Some n = entry_child (graph.child dir) (find (is_above (last_listed told)) (names_of (graph.shape dir))) x n (sym is ∙ l.next_is) in
-    let last : last_listed new ≡ Some x = ap last_listed pushed ∙ last_pushed told x in
+pub listing_pushed : (graph : Graph) (dir : ℕ) (low : Option Name) (most : ℕ) (told new : List Name) (room room' : ℕ) (next after : Option (Name × ℕ)) (x : Name) (n : ℕ) → IsListing graph dir low most told room next → next ≡ Some (x, n) → length told ≢ most → new ≡ told ++ x ∷ [] → room' ≡ room
+    → IsEntryAfter graph n after → IsNameAfter graph n (option_map (λ entry. entry.0) after) → IsListing graph dir low most new room' after
+listing_pushed graph dir low most told new room room' next after x n l is fewer pushed same entry rest =
+    let names : List Name = names_of (graph.shape dir) in
+    let child : graph.child dir x ≡ Some n = entry_child (graph.child dir) (find (is_above (last_listed low told)) names) x n (sym is ∙ l.next_is) in
+    let name : names_above (last_listed low told) names ≡ x ∷ names_above (Some x) names = subst (λ (o : Option (Name × ℕ)). IsNextName names (last_listed low told) (option_map (λ entry. entry.0) o)) is l.rest in
+    let last : last_listed low new ≡ Some x = ap (last_listed low) pushed ∙ last_pushed low told x in
     record {
-      is_told = told_pushed told (names_of (graph.shape dir)) new room room' (last_listed told) x l.is_told refl (listing_name graph dir room told next x n l is) pushed same;
+      is_told = subst (λ (z : List Name). IsListed low most z names) (sym pushed) (told_more low most told names x l.is_told fewer name);
+      fits = subst (λ (k : ℕ). most ≤ k) (sym same) l.fits;
       next_is = entry dir x child ∙ ap (next_entry graph dir) (sym last);
-      rest = subst (λ (o : Option Name). IsNextName (names_of (graph.shape dir)) o (option_map (λ entry. entry.0) after)) (sym last) (rest dir x child);
+      rest = subst (λ (o : Option Name). IsNextName names o (option_map (λ entry. entry.0) after)) (sym last) (rest dir x child);
     }
 
-pub listing_all : (graph : Graph) (dir room : ℕ) (told : List Name) (next : Option (Name × ℕ)) → IsListing graph dir told room next → next ≡ None → told ≡ names_of (graph.shape dir)
-listing_all graph dir room told next l is =
-    told_all told (names_of (graph.shape dir)) room (last_listed told) l.is_told refl (subst (λ (o : Option (Name × ℕ)). IsNextName (names_of (graph.shape dir)) (last_listed told) (option_map (λ entry. entry.0) o)) is l.rest)
+pub listing_all : (graph : Graph) (dir : ℕ) (low : Option Name) (most : ℕ) (told : List Name) (room : ℕ) (next : Option (Name × ℕ)) → IsListing graph dir low most told room next → next ≡ None → told ≡ take most (names_above low (names_of (graph.shape dir)))
+listing_all graph dir low most told room next l is =
+    told_all low most told (names_of (graph.shape dir)) l.is_told (subst (λ (o : Option (Name × ℕ)). IsNextName (names_of (graph.shape dir)) (last_listed low told) (option_map (λ entry. entry.0) o)) is l.rest)
+
+pub listing_most : (graph : Graph) (dir : ℕ) (low : Option Name) (most : ℕ) (told : List Name) (room : ℕ) (next : Option (Name × ℕ)) → IsListing graph dir low most told room next → length told ≡ most → told ≡ take most (names_above low (names_of (graph.shape dir)))
+listing_most graph dir low most told room next l e = told_most low most told (names_of (graph.shape dir)) l.is_told e
 
 -- fewer are left to tell after each one
-pub listing_nearer : (graph : Graph) (dir room : ℕ) (told new : List Name) (next : Option (Name × ℕ)) (x : Name) (n : ℕ) → IsListing graph dir told room next → next ≡ Some (x, n) → new ≡ told ++ x ∷ [] → length (names_of (graph.shape dir)) - length new < length (names_of (graph.shape dir)) - length told
-listing_nearer graph dir room told new next x n l is pushed =
-    let names : List Name = names_of (graph.shape dir) in
-    let k : length told + length (x ∷ names_above (Some x) names) ≡ length names = sym (length-append told (x ∷ names_above (Some x) names)) ∙ ap length (ap (λ (r : List Name). told ++ r) (sym (listing_name graph dir room told next x n l is)) ∙ l.is_told.all) in
+pub listing_nearer : (graph : Graph) (dir : ℕ) (low : Option Name) (most : ℕ) (told new : List Name) (room : ℕ) (next : Option (Name × ℕ)) (x : Name) → IsListing graph dir low most told room next → length told ≢ most → new ≡ told ++ x ∷ [] → most - length new < most - length told
+listing_nearer graph dir low most told new room next x l fewer pushed =
     let more : length new ≡ length told + 1 = ap length pushed ∙ length-append told (x ∷ []) in
-    omega (arith, k, more)
+    let w = l.is_told.within in
+    omega (arith, more, w, fewer)

@@ -1,4 +1,5 @@
 pub mod Rooms
+pub mod Lows
 pub mod Replies
 pub mod Endings
 pub mod Paths

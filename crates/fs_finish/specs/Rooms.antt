@@ -1,7 +1,8 @@
 -- The room that a call makes when it begins, so that its finish takes no memory.
 use Rattle.std.specs.Prelude.{ℕ, Bool, true, false, ◌≤◌, ◌<◌, ◌+◌, ◌^◌, length, min}
 use Rattle.fs_blocks.specs.Spares.{SpareValue, FitsWrite, FitsSize}
-use Rattle.fs_calls.specs.Forms.{NodeCall, Stat, Readdir, Read, Write, Truncate, Form, AtNode, AtEntry, AtPair}
+use Rattle.fs_names.specs.declared.limits.TheConstants.{LIST_LIMIT}
+use Rattle.fs_calls.specs.Forms.{NodeCall, Stat, Readdir, ListAfter, Read, Write, Truncate, Form, AtNode, AtEntry, AtPair}
 use Rattle.fs_finish.specs.declared.room.Room.{Room}
 use Rattle.fs_finish.specs.declared.room.Room.TheVariants.{Nothing, Content, Blocks, Copies, Lists}
 
@@ -45,7 +46,8 @@ FitsLists n (Copies a b) = ⊥
 -- what a call on a node needs, by whether files are in blocks
 abbrev pub SufficesFor : Bool → NodeCall → Room → Type 0
 SufficesFor in_blocks Stat room = Unit {0}
-SufficesFor in_blocks (Readdir most) room = FitsLists most room
+SufficesFor in_blocks Readdir room = FitsLists LIST_LIMIT room
+SufficesFor in_blocks (ListAfter after count) room = FitsLists (min count LIST_LIMIT) room
 SufficesFor in_blocks (Read most off count) room = FitsCopies (min count most) room
 SufficesFor in_blocks (Write most off bytes) room = FitsChange in_blocks most (off + length bytes) (FitsWrite off (length bytes)) room
 SufficesFor in_blocks (Truncate most size) room = FitsChange in_blocks most size (FitsSize size) room

@@ -11,14 +11,13 @@ ghost use Rattle.fs_finish.specs.Paths.{first_path, second_path};
 ghost use Rattle.fs_finish.specs.Plans.{carried, answered_at, moved, swapped, CanCarryOut, CanMove, CanSwap};
 ghost use Rattle.fs_finish.specs.Replies.{refilled};
 ghost use Rattle.fs_finish.specs.Rooms.{Suffices, SufficesFor};
-ghost use Rattle.fs_machine.specs.OpValues.{IsToldWithin, TellsWithin};
 
 use crate::entries::{add, remove};
 use crate::exchange::exchange;
 use crate::finish::Finish;
 use crate::paths::{first_path, second_path};
 use crate::plan::{Moving, Plan, Route, Swapping};
-use crate::queries::{read, readdir, stat};
+use crate::queries::{list, read, readdir, stat};
 use crate::rename::rename;
 use crate::replies::Replies;
 use crate::room::Room;
@@ -54,7 +53,6 @@ fn answer(
     prepared: Room,
     store: &mut Store,
 ) -> Replies
-    requires bounded { TellsWithin (graph_of store.old) (node_call limits call) }
     requires room { SufficesFor (seen store.old).in_blocks (node_call limits call) prepared }
     ensures reply { result ≡ (node_row (node_call limits call.entry) None (shape store.old node)).0 }
     ensures change { seen store.new ≡ record (seen store.old) { graph = refilled node (node_row (node_call limits call.entry) None (shape store.old node)).1 (graph_of store.old) } }
@@ -71,7 +69,6 @@ fn answer_at(
     prepared: Room,
     store: &mut Store,
 ) -> Finish
-    requires bounded { IsToldWithin (graph_of store.old) (form_of limits aim) }
     requires room { Suffices (seen store.old).in_blocks (form_of limits aim) prepared }
     ensures made { IsEffect (answered_at (graph_of store.old) (form_of limits aim.entry) node reserved) result (graph_of store.new) }
     ensures rest { seen store.new ≡ record (seen store.old) { graph = graph_of store.new } }
@@ -136,7 +133,6 @@ pub fn carry_out(
     prepared: Room,
     store: &mut Store,
 ) -> Finish
-    requires bounded { IsToldWithin (graph_of store.old) (form_of limits aim) }
     requires room { Suffices (seen store.old).in_blocks (form_of limits aim) prepared }
     requires can { CanCarryOut (seen store.old) (form_of limits aim) route reserved plan }
     ensures made { IsEffect (carried (graph_of store.old) (form_of limits aim.entry) route reserved plan) result (graph_of store.new) }

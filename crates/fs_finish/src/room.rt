@@ -2,6 +2,7 @@
 
 ghost use Rattle.std.specs.Prelude.{◌≡◌, ◌≢◌, ◌≤◌, ◌<◌, ◌+◌, ◌^◌, [], IsTrue, IfOk, OnOk, OnErr, length, take, drop, min, vec_capacity};
 ghost use Rattle.fs_names.specs.Shapes.{bytes_of};
+ghost use Rattle.fs_names.specs.declared.limits.TheConstants.{LIST_LIMIT};
 ghost use Rattle.fs_nodes.specs.Stores.{shape};
 ghost use Rattle.fs_calls.specs.Forms.{form};
 ghost use Rattle.fs_calls.specs.code.Targets.{form_of, node_call};
@@ -12,7 +13,7 @@ use fs_blocks::Spare;
 use fs_calls::ranges::fits;
 use fs_calls::{Bytes, Call, NodeCall, Target};
 use fs_memory::Memory;
-use fs_names::{Limits, Name};
+use fs_names::{LIST_LIMIT, Limits, Name};
 use fs_nodes::{NodeNo, Store};
 use std::alloc::{AllocError, Global};
 use std::marker::Model;
@@ -243,6 +244,13 @@ fn copies(alloc: Global, memory: &mut Memory, most: usize, count: u64) -> Result
     Ok(Room::Copies(one, other))
 }
 
+/// The most names that a list of this count answers.
+pub fn most_listed(count: u64) -> usize
+    ensures { result ≡ min count LIST_LIMIT }
+{
+    count.min(LIST_LIMIT as u64) as usize
+}
+
 /// Room for two times so many names.
 fn lists(alloc: Global, memory: &mut Memory, count: usize) -> Result<Room, AllocError>
     ensures ok { IfOk result (FitsLists count) }
@@ -269,8 +277,9 @@ fn room_on(
 {
     match call {
         NodeCall::Stat => Ok(Room::Nothing),
-        NodeCall::Readdir => lists(alloc, memory, limits.entries()),
-        NodeCall::Read(_, count) => copies(alloc, memory, limits.file(), count),
+        NodeCall::Readdir => lists(alloc, memory, LIST_LIMIT),
+        NodeCall::ListAfter(_, count) => lists(alloc, memory, most_listed(count)),
+        NodeCall::Read(_, count) => copies(alloc, memory, limits.read(), count),
         NodeCall::Write(off, bytes) => room_for_write(
             alloc,
             memory,

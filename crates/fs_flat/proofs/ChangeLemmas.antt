@@ -82,7 +82,8 @@ cut_to size old content t new k p same was is e =
 -- a call that has no error and still replies one leaves the tree as it is
 lookup_stays : (t : Tree) (f : Form) → is_failed (reply_of t f) ≡ true → t ≡ change_of t f
 lookup_stays t (AtNode forms.Stat p) h = refl
-lookup_stays t (AtNode (forms.Readdir most) p) h = absurd (cc)
+lookup_stays t (AtNode forms.Readdir p) h = absurd (cc)
+lookup_stays t (AtNode (forms.ListAfter after count) p) h = absurd (cc)
 lookup_stays t (AtNode (forms.Read m off count) p) h = absurd (cc)
 lookup_stays t (AtNode (forms.Write m off bytes) p) h = absurd (cc)
 lookup_stays t (AtNode (forms.Truncate m size) p) h = absurd (cc)
@@ -108,6 +109,7 @@ change_any limits t (calls.Rename p q) = refl
 change_any limits t (calls.Exchange p q) = refl
 change_any limits t (calls.Stat p) = refl
 change_any limits t (calls.Readdir p) = refl
+change_any limits t (calls.ListAfter p after count) = refl
 change_any limits t (calls.Read p off count) = refl
 change_any limits t (calls.Write p off bytes) = refl
 change_any limits t (calls.Truncate p size) = refl

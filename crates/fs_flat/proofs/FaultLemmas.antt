@@ -16,7 +16,6 @@ use Rattle.fs_calls.specs.code.Targets.{entry_call, pair_call}
 use Rattle.fs_calls.specs.declared.rows.Sight.{Sight as Seen}
 use Rattle.fs_calls.specs.declared.rows.PairSight.{PairSight}
 use Rattle.fs_calls.specs.declared.call.Call.{Call}
-use Rattle.fs_calls.specs.declared.call.Call.TheVariants as calls
 use Rattle.fs_calls.specs.declared.errno.Errno.{Errno}
 use Rattle.fs_calls.specs.declared.reply.Reply.{Reply}
 use Rattle.fs_calls.specs.declared.reply.Reply.TheVariants.{Failed}
@@ -108,20 +107,6 @@ pub fails : (limits : Limits) (t : Tree) (call : Call) (e : Errno) → Some e �
 unfolding reply
 fails limits t call e h = ap (λ o. replied o (success limits t call)) h
 
--- no limit changes the reply of a call without an error
-success_any : (limits : Limits) (t : Tree) (call : Call) → success V1 t call ≡ success limits t call
-success_any limits t (calls.Mkdir p) = refl
-success_any limits t (calls.Mknod p) = refl
-success_any limits t (calls.Unlink p) = refl
-success_any limits t (calls.Rmdir p) = refl
-success_any limits t (calls.Rename p q) = refl
-success_any limits t (calls.Exchange p q) = refl
-success_any limits t (calls.Stat p) = refl
-success_any limits t (calls.Readdir p) = refl
-success_any limits t (calls.Read p off count) = refl
-success_any limits t (calls.Write p off bytes) = refl
-success_any limits t (calls.Truncate p size) = refl
-
-pub works : (limits : Limits) (t : Tree) (call : Call) (r : Reply) → None ≡ fault limits t call → r ≡ success V1 t call → r ≡ reply limits t call
+pub works : (limits : Limits) (t : Tree) (call : Call) (r : Reply) → None ≡ fault limits t call → r ≡ success limits t call → r ≡ reply limits t call
 unfolding reply
-works limits t call r h is = is ∙ success_any limits t call ∙ ap (λ o. replied o (success limits t call)) h
+works limits t call r h is = is ∙ ap (λ o. replied o (success limits t call)) h

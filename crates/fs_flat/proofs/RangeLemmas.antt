@@ -1,5 +1,5 @@
 -- Where the entries at a key and below it stand among entries whose keys rise.
-use Rattle.std.proofs.Common.{◌≡◌, ℕ, zero, suc, ◌+◌, ◌-◌, ◌<◌, ◌≤◌, Bool, true, false, cond, not, List, [], ◌∷◌, ◌++◌, length, take, drop, get_or, Some, None, Option, is_some, refl, sym, ap, subst, ◌∙◌, arith, T, Ordering, Less, Equal, Greater, inl, inr, length-drop}
+use Rattle.std.proofs.Common.{◌≡◌, ℕ, zero, suc, ◌+◌, ◌-◌, ◌<◌, ◌≤◌, Bool, true, false, cond, not, [], ◌∷◌, ◌++◌, length, take, drop, get_or, None, Option, is_some, refl, sym, ap, subst, ◌∙◌, arith, T, Less, Equal, Greater, inl, inr, length-drop}
 use Rattle.std.specs.Ordering.{is_lt, ordering_then}
 use Rattle.std.specs.List.{AllWithin}
 use Rattle.std.specs.List.Sorted.{IsPartitionedBy}
@@ -13,7 +13,7 @@ use Rattle.fs_names.specs.Keys.{Key, key_cmp, after_prefix}
 use Rattle.fs_names.proofs.Lemmas.{name_exact, name_total, key_total, same_name_exact, same_name_refl}
 use Rattle.fs_calls.specs.Tree.{Node, Tree}
 use Rattle.fs_flat.proofs.SearchLemmas.{is_less, below_each, both_first, both_second, both, true_T, T_true}
-use Rattle.fs_flat.specs.code.Cells.{IsAt, BelongsAt, IsRange, without_key, below_key, beside_key}
+use Rattle.fs_flat.specs.code.Cells.{IsAt, BelongsAt, IsRange, without_key, beside_key}
 
 -- an entry of a tree
 abbrev Cell : Type 0

@@ -1,5 +1,5 @@
 -- Entries that rise, and others behind them.
-use Rattle.std.proofs.Common.{◌≡◌, ℕ, zero, suc, ◌-◌, ◌<◌, Bool, true, false, cond, List, [], ◌∷◌, ◌++◌, length, get_or, Some, None, Option, refl, sym, ap, subst, ◌∙◌, arith, T, append-nil, Less}
+use Rattle.std.proofs.Common.{◌≡◌, ◌-◌, ◌<◌, true, false, cond, [], ◌∷◌, ◌++◌, length, get_or, Some, None, Option, refl, sym, ap, subst, ◌∙◌, arith, T, append-nil, Less}
 use Rattle.std.specs.Prelude.{nat_eq}
 use Rattle.std.specs.Ordering.{is_lt, is_eq}
 use Rattle.std.specs.FinMap.{is_sorted, find}
@@ -8,7 +8,7 @@ use Rattle.std.proofs.lemmas.Bool.Decides.{nat_tests}
 use Rattle.fs_names.specs.Keys.{Key, key_cmp, same_key}
 use Rattle.fs_names.proofs.Lemmas.{key_exact, equal_from_is_eq}
 use Rattle.fs_calls.specs.Tree.{Node, Tree}
-use Rattle.fs_flat.proofs.SearchLemmas.{below_each, below_rising, is_less, both_first, both_second, both, true_T, T_true}
+use Rattle.fs_flat.proofs.SearchLemmas.{below_rising, is_less, both_first, both_second, both, true_T, T_true}
 
 -- an entry of a tree
 abbrev Cell : Type 0

@@ -1,6 +1,6 @@
 -- What is seen at a key, by the entry that was found there.
-use Rattle.std.proofs.Common.{◌≡◌, ℕ, zero, suc, ◌+◌, ◌<◌, ◌≤◌, Bool, true, false, cond, is_some, List, [], ◌∷◌, ◌++◌, length, take, drop, get_or, Some, None, Option, refl, sym, ap, ◌∙◌, arith, append_assoc, append-nil, length-append}
-use Rattle.std.specs.Prelude.{nat_le}
+use Rattle.std.proofs.Common.{◌≡◌, ℕ, zero, suc, ◌+◌, ◌<◌, ◌≤◌, min, Bool, true, false, cond, is_some, List, [], ◌∷◌, ◌++◌, length, take, drop, get_or, Some, None, Option, refl, sym, ap, ◌∙◌, arith, append_assoc, append-nil, length-append}
+use Rattle.std.specs.Prelude.{nat_lt, nat_le}
 use Rattle.std.specs.FinMap.{find}
 use Rattle.std.proofs.lemmas.Bool.Decides.{nat_tests}
 use Rattle.fs_names.specs.Names.{Name}
@@ -11,11 +11,13 @@ use Rattle.fs_names.specs.declared.kind.Kind.TheVariants as kinds
 use Rattle.fs_names.proofs.LimitLemmas.{empty_has_room}
 use Rattle.fs_names.specs.declared.limits.Limits.{Limits}
 use Rattle.fs_names.specs.Limits.{entry_limit}
+use Rattle.fs_names.specs.declared.limits.TheConstants.{LIST_LIMIT}
 use Rattle.fs_calls.specs.Tree.{Tree, Node, Dir, File, look, names_in, name_in, with_name, only_name}
-use Rattle.fs_calls.specs.Sights.{tree_shapes, shape_of, has_any, bytes_of, is_full, resolve, resolve_next, resolve_dir}
+use Rattle.fs_calls.specs.Sights.{tree_shapes, shape_of, has_any, names_of, bytes_of, is_full, resolve, resolve_next, resolve_dir}
 use Rattle.fs_calls.specs.Rows.{as_dir, status, node_reply}
 use Rattle.fs_calls.specs.Forms as forms
 use Rattle.fs_calls.specs.code.Seen.{sight}
+use Rattle.fs_calls.specs.declared.rows.Sight.{Sight}
 use Rattle.fs_calls.specs.declared.rows.Sight.TheVariants as seen
 use Rattle.fs_calls.specs.declared.errno.Errno.{Errno}
 use Rattle.fs_calls.specs.declared.errno.Errno.TheVariants.{Enoent, Enotdir}
@@ -59,19 +61,8 @@ module _ (t : Tree) (k : Key) where
   pub sight_file : (n : Node) → tree_shapes t k ≡ shape_of t k (Some n) → kinds.File ≡ kind_of n → sight (tree_shapes t k) ≡ seen.File
   sight_file n is file = ap sight (file_seen n is file)
 
-  pub sight_dir : (n : Node) → tree_shapes t k ≡ shape_of t k (Some n) → kinds.Dir ≡ kind_of n → true ≡ has_any (names_in t k) → sight (tree_shapes t k) ≡ seen.Dir
-  sight_dir n is dir some = ap sight (dir_seen n is dir) ∙ with_names (names_in t k) some
-    where
-      with_names : (names : List Name) → true ≡ has_any names → sight (Some (shapes.Dir names)) ≡ seen.Dir
-      with_names [] h = absurd (cc)
-      with_names (x ∷ names) h = refl
-
-  pub sight_empty : (n : Node) → tree_shapes t k ≡ shape_of t k (Some n) → kinds.Dir ≡ kind_of n → false ≡ has_any (names_in t k) → sight (tree_shapes t k) ≡ seen.EmptyDir
-  sight_empty n is dir none = ap sight (dir_seen n is dir) ∙ without_names (names_in t k) none
-    where
-      without_names : (names : List Name) → false ≡ has_any names → sight (Some (shapes.Dir names)) ≡ seen.EmptyDir
-      without_names [] h = refl
-      without_names (x ∷ names) h = absurd (cc)
+  pub sight_dir : (n : Node) (r : Sight) → tree_shapes t k ≡ shape_of t k (Some n) → kinds.Dir ≡ kind_of n → sight (Some (shapes.Dir (names_in t k))) ≡ r → sight (tree_shapes t k) ≡ r
+  sight_dir n r is dir seen = ap sight (dir_seen n is dir) ∙ seen
 
   pub nothing_full : (limits : Limits) → tree_shapes t k ≡ shape_of t k None → false ≡ is_full (entry_limit limits) (tree_shapes t k)
   nothing_full limits is = sym (ap (is_full (entry_limit limits)) is ∙ empty_has_room limits)
@@ -117,18 +108,18 @@ module _ (t : Tree) (k : Key) where
   pub status_dir : (n : Node) (count : ℕ) → tree_shapes t k ≡ shape_of t k (Some n) → kinds.Dir ≡ kind_of n → count ≡ length (names_in t k) → answer.Stat kinds.Dir count ≡ status (tree_shapes t k)
   status_dir n count is dir e = ap (answer.Stat kinds.Dir) e ∙ sym (ap status (dir_seen n is dir))
 
-  pub names_nowhere : (p : Key) (names : List Name) → k ≡ p → names ≡ [] → tree_shapes t k ≡ shape_of t k None → answer.Names names ≡ node_reply (forms.Readdir 0) (tree_shapes t p)
-  names_nowhere p names same e is = ap answer.Names e ∙ sym (ap (node_reply (forms.Readdir 0)) is) ∙ ap (λ q. node_reply (forms.Readdir 0) (tree_shapes t q)) same
+  pub names_nowhere : (p : Key) (names : List Name) → k ≡ p → names ≡ [] → tree_shapes t k ≡ shape_of t k None → names ≡ names_of (tree_shapes t p)
+  names_nowhere p names same e is = e ∙ sym (ap names_of is) ∙ ap (λ q. names_of (tree_shapes t q)) same
 
-  pub names_file : (p : Key) (n : Node) (names : List Name) → k ≡ p → names ≡ [] → tree_shapes t k ≡ shape_of t k (Some n) → kinds.File ≡ kind_of n → answer.Names names ≡ node_reply (forms.Readdir 0) (tree_shapes t p)
-  names_file p n names same e is file = ap answer.Names e ∙ sym (ap (node_reply (forms.Readdir 0)) (file_seen n is file)) ∙ ap (λ q. node_reply (forms.Readdir 0) (tree_shapes t q)) same
+  pub names_file : (p : Key) (n : Node) (names : List Name) → k ≡ p → names ≡ [] → tree_shapes t k ≡ shape_of t k (Some n) → kinds.File ≡ kind_of n → names ≡ names_of (tree_shapes t p)
+  names_file p n names same e is file = e ∙ sym (ap names_of (file_seen n is file)) ∙ ap (λ q. names_of (tree_shapes t q)) same
 
-  pub names_dir : (p : Key) (n : Node) (names : List Name) → k ≡ p → names ≡ names_in t k → tree_shapes t k ≡ shape_of t k (Some n) → kinds.Dir ≡ kind_of n → answer.Names names ≡ node_reply (forms.Readdir 0) (tree_shapes t p)
-  names_dir p n names same e is dir = ap answer.Names e ∙ sym (ap (node_reply (forms.Readdir 0)) (dir_seen n is dir)) ∙ ap (λ q. node_reply (forms.Readdir 0) (tree_shapes t q)) same
+  pub names_dir : (p : Key) (n : Node) (names : List Name) → k ≡ p → names ≡ names_in t k → tree_shapes t k ≡ shape_of t k (Some n) → kinds.Dir ≡ kind_of n → names ≡ names_of (tree_shapes t p)
+  names_dir p n names same e is dir = e ∙ sym (ap names_of (dir_seen n is dir)) ∙ ap (λ q. names_of (tree_shapes t q)) same
 
-  pub read_is : (p : Key) (off count : ℕ) (bytes found : List ℕ) → k ≡ p → bytes ≡ bytes_of (tree_shapes t k) → found ≡ take count (drop off bytes) → answer.Bytes found ≡ node_reply (forms.Read 0 off count) (tree_shapes t p)
-  read_is p off count bytes found same e f =
-      ap answer.Bytes (f ∙ ap (λ bs. take count (drop off bs)) (e ∙ ap (λ q. bytes_of (tree_shapes t q)) same))
+  pub read_is : (p : Key) (most off count : ℕ) (bytes found : List ℕ) → k ≡ p → bytes ≡ bytes_of (tree_shapes t k) → found ≡ take (min count most) (drop off bytes) → answer.Bytes found ≡ node_reply (forms.Read most off count) (tree_shapes t p)
+  read_is p most off count bytes found same e f =
+      ap answer.Bytes (f ∙ ap (λ bs. take (min count most) (drop off bs)) (e ∙ ap (λ q. bytes_of (tree_shapes t q)) same))
 
 -- names of entries, one by one
 pub names_next : (cell : Key × Node) (t : Tree) (d : Key) → names_in (cell ∷ t) d ≡ names_in (cell ∷ []) d ++ names_in t d
@@ -171,8 +162,32 @@ few_anywhere limits t k h = by (look t k)
     by (Some Dir) = few_there (entry_limit limits) t k h
     by (Some (File bytes)) = sym (empty_has_room limits)
 
-pub dir_crowded : (most : ℕ) (t u : Tree) (k : Key) (n : Node) (r : Bool) → tree_shapes t k ≡ shape_of t k (Some n) → kinds.Dir ≡ kind_of n → u ≡ below_key k t → r ≡ nat_le most (length (names_in u k)) → r ≡ is_full most (tree_shapes t k)
-dir_crowded most t u k n r is dir below e = e ∙ ap (λ z. nat_le most (length z)) (names_below k t u below) ∙ sym (ap (is_full most) (dir_seen t k n is dir))
+pub dir_full : (most : ℕ) (t u : Tree) (k : Key) (n : Node) (r : Bool) → tree_shapes t k ≡ shape_of t k (Some n) → kinds.Dir ≡ kind_of n → u ≡ below_key k t → r ≡ nat_le most (length (names_in u k)) → r ≡ is_full most (tree_shapes t k)
+dir_full most t u k n r is dir below e = e ∙ ap (λ z. nat_le most (length z)) (names_below k t u below) ∙ sym (ap (is_full most) (dir_seen t k n is dir))
+
+-- ---- what is seen of a directory, by its names
+
+-- more than a number is at least one more
+one_more : (most n : ℕ) → nat_lt most n ≡ nat_le (most + 1) n
+one_more most n = grind (arith, nat_tests)
+
+none_seen : (names : List Name) → has_any names ≡ false → sight (Some (shapes.Dir names)) ≡ seen.EmptyDir
+none_seen [] h = refl
+none_seen (x ∷ names) h = absurd (cc)
+
+some_seen : (names : List Name) (b : Bool) → has_any names ≡ true → nat_le (LIST_LIMIT + 1) (length names) ≡ b → sight (Some (shapes.Dir names)) ≡ cond b seen.CrowdedDir seen.Dir
+some_seen [] b h e = absurd (cc)
+some_seen (x ∷ names) b h e = ap (λ z. cond z seen.CrowdedDir seen.Dir) (one_more LIST_LIMIT (length (x ∷ names)) ∙ e)
+
+module _ (t u : Tree) (k : Key) (below : u ≡ below_key k t) where
+  pub dir_empty : has_any (names_in u k) ≡ false → sight (Some (shapes.Dir (names_in t k))) ≡ seen.EmptyDir
+  dir_empty none = none_seen (names_in t k) (ap has_any (sym (names_below k t u below)) ∙ none)
+
+  pub dir_many : has_any (names_in u k) ≡ true → nat_le (LIST_LIMIT + 1) (length (names_in u k)) ≡ true → sight (Some (shapes.Dir (names_in t k))) ≡ seen.CrowdedDir
+  dir_many some many = some_seen (names_in t k) true (ap has_any (sym (names_below k t u below)) ∙ some) (ap (λ z. nat_le (LIST_LIMIT + 1) (length z)) (sym (names_below k t u below)) ∙ many)
+
+  pub dir_some : has_any (names_in u k) ≡ true → nat_le (LIST_LIMIT + 1) (length (names_in u k)) ≡ false → sight (Some (shapes.Dir (names_in t k))) ≡ seen.Dir
+  dir_some some few = some_seen (names_in t k) false (ap has_any (sym (names_below k t u below)) ∙ some) (ap (λ z. nat_le (LIST_LIMIT + 1) (length z)) (sym (names_below k t u below)) ∙ few)
 
 -- ---- the entries of a directory, one by one
 

@@ -1,11 +1,9 @@
 -- A rename as a move of the entries at a key and below it into another place.
-use Rattle.std.proofs.Common.{◌≡◌, ℕ, Bool, true, false, cond, not, List, [], ◌∷◌, ◌++◌, map, Some, None, Option, is_some, refl, sym, ap, ◌∙◌, T}
-use Rattle.std.specs.Ordering.{is_eq}
+use Rattle.std.proofs.Common.{◌≡◌, Bool, true, false, cond, not, [], ◌∷◌, ◌++◌, map, Some, None, Option, is_some, refl, sym, ap, ◌∙◌, T}
 use Rattle.std.specs.FinMap.{is_sorted, find}
-use Rattle.std.specs.FinMap.Entries.{where_key}
 use Rattle.std.proofs.lemmas.List.Elements.{filter-append}
 use Rattle.fs_names.specs.Keys.{Key, key_cmp, same_key, after_prefix}
-use Rattle.fs_calls.specs.Tree.{Node, Tree, look, from_list, with_prefix}
+use Rattle.fs_calls.specs.Tree.{Node, Tree, from_list, with_prefix}
 use Rattle.fs_calls.proofs.LookLemmas.{look-find, look-from_list, sorted-from_list, same_tree}
 use Rattle.fs_flat.proofs.SearchLemmas.{true_T}
 use Rattle.fs_flat.proofs.RiseLemmas.{apart, second_rises}

@@ -403,7 +403,9 @@ pub(crate) fn change(alloc: Global, cells: &[Cell], call: &Call) -> Result<Vec<C
         Call::Unlink(path) | Call::Rmdir(path) => Ok(after_removal(alloc, cells, path)?),
         Call::Rename(from, to) => Ok(after_rename(alloc, cells, from, to)?),
         Call::Exchange(path, with) => Ok(after_exchange(alloc, cells, path, with)?),
-        Call::Stat(_) | Call::Readdir(_) | Call::Read(_, _, _) => Ok(copied(alloc, cells)?),
+        Call::Stat(_) | Call::Readdir(_) | Call::ListAfter(_, _, _) | Call::Read(_, _, _) => {
+            Ok(copied(alloc, cells)?)
+        }
         Call::Write(path, off, bytes) => {
             Ok(after_write(alloc, cells, path, *off, bytes.as_slice())?)
         }

@@ -45,7 +45,7 @@ fn reply_on(alloc: Global, cells: &[Cell], limits: Limits, call: &Call) -> Resul
 {
     match error(alloc, cells, limits, call)? {
         Some(errno) => Ok(Reply::Failed(errno)),
-        None => Ok(success(alloc, cells, call)?),
+        None => Ok(success(alloc, cells, limits, call)?),
     }
 }
 

@@ -1,10 +1,11 @@
 //! The reply of a call without an error.
 
-ghost use Rattle.std.specs.Prelude.{◌≡◌, IsTrue, IfOk};
+ghost use Rattle.std.specs.Prelude.{◌≡◌, min, take, IsTrue, IfOk};
 ghost use Rattle.std.specs.FinMap.{is_sorted};
-ghost use Rattle.fs_names.specs.Keys.{key_cmp};
-ghost use Rattle.fs_names.specs.declared.limits.Limits.TheVariants.{V1};
-ghost use Rattle.fs_calls.specs.Sights.{tree_shapes};
+ghost use Rattle.fs_names.specs.Names.{names_above};
+ghost use Rattle.fs_names.specs.Keys.{key_cmp, last_of};
+ghost use Rattle.fs_names.specs.Limits.{read_limit};
+ghost use Rattle.fs_calls.specs.Sights.{tree_shapes, names_of};
 ghost use Rattle.fs_calls.specs.Rows.{status, node_reply};
 ghost use Rattle.fs_calls.specs.Forms as forms;
 ghost use Rattle.fs_calls.specs.Outcomes.{success};
@@ -15,7 +16,7 @@ use crate::searching::find;
 use crate::seeing::{bytes_of, count, names};
 use fs_calls::ranges::part;
 use fs_calls::{Bytes, Call, Errno, NameList, Reply};
-use fs_names::{Kind, Name, Path};
+use fs_names::{Kind, LIST_LIMIT, Limits, Name, Path};
 use std::alloc::{AllocError, Global};
 
 /// The kind and the size of what stands at a key.
@@ -33,43 +34,78 @@ fn status(cells: &[Cell], key: &[Name]) -> Reply
     }
 }
 
-/// The names of the directory at a path.
+/// The names of the directory at a path; of all else none.
 #[tactic(auto, using(crate::proofs::SeenLemmas::names_nowhere, crate::proofs::SeenLemmas::names_file, crate::proofs::SeenLemmas::names_dir))]
-fn names_at(alloc: Global, cells: &[Cell], path: &Path) -> Result<Reply, AllocError>
+fn names_at(alloc: Global, cells: &[Cell], path: &Path) -> Result<Vec<Name>, AllocError>
     requires { IsTrue (is_sorted key_cmp cells.now) }
-    ensures { IfOk result (λ r. r ≡ node_reply (forms.Readdir 0) (tree_shapes cells.now path.now)) }
+    ensures { IfOk result (λ names. names.items ≡ names_of (tree_shapes cells.now path.now)) }
 {
     let key = names_of(alloc, path)?;
     let Some(cell) = find(cells, &key) else {
-        return Ok(Reply::Names(NameList::new(Vec::new(alloc))));
+        return Ok(Vec::new(alloc));
     };
     match cell.kind() {
-        Kind::Dir => Ok(Reply::Names(NameList::new(names(alloc, cells, &key)?))),
-        Kind::File => Ok(Reply::Names(NameList::new(Vec::new(alloc)))),
+        Kind::Dir => Ok(names(alloc, cells, &key)?),
+        Kind::File => Ok(Vec::new(alloc)),
     }
 }
 
-/// The bytes of the file at a path from an offset on, and no more than a count.
+/// The bytes of a path's last name; the root has none.
+fn last_bytes(path: &Path) -> &[u8]
+    ensures { result.now ≡ last_of path.now }
+{
+    if path.is_empty() {
+        return &[];
+    }
+    path.last_name().bytes()
+}
+
+/// Names of the directory at a path, those above the last name of another one, and no more than a count.
+fn piece(
+    alloc: Global,
+    cells: &[Cell],
+    path: &Path,
+    after: &Path,
+    count: u64,
+) -> Result<Vec<Name>, AllocError>
+    requires { IsTrue (is_sorted key_cmp cells.now) }
+    ensures { IfOk result (λ names. names.items ≡ take (min count LIST_LIMIT) (names_above (last_of after.now) (names_of (tree_shapes cells.now path.now)))) }
+{
+    let mut names = names_at(alloc, cells, path)?;
+    let bytes = last_bytes(after);
+    names.retain(|name| name.is_above(bytes));
+    names.truncate(count.min(LIST_LIMIT as u64) as usize);
+    Ok(names)
+}
+
+/// The bytes of the file at a path from an offset on, no more than a count, and no more than a read answers.
 #[tactic(auto, using(crate::proofs::SeenLemmas::read_is))]
 fn bytes_at(
     alloc: Global,
     cells: &[Cell],
+    limits: Limits,
     path: &Path,
     off: u64,
     count: u64,
 ) -> Result<Reply, AllocError>
     requires { IsTrue (is_sorted key_cmp cells.now) }
-    ensures { IfOk result (λ r. r ≡ node_reply (forms.Read 0 off count) (tree_shapes cells.now path.now)) }
+    ensures { IfOk result (λ r. r ≡ node_reply (forms.Read (read_limit limits) off count) (tree_shapes cells.now path.now)) }
 {
     let key = names_of(alloc, path)?;
-    let found = part(bytes_of(cells, &key), off, count);
+    let most = count.min(limits.read() as u64);
+    let found = part(bytes_of(cells, &key), off, most);
     Ok(Reply::Bytes(Bytes::new(Vec::from_slice(alloc, found)?)))
 }
 
-/// The reply of a call without an error, which no limit of files changes.
-pub(crate) fn success(alloc: Global, cells: &[Cell], call: &Call) -> Result<Reply, AllocError>
+/// The reply of a call without an error by these limits.
+pub(crate) fn success(
+    alloc: Global,
+    cells: &[Cell],
+    limits: Limits,
+    call: &Call,
+) -> Result<Reply, AllocError>
     requires { IsTrue (is_sorted key_cmp cells.now) }
-    ensures { IfOk result (λ r. r ≡ success V1 cells.now call.now) }
+    ensures { IfOk result (λ r. r ≡ success limits cells.now call.now) }
 {
     match call {
         Call::Mkdir(_) | Call::Mknod(_) | Call::Unlink(_) | Call::Rmdir(_) => Ok(Reply::Done),
@@ -78,8 +114,12 @@ pub(crate) fn success(alloc: Global, cells: &[Cell], call: &Call) -> Result<Repl
             let key = names_of(alloc, path)?;
             Ok(status(cells, &key))
         }
-        Call::Readdir(path) => Ok(names_at(alloc, cells, path)?),
-        Call::Read(path, off, count) => Ok(bytes_at(alloc, cells, path, *off, *count)?),
+        Call::Readdir(path) => Ok(Reply::Names(NameList::new(names_at(alloc, cells, path)?))),
+        Call::ListAfter(path, after, count) => {
+            let names = piece(alloc, cells, path, after, *count)?;
+            Ok(Reply::Names(NameList::new(names)))
+        }
+        Call::Read(path, off, count) => Ok(bytes_at(alloc, cells, limits, path, *off, *count)?),
         Call::Write(_, _, bytes) => Ok(Reply::Wrote(bytes.as_slice().len() as u64)),
     }
 }

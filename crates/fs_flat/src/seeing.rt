@@ -1,9 +1,10 @@
 //! What stands at keys.
 
-ghost use Rattle.std.specs.Prelude.{◌≡◌, ◌<◌, ◌≤◌, ◌++◌, ◌∷◌, [], length, nat_le, IsTrue, option_copied, IfOk, OnOk};
+ghost use Rattle.std.specs.Prelude.{◌≡◌, ◌<◌, ◌≤◌, ◌++◌, ◌∷◌, [], Some, length, nat_le, IsTrue, option_copied, IfOk, OnOk};
 ghost use Rattle.std.specs.FinMap.{is_sorted};
 ghost use Rattle.fs_names.specs.Keys.{key_cmp};
 ghost use Rattle.fs_names.specs.Limits.{entry_limit};
+ghost use Rattle.fs_names.specs.Shapes as shapes;
 ghost use Rattle.fs_calls.specs.Tree.{names_in};
 ghost use Rattle.fs_calls.specs.Sights.{tree_shapes, has_any, bytes_of, is_full, resolve, resolve_dir};
 ghost use Rattle.fs_calls.specs.code.Seen.{sight};
@@ -14,7 +15,7 @@ use crate::keys::name_in;
 use crate::searching::{below, find};
 use fs_calls::rows::step_error;
 use fs_calls::{Errno, Sight, ranges};
-use fs_names::{Kind, Limits, Name};
+use fs_names::{Kind, LIST_LIMIT, Limits, Name};
 use std::alloc::{AllocError, Global};
 
 /// Whether an entry is one of a directory.
@@ -39,15 +40,6 @@ fn has_any(cells: &[Cell], dir: &[Name]) -> bool
         }
     }
     false
-}
-
-/// Whether a directory has an entry.
-#[tactic(auto, using(crate::proofs::SeenLemmas::names_below))]
-fn has_entries(cells: &[Cell], dir: &[Name]) -> bool
-    requires { IsTrue (is_sorted key_cmp cells.now) }
-    ensures { result ≡ has_any (names_in cells.now dir.now) }
-{
-    has_any(below(cells, dir), dir)
 }
 
 /// One for an entry of a directory, and for any other none.
@@ -114,8 +106,35 @@ pub(crate) fn names(alloc: Global, cells: &[Cell], dir: &[Name]) -> Result<Vec<N
     Ok(names_among(alloc, below(cells, dir), dir)?)
 }
 
+/// Whether at least so many of these are entries of a directory.
+#[tactic(auto, using(crate::proofs::SeenLemmas::few_there))]
+fn has_as_many(cells: &[Cell], least: usize, dir: &[Name]) -> bool
+    ensures { result ≡ nat_le least (length (names_in cells.now dir.now)) }
+{
+    if !ranges::is_full(least, cells.len()) {
+        return false;
+    }
+    ranges::is_full(least, count_in(cells, dir))
+}
+
+/// What the rows of errors see of a directory.
+#[tactic(auto, using(crate::proofs::SeenLemmas::dir_empty, crate::proofs::SeenLemmas::dir_some, crate::proofs::SeenLemmas::dir_many))]
+fn sight_of_dir(cells: &[Cell], dir: &[Name]) -> Sight
+    requires { IsTrue (is_sorted key_cmp cells.now) }
+    ensures { sight (Some (shapes.Dir (names_in cells.now dir.now))) ≡ result }
+{
+    let inside = below(cells, dir);
+    if !has_any(inside, dir) {
+        return Sight::EmptyDir;
+    }
+    if has_as_many(inside, LIST_LIMIT + 1, dir) {
+        return Sight::CrowdedDir;
+    }
+    Sight::Dir
+}
+
 /// What the rows of errors see at a key.
-#[tactic(auto, using(crate::proofs::SeenLemmas::sight_nothing, crate::proofs::SeenLemmas::sight_file, crate::proofs::SeenLemmas::sight_dir, crate::proofs::SeenLemmas::sight_empty))]
+#[tactic(auto, using(crate::proofs::SeenLemmas::sight_nothing, crate::proofs::SeenLemmas::sight_file, crate::proofs::SeenLemmas::sight_dir))]
 pub(crate) fn sight(cells: &[Cell], key: &[Name]) -> Sight
     requires { IsTrue (is_sorted key_cmp cells.now) }
     ensures { sight (tree_shapes cells.now key.now) ≡ result }
@@ -125,29 +144,12 @@ pub(crate) fn sight(cells: &[Cell], key: &[Name]) -> Sight
     };
     match cell.kind() {
         Kind::File => Sight::File,
-        Kind::Dir => {
-            if has_entries(cells, key) {
-                Sight::Dir
-            } else {
-                Sight::EmptyDir
-            }
-        }
+        Kind::Dir => sight_of_dir(cells, key),
     }
-}
-
-/// Whether as many of these are entries of a directory as it can have, where these are the most.
-#[tactic(auto, using(crate::proofs::SeenLemmas::few_there))]
-fn is_crowded(cells: &[Cell], most: usize, dir: &[Name]) -> bool
-    ensures { result ≡ nat_le most (length (names_in cells.now dir.now)) }
-{
-    if !ranges::is_full(most, cells.len()) {
-        return false;
-    }
-    ranges::is_full(most, count_in(cells, dir))
 }
 
 /// Whether a directory has as many entries as it can have by these limits.
-#[tactic(auto, using(crate::proofs::SeenLemmas::nothing_full, crate::proofs::SeenLemmas::file_full, crate::proofs::SeenLemmas::dir_crowded, crate::proofs::SeenLemmas::few_anywhere))]
+#[tactic(auto, using(crate::proofs::SeenLemmas::nothing_full, crate::proofs::SeenLemmas::file_full, crate::proofs::SeenLemmas::dir_full, crate::proofs::SeenLemmas::few_anywhere))]
 pub(crate) fn is_full(cells: &[Cell], limits: Limits, key: &[Name]) -> bool
     requires { IsTrue (is_sorted key_cmp cells.now) }
     ensures { result ≡ is_full (entry_limit limits) (tree_shapes cells.now key.now) }
@@ -160,7 +162,7 @@ pub(crate) fn is_full(cells: &[Cell], limits: Limits, key: &[Name]) -> bool
     };
     match cell.kind() {
         Kind::File => false,
-        Kind::Dir => is_crowded(below(cells, key), limits.entries(), key),
+        Kind::Dir => has_as_many(below(cells, key), limits.entries(), key),
     }
 }
 

@@ -12,7 +12,7 @@ use Rattle.fs_calls.specs.Sights.{tree_shapes, is_full, is_same}
 use Rattle.fs_calls.specs.Forms.{Form, form}
 use Rattle.fs_calls.specs.Outcomes.{reply, after, reply_of, replied}
 use Rattle.fs_calls.specs.declared.call.Call.{Call}
-use Rattle.fs_calls.specs.declared.call.Call.TheVariants.{Mkdir, Mknod, Unlink, Rmdir, Rename, Exchange, Stat, Readdir, Read, Write, Truncate}
+use Rattle.fs_calls.specs.declared.call.Call.TheVariants.{Mkdir, Mknod, Unlink, Rmdir, Rename, Exchange, Stat, Readdir, ListAfter, Read, Write, Truncate}
 use Rattle.fs_calls.proofs.FormLemmas.{LimitedTo, form_limited}
 use Rattle.fs_calls.proofs.KeyLemmas.{parent_of_child, after_prefix-child, only_same, is_same_exact, longer_front}
 use Rattle.fs_calls.proofs.TreeLaws.{stays_a_tree, same_trees}
@@ -196,6 +196,7 @@ paths_any limits (Rename p q) = refl
 paths_any limits (Exchange p q) = refl
 paths_any limits (Stat p) = refl
 paths_any limits (Readdir p) = refl
+paths_any limits (ListAfter p after count) = refl
 paths_any limits (Read p off count) = refl
 paths_any limits (Write p off bytes) = refl
 paths_any limits (Truncate p size) = refl

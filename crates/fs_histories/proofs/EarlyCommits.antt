@@ -7,7 +7,7 @@ use Rattle.fs_calls.specs.Sights.{has_any}
 use Rattle.fs_calls.specs.Starts.{Start}
 use Rattle.fs_calls.specs.Outcomes.{next_start, reply, after, reply_at, called, fault, if_sound, change}
 use Rattle.fs_calls.specs.declared.call.Call.{Call}
-use Rattle.fs_calls.specs.declared.call.Call.TheVariants.{Mkdir, Mknod, Unlink, Rmdir, Rename, Exchange, Stat, Readdir, Read, Write, Truncate}
+use Rattle.fs_calls.specs.declared.call.Call.TheVariants.{Mkdir, Mknod, Unlink, Rmdir, Rename, Exchange, Stat, Readdir, ListAfter, Read, Write, Truncate}
 use Rattle.fs_calls.specs.declared.reply.Reply.{Reply}
 use Rattle.fs_calls.specs.declared.reply.Reply.TheVariants as answer
 use Rattle.fs_calls.specs.declared.errno.Errno.{Errno}
@@ -39,6 +39,7 @@ leaving_leaves limits t (Rename p q) h = rw h refl
 leaving_leaves limits t (Exchange p q) h = rw h refl
 leaving_leaves limits t (Stat p) h = refl
 leaving_leaves limits t (Readdir p) h = refl
+leaving_leaves limits t (ListAfter p after count) h = refl
 leaving_leaves limits t (Read p off count) h = refl
 leaving_leaves limits t (Write p off bytes) h =
     let nothing : has_any bytes ≡ false = nothing_any (has_any bytes) h in

@@ -2,7 +2,7 @@
 use Rattle.std.specs.Prelude.{◌≡◌, ℕ, Bool, true, false, not, ◌||◌, List, [], ◌∷◌, ◌++◌, Option, Some, None, Contains}
 use Rattle.fs_calls.specs.Sights.{is_same, has_any}
 use Rattle.fs_calls.specs.declared.call.Call.{Call}
-use Rattle.fs_calls.specs.declared.call.Call.TheVariants.{Mkdir, Mknod, Unlink, Rmdir, Rename, Exchange, Stat, Readdir, Read, Write, Truncate}
+use Rattle.fs_calls.specs.declared.call.Call.TheVariants.{Mkdir, Mknod, Unlink, Rmdir, Rename, Exchange, Stat, Readdir, ListAfter, Read, Write, Truncate}
 use Rattle.fs_histories.specs.declared.heard.Heard.{Heard}
 use Rattle.fs_histories.specs.declared.heard.Pattern.{Pattern}
 use Rattle.fs_histories.specs.declared.heard.Pattern.TheVariants.{Exactly, AnyError, AnyDirectory}
@@ -20,6 +20,7 @@ leaves_trees (Rename p q) = is_same p q
 leaves_trees (Exchange p q) = is_same p q
 leaves_trees (Stat p) = true
 leaves_trees (Readdir p) = true
+leaves_trees (ListAfter p after count) = true
 leaves_trees (Read p off count) = true
 leaves_trees (Write p off bytes) = not (has_any bytes)
 leaves_trees (Truncate p size) = false

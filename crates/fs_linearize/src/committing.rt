@@ -56,7 +56,7 @@ fn leaves_trees(call: &Call) -> bool
     match call {
         Call::Mkdir(_) | Call::Mknod(_) | Call::Unlink(_) | Call::Rmdir(_) => false,
         Call::Rename(path, other) | Call::Exchange(path, other) => path.same(other),
-        Call::Stat(_) | Call::Readdir(_) | Call::Read(_, _, _) => true,
+        Call::Stat(_) | Call::Readdir(_) | Call::ListAfter(_, _, _) | Call::Read(_, _, _) => true,
         Call::Write(_, _, bytes) => bytes.as_slice().is_empty(),
         Call::Truncate(_, _) => false,
     }

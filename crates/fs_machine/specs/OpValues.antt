@@ -5,7 +5,7 @@ use Rattle.fs_names.specs.Limits.{entry_limit, file_limit}
 use Rattle.fs_names.specs.Names.{Name}
 use Rattle.fs_names.specs.Shapes.{Shape, Dir, File, is_there, has_entries}
 use Rattle.fs_names.specs.declared.limits.Limits.{Limits}
-use Rattle.fs_calls.specs.Forms.{form, NodeCall, Stat, Readdir, Read, Write, Truncate, Form, AtNode, AtEntry, AtPair}
+use Rattle.fs_calls.specs.Forms.{form, Form, AtNode, AtEntry, AtPair}
 use Rattle.fs_calls.specs.Forms as pairs
 use Rattle.fs_calls.specs.declared.call.Call.{Call}
 use Rattle.fs_calls.specs.declared.reply.Reply.{Reply}
@@ -91,20 +91,6 @@ pub record IsBounded (limits : Limits) (graph : Graph) : Type 0 where
   pub entries : DirsWithin (entry_limit limits) graph
   pub bytes : FilesWithin (file_limit limits) graph
 
--- what a call on a node tells, names or bytes, is within its limit
-abbrev pub TellsWithin : Graph → NodeCall → Type 0
-TellsWithin graph Stat = Unit {0}
-TellsWithin graph (Readdir most) = DirsWithin most graph
-TellsWithin graph (Read most off count) = FilesWithin most graph
-TellsWithin graph (Write most off bytes) = Unit {0}
-TellsWithin graph (Truncate most size) = Unit {0}
-
--- the same of each form of call
-abbrev pub IsToldWithin : Graph → Form → Type 0
-IsToldWithin graph (AtNode c p) = TellsWithin graph c
-IsToldWithin graph (AtEntry c p) = Unit {0}
-IsToldWithin graph (AtPair c p q) = Unit {0}
-
 -- heads of a pair that stand at one node have walked the same names
 abbrev pub HeadsApart : Form → Holdings → Type 0
 HeadsApart (AtNode c p) st = Unit {0}
@@ -125,4 +111,3 @@ pub record CanFinish (graph : Graph) (reserved : Option ℕ) (remaining : Form) 
   pub heads : (st : Holdings) → holdings ≡ Some st → HeadsApart remaining st
   pub other : (st : Holdings) → holdings ≡ Some st → reserved ≢ Some st.node
   pub apart : (st : Holdings) → holdings ≡ Some st → MovesApart graph remaining st
-  pub bounded : IsToldWithin graph remaining

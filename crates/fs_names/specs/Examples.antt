@@ -1,7 +1,7 @@
 -- Worked examples of reading a path.
 use Rattle.std.specs.Prelude.{◌≡◌, ℕ, zero, suc, List, [], ◌∷◌, ◌++◌, replicate, codes, Ok, Err}
 use Rattle.fs_names.specs.Reading.{reading}
-use Rattle.fs_names.specs.declared.limits.Limits.TheVariants.{V1, V2}
+use Rattle.fs_names.specs.declared.limits.Limits.TheVariants.{V1, V2, V3}
 use Rattle.fs_names.specs.declared.fault.PathFault.TheVariants.{NotAbsolute, Nul, NameTooLong, TooManyNames, Dot, TrailingSlash}
 
 -- "/n", so many times
@@ -35,4 +35,6 @@ pub record PathExamples : Type 0 where
   pub longest_of_the_second : reading V2 (47 ∷ replicate 64 110) ≡ Ok (replicate 64 110 ∷ [])
   pub too_long_for_both : reading V2 (47 ∷ replicate 65 110) ≡ Err NameTooLong
   pub too_many_for_both : reading V2 (repeated 65) ≡ Err TooManyNames
+  pub most_names_of_the_third : reading V3 (repeated 2048) ≡ Ok (replicate 2048 (codes "n"))
+  pub too_many_for_all : reading V3 (repeated 2049) ≡ Err TooManyNames
   pub too_many_before_too_long : reading V1 (repeated 64 ++ 47 ∷ replicate 33 110) ≡ Err TooManyNames

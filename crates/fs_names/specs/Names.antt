@@ -1,5 +1,5 @@
 -- What names are, and their order.
-use Rattle.std.specs.Prelude.{◌≡◌, ◌<◌, ℕ, Bool, true, false, List, [], ◌∷◌, if◌then◌else◌, ◌&&◌, not, ◌==◌, nat_eq, nat_le, length}
+use Rattle.std.specs.Prelude.{◌≡◌, ◌<◌, ℕ, Bool, true, false, List, [], ◌∷◌, if◌then◌else◌, ◌&&◌, not, ◌==◌, nat_eq, nat_le, length, filter}
 use lib.Pointwise.{pointwise}
 use Rattle.std.specs.Ordering.{nat_cmp, eq_by_cmp, is_lt}
 use Rattle.std.specs.declared.cmp.Ordering.{Ordering}
@@ -57,6 +57,10 @@ removed_name x (y ∷ ys) = if same_name x y then removed_name x ys else y ∷ r
 abbrev pub has_name : Name → List Name → Bool
 has_name x [] = false
 has_name x (y ∷ ys) = if same_name x y then true else has_name x ys
+
+-- a directory's names above one; all of them above no bytes
+abbrev pub names_above : Name → List Name → List Name
+names_above x ys = filter (λ y. is_lt (name_cmp x y)) ys
 
 -- whether two lists of bytes are the same
 abbrev pub same_bytes : List ℕ → List ℕ → Bool

@@ -1,6 +1,7 @@
 -- What is seen of a node.
-use Rattle.std.specs.Prelude.{ℕ, Bool, true, false, List, [], ◌∷◌, nat_le, length, Option, Some, None}
+use Rattle.std.specs.Prelude.{ℕ, Bool, true, false, List, [], ◌∷◌, nat_le, nat_lt, length, Option, Some, None}
 use Rattle.fs_names.specs.Names.{Name}
+use Rattle.fs_names.specs.declared.limits.TheConstants.{LIST_LIMIT}
 
 -- a directory with its names in byte order, or a file with its bytes
 pub data Shape : Type 0 where
@@ -53,3 +54,7 @@ has_entries there = has_any (names_of there)
 -- as many entries as a directory can have, where it can have so many
 abbrev pub is_full : ℕ → Option Shape → Bool
 is_full most there = nat_le most (length (names_of there))
+
+-- more entries than a call answers
+abbrev pub is_crowded : Option Shape → Bool
+is_crowded there = nat_lt LIST_LIMIT (length (names_of there))

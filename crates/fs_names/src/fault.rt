@@ -14,7 +14,7 @@ pub enum PathFault {
     /// A name has more bytes than the limits allow by which it is read.
     #[error("NameTooLong")]
     NameTooLong,
-    /// There are more than 64 names.
+    /// There are more names than the limit, 64 or 2,048.
     #[error("TooManyNames")]
     TooManyNames,
     /// A name is `.` or `..`.

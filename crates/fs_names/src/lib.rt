@@ -1,11 +1,11 @@
 //! The words of all other crates: names and paths, the bytes and kinds of nodes, the numbers of calls and seats, the
 //! limits.
 //!
-//! A `Path` is a list of at most 64 `Name`s, and the root is the path of none. Contracts see a path as the list of its
+//! A `Path` is a list of at most 2,048 `Name`s, and the root is the path of none. Contracts see a path as the list of its
 //! names, a name as its bytes, and a number as itself. What `Path::parse` answers is exactly what the specification
 //! says of the bytes. `Path::parse` and `Path::write` are the calls that may allocate.
 //!
-//! Enter at `Path::parse` and `Name::read`; the limits are in the module `limits`, where `Limits` is one of the two sets
+//! Enter at `Path::parse` and `Name::read`; the limits are in the module `limits`, where `Limits` is one of the three sets
 //! of those that differ by version. The definitions are in `specs/`: `Names` (what a name is, and the order), `Keys`
 //! (parent, prefix), `Reading` (how bytes are read), and, for the crates above, `Shapes` (what is seen of a node) and
 //! `Failures` (the first of several checks that fails).
@@ -28,7 +28,7 @@ pub use bytes::Bytes;
 pub use data::Data;
 pub use fault::PathFault;
 pub use kind::Kind;
-pub use limits::{Limits, NODE_LIMIT, PATH_LIMIT};
+pub use limits::{LIST_LIMIT, Limits, NODE_LIMIT, PATH_LIMIT};
 pub use name::Name;
 pub use numbers::{CallNo, SeatNo};
 pub use path::Path;

@@ -2,7 +2,8 @@
 
 ghost use Rattle.std.specs.Prelude.{◌≡◌, IsTrue, MatchOption, false, true};
 ghost use Rattle.std.specs.List.{list_all};
-ghost use Rattle.fs_names.specs.Names.{can_name, may_stand, is_dots, same_name};
+ghost use Rattle.std.specs.Ordering.{is_lt};
+ghost use Rattle.fs_names.specs.Names.{can_name, may_stand, is_dots, name_cmp, same_name};
 
 use arrayvec::ArrayVec;
 use std::marker::Model;
@@ -96,6 +97,13 @@ impl Name {
         ensures { result ≡ self.now }
     {
         Name::of(self.bytes())
+    }
+
+    /// Whether it is above these bytes in byte order, as each name is above no bytes.
+    pub fn is_above(&self, bytes: &[u8]) -> bool
+        ensures { result ≡ is_lt (name_cmp bytes.now self.now) }
+    {
+        bytes < self.bytes()
     }
 
     /// Whether the two names are equal, byte for byte. It answers what `==` does, in the words of their order, by which

@@ -18,7 +18,7 @@ use std::alloc::{AllocError, Global};
 use std::marker::Model;
 use std::sync::Arc;
 
-/// The names from the root to a node, at most 64: an absolute pathname without dots, symbolic links
+/// The names from the root to a node, at most 2,048: an absolute pathname without dots, symbolic links
 /// or a trailing slash (POSIX.1-2017, XBD 4.13, Pathname Resolution).
 #[derive(Drop)]
 pub struct Path {
@@ -217,7 +217,7 @@ impl Path {
         }
     }
 
-    /// How many names it has: none for the root, and at most 64.
+    /// How many names it has: none for the root, and at most 2,048.
     pub fn len(&self) -> usize
         ensures len { result ≡ length self.now }
         ensures path { IsPath self.now }

@@ -202,7 +202,7 @@ impl<'a, N: Named> Observer<'a, N> {
         self.look(alloc, &call)
     }
 
-    /// All names of a directory in byte order, by a published list in the same way.
+    /// All names of a directory in byte order, where a call can answer them, by a published list in the same way.
     pub fn readdir(&mut self, alloc: Global, path: &Path) -> Result<Reply, AllocError>
         ensures kept { IfOk result (λ r. GoesOn self.old self.new) }
         ensures reply { IfOk result (λ r. r ≡ reply_at (next_start self.new.start self.new.list) (Call.Readdir path.now)) }
@@ -212,7 +212,25 @@ impl<'a, N: Named> Observer<'a, N> {
         self.look(alloc, &call)
     }
 
-    /// At most `count` bytes of a file from the offset `off` on, by a published list in the same way.
+    /// Names of a directory above the last name of the path `after`, in byte order, and at most `count`, or as many as a call
+    /// answers, by a published list in the same way.
+    pub fn list(
+        &mut self,
+        alloc: Global,
+        path: &Path,
+        after: &Path,
+        count: u64,
+    ) -> Result<Reply, AllocError>
+        ensures kept { IfOk result (λ r. GoesOn self.old self.new) }
+        ensures reply { IfOk result (λ r. r ≡ reply_at (next_start self.new.start self.new.list) (Call.ListAfter path.now after.now count)) }
+        ensures err { OnErr result (self.new ≡ self.old) }
+    {
+        let call = Call::ListAfter(path.copy()?, after.copy()?, count);
+        self.look(alloc, &call)
+    }
+
+    /// At most `count` bytes of a file from the offset `off` on, or as many as a read answers, by a published list in the
+    /// same way.
     pub fn read(
         &mut self,
         alloc: Global,

@@ -1,5 +1,5 @@
 -- What a finished call still holds, and the machine's let gos.
-use Rattle.std.proofs.Common.{◌≡◌, ℕ, zero, suc, ◌+◌, ◌-◌, ◌≤◌, nat_lt, Bool, true, false, List, [], ◌∷◌, ◌++◌, length, take, drop, Option, Some, None, refl, sym, ap, ap₂, ◌∙◌, subst, MatchOption, arith, length-append, append_assoc, append-nil, length-drop}
+use Rattle.std.proofs.Common.{◌≡◌, ℕ, zero, suc, ◌+◌, ◌-◌, ◌≤◌, nat_lt, Bool, true, false, List, [], ◌∷◌, ◌++◌, length, take, drop, Option, Some, None, refl, sym, ap, ap₂, ◌∙◌, subst, subst₂, MatchOption, arith, length-append, append_assoc, append-nil, length-drop}
 use Rattle.std.proofs.Math.Seq.{take-append_seam}
 use Rattle.std.specs.Prelude.{option_map, option_to_list}
 use Rattle.std.specs.Option.{is_some}
@@ -11,17 +11,19 @@ use Rattle.fs_names.specs.Limits.{in_blocks}
 use Rattle.fs_names.specs.declared.limits.Limits.{Limits}
 use Rattle.fs_calls.specs.Forms.{form, Form, AtNode, AtEntry, AtPair, by_paths}
 use Rattle.fs_calls.specs.declared.call.Call.{Call}
+use Rattle.fs_calls.specs.declared.errno.Errno.{Errno}
 use Rattle.fs_calls.specs.declared.reply.Reply.{Reply}
 use Rattle.fs_nodes.specs.Graphs.{Graph}
 use Rattle.fs_locks.specs.Held.{first_of, last_of}
-use Rattle.fs_walk.specs.Ways.{ForkWay, head_held}
+use Rattle.fs_walk.specs.Ways.{Way, ForkWay, head_held}
 use Rattle.fs_walk.specs.declared.head.Head as count
 use Rattle.fs_machine.specs.Leaving.{is_removed, cleared}
 use Rattle.fs_machine.specs.Moves.{next_by, last_held, left_last, left_holdings}
 use Rattle.fs_machine.specs.Records.{Finished, Holdings, held_on, taken, taken_if}
 use Rattle.fs_machine.specs.OpValues.{OpValue, IsLetGo, IsTook, next_of, phase_of, record_of}
 use Rattle.fs_machine.proofs.LastTakenGoesFirst.{popped}
-use Rattle.fs_ops.specs.OpValue.{Forks, IsReady, behind_in, head_of, held_by, holdings_of, holdings_with, left_times, op_value, reply_of, stands, with_held}
+use Rattle.fs_ops.specs.OpValue.{Forks, IsOp, IsReady, behind_in, head_of, held_by, holdings_of, holdings_with, left_times, op_value, reply_of, stands, with_held}
+use Rattle.fs_ops.specs.code.TakeAndLetGo.{way_let_go, fork_let_go}
 use Rattle.fs_ops.specs.declared.stand.Stand.{Stand}
 use Rattle.fs_ops.specs.PlanOf.{move_of}
 use Rattle.fs_ops.specs.code.NextByNodes.{last_next}
@@ -185,6 +187,31 @@ still_open (Fixed reply held) op now e unfinished = absurd (cc)
 pub still_ready : (blocks : Bool) (call : Form) (st new : Option Holdings) (outcome : Outcome) → is_some (reply_of outcome) ≡ false → IsReady blocks call st outcome → IsReady blocks call new outcome
 still_ready blocks call st new (Open prepared) unfinished h = h
 still_ready blocks call st new (Fixed reply held) unfinished h = absurd (cc)
+
+-- what is behind is let go of: the walk and its heads keep their ways
+names_kept : (fork : Option ForkWay) (way : Way) → (way_let_go fork way).names ≡ way.names
+names_kept None way = refl
+names_kept (Some fork) way = refl
+
+within_kept : (fork : Option ForkWay) (way : Way) → way.walked ≤ way.names → (way_let_go fork way).walked ≤ (way_let_go fork way).names
+within_kept None way h = h
+within_kept (Some fork) way h = h
+
+forks_kept : (call : Form) (way : Way) (fork : Option ForkWay) → Forks call way fork → Forks call (way_let_go fork way) (fork_let_go fork)
+forks_kept call way None h = tt
+forks_kept (AtPair c p q) way (Some fork) h = record { node = h.node; names = h.names; arrived = h.arrived; source = h.source; dest = h.dest }
+forks_kept (AtNode c p) way (Some fork) h = h
+forks_kept (AtEntry c p) way (Some fork) h = h
+
+-- so a call that is not finished stays one
+pub open_let_go : (limits : Limits) (call : Call) (error : Option Errno) (old new : Stand) (outcome : Outcome) → is_some (reply_of outcome) ≡ false → new.walk ≡ way_let_go old.fork old.walk → new.fork ≡ fork_let_go old.fork → IsOp limits call error old outcome → IsOp limits call error new outcome
+open_let_go limits call error old new outcome unfinished walk fork op = record {
+  decided = op.decided;
+  names = ap (λ (w : Way). w.names) walk ∙ names_kept old.fork old.walk ∙ op.names;
+  within = subst (λ (w : Way). w.walked ≤ w.names) (sym walk) (within_kept old.fork old.walk op.within);
+  forks = subst₂ (Forks (form limits call)) (sym walk) (sym fork) (forks_kept (form limits call) old.walk old.fork op.forks);
+  ready = still_ready _ _ _ _ outcome unfinished op.ready;
+}
 
 -- so that is what a take changes
 pub open_took : (outcome : Outcome) (old new now : OpValue) (n : ℕ) → with_held outcome old ≡ now → is_some (reply_of outcome) ≡ false → IsTook old n new → IsTook now n (with_held outcome new)

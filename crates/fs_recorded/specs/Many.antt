@@ -1,6 +1,6 @@
 -- Histories one after the other in one text, and what is written of them.
 use Rattle.std.specs.Prelude.{ℕ, ◌+◌, Bool, true, false, ◌||◌, nat_lt, min, List, [], ◌∷◌, ◌++◌, map, length, Result, Ok, Err, if◌then◌else◌, codes, decimal}
-use Rattle.std.specs.List.{flat_map, count_by}
+use Rattle.std.specs.List.{flat_map, count_by, list_any}
 use Rattle.std.specs.Str.{bytes_eq}
 use Rattle.fs_calls.specs.Starts.{Start}
 use Rattle.fs_timeline.specs.Timeline.{begins}
@@ -20,7 +20,7 @@ use Rattle.fs_recorded.specs.declared.answer.Outcome.TheVariants.{Lawful, NoOrde
 
 -- whether a line is the first of a history
 abbrev pub is_header : List ℕ → Bool
-is_header line = bytes_eq line (codes "atomfs-journal 1") || (bytes_eq line (codes "atomfs-journal 2") || bytes_eq line (codes "atomfs-journal 3"))
+is_header line = list_any (bytes_eq line) (codes "atomfs-journal 1" ∷ codes "atomfs-journal 2" ∷ codes "atomfs-journal 3" ∷ codes "atomfs-journal 4" ∷ [])
 
 -- a line put before pieces of lines: into the first of them, unless that begins with a header line
 abbrev pub before_pieces : List ℕ → List (List (List ℕ)) → List (List (List ℕ))

@@ -38,7 +38,9 @@ fn is_header(line: &[u8]) -> bool
     ensures { result ≡ is_header line.now }
 {
     is_word(line, b"atomfs-journal 1")
-        || (is_word(line, b"atomfs-journal 2") || is_word(line, b"atomfs-journal 3"))
+        || is_word(line, b"atomfs-journal 2")
+        || is_word(line, b"atomfs-journal 3")
+        || is_word(line, b"atomfs-journal 4")
 }
 
 /// How many lines stand before the first header line.

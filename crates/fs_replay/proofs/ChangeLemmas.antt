@@ -1,9 +1,10 @@
 -- What is read of a path, and the last call that changes it.
-use Rattle.std.proofs.Common.{◌≡◌, ℕ, ◌+◌, ◌-◌, ◌^◌, ◌<◌, ◌≤◌, Bool, true, false, List, [], ◌∷◌, ◌++◌, take, drop, length, Option, Some, None, refl, sym, ap, ◌∙◌, subst, arith, append_assoc, append-nil}
+use Rattle.std.proofs.Common.{◌≡◌, ℕ, ◌+◌, ◌-◌, ◌<◌, ◌≤◌, min, Bool, true, false, List, [], ◌∷◌, ◌++◌, take, drop, Option, Some, None, refl, sym, ap, ◌∙◌, subst, arith, append_assoc, append-nil}
 use Rattle.std.proofs.Common.{leb}
-use Rattle.std.proofs.lemmas.List.{take_all, take-map}
+use Rattle.std.proofs.lemmas.List.{take-map}
 use Rattle.std.specs.Borrow.{Bor}
 use Rattle.std.specs.Prelude.{IsTrue, ◌↔◌, if◌then◌else◌}
+use Rattle.fs_names.specs.Limits.{read_limit}
 use Rattle.fs_names.specs.declared.limits.Limits.{Limits}
 use Rattle.fs_replay.specs.code.Seen.{calls_in}
 use Rattle.std.proofs.lemmas.Bool.{leb-true, leb-false}
@@ -56,7 +57,7 @@ resolves t p n is h = resolve_from t (directories_above t is) p [] n h
 
 -- ---- what is read
 
--- what a stat replies, by the resolution and what stands there; and a read
+-- what a stat replies, by the resolution and what stands there; and a read, of which the count is no more than the limit
 abbrev stat_by : Option Errno → Option Shape → Reply
 stat_by found there = replied (first_failure (found ∷ check (is_missing there) Enoent ∷ [])) (status there)
 
@@ -67,7 +68,7 @@ stat_is limits t p = refl
 abbrev read_by : Option Errno → Option Shape → ℕ → ℕ → Reply
 read_by found there off count = replied (first_failure (found ∷ check (is_missing there) Enoent ∷ check (is_dir there) Eisdir ∷ [])) (answer.Bytes (take count (drop off (bytes_of there))))
 
-read_is : (limits : Limits) (t : Tree) (p : Key) (off count : ℕ) → reply limits t (Read p off count) ≡ read_by (resolve (tree_shapes t) p) (tree_shapes t p) off count
+read_is : (limits : Limits) (t : Tree) (p : Key) (off count : ℕ) → reply limits t (Read p off count) ≡ read_by (resolve (tree_shapes t) p) (tree_shapes t p) off (min count (read_limit limits))
 unfolding reply fault
 read_is limits t p off count = refl
 
@@ -87,11 +88,12 @@ stat_tells limits t p is = subst (λ r. StandsAt t p (kind_in r)) (sym (stat_is 
     go (Some tree.Dir) h = subst (λ r. StandsAt t p (kind_in r)) (sym (at tree.Dir h)) h
     go (Some (tree.File bytes)) h = subst (λ r. StandsAt t p (kind_in r)) (sym (at (tree.File bytes) h)) (bytes, h, refl)
 
--- and by that to a read of all bytes
-pub read_tells : (limits : Limits) (t : Tree) (p : Key) (bytes : List ℕ) (size : ℕ) → IsTree t → look t p ≡ Some (tree.File bytes) → length bytes ≡ size → bytes_in (reply limits t (Read p 0 size)) ≡ bytes
-read_tells limits t p bytes size is h long =
-    ap bytes_in (read_is limits t p 0 size ∙ ap (λ found. read_by found (tree_shapes t p) 0 size) (resolves t p (tree.File bytes) is h) ∙ ap (λ o. read_by None (shape_of t p o) 0 size) h)
-    ∙ take_all size bytes (omega (arith, long))
+-- and by that to a read of no more bytes than one answers
+pub read_tells : (limits : Limits) (t : Tree) (p : Key) (bytes : List ℕ) (off count : ℕ) → IsTree t → look t p ≡ Some (tree.File bytes) → count ≤ read_limit limits → bytes_in (reply limits t (Read p off count)) ≡ take count (drop off bytes)
+read_tells limits t p bytes off count is h few =
+    let all : min count (read_limit limits) ≡ count = omega (arith, few) in
+    ap bytes_in (read_is limits t p off count ∙ ap (λ n. read_by (resolve (tree_shapes t) p) (tree_shapes t p) off n) all
+    ∙ ap (λ found. read_by found (tree_shapes t p) off count) (resolves t p (tree.File bytes) is h) ∙ ap (λ o. read_by None (shape_of t p o) off count) h)
 
 -- ---- the last change
 

@@ -1,6 +1,6 @@
 -- What is asked of an input's trees, by the words of a command line.
 use Rattle.std.specs.Prelude.{◌≡◌, ℕ, ◌+◌, Bool, ◌==◌, List, Option, Some, None, Ok, Err, take, drop, position, if◌then◌else◌}
-use Rattle.fs_names.specs.declared.limits.Limits.TheVariants.{V2}
+use Rattle.fs_names.specs.Limits.{largest}
 use Rattle.fs_words.specs.Reading.{path_at}
 use Rattle.fs_words.specs.Words.{number_of}
 use Rattle.fs_verdict.specs.declared.fault.RunFault.TheVariants.{OutOfMemory}
@@ -34,9 +34,9 @@ abbrev pub IsBefore : List ℕ → Question → Type 0
 IsBefore word (Before thread turn) = named_by word ≡ Some (thread.items, turn)
 IsBefore word question = ⊥
 
--- the question that is asked by a word that is a path, by the second limits
+-- the question that is asked by a word that is a path, by the largest limits
 abbrev pub IsWho : List ℕ → Question → Type 0
-IsWho word (Who path) = path_at V2 word ≡ Ok path
+IsWho word (Who path) = path_at largest word ≡ Ok path
 IsWho word question = ⊥
 
 -- the question that is asked
@@ -54,7 +54,7 @@ IsCallFault word f = ⊥
 
 -- why a word is no path, or out of memory
 abbrev pub IsPathFault : List ℕ → ReplayFault → Type 0
-IsPathFault word (fault.BadPath kind) = path_at V2 word ≡ Err kind
+IsPathFault word (fault.BadPath kind) = path_at largest word ≡ Err kind
 IsPathFault word (fault.Run f) = f ≡ OutOfMemory
 IsPathFault word f = ⊥
 

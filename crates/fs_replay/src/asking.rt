@@ -88,7 +88,7 @@ fn who(alloc: Global, word: &[u8]) -> Result<Question, ReplayFault>
     ensures asked { IfOk result (IsWho word.now) }
     ensures fault { IfErr result (IsPathFault word.now) }
 {
-    match path_at(alloc, Limits::V2, word) {
+    match path_at(alloc, Limits::LARGEST, word) {
         Ok(path) => Ok(Question::Who(path)),
         Err(FaultKind::OutOfMemory) => Err(ReplayFault::Run(RunFault::OutOfMemory)),
         Err(kind) => Err(ReplayFault::BadPath(kind)),

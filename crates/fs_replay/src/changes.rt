@@ -42,11 +42,17 @@ fn stat_at(alloc: Global, tree: &SeqTree, path: &Path) -> Result<Reply, AllocErr
     tree.look(alloc, &call)
 }
 
-/// The reply of a read of the first bytes.
-fn read_at(alloc: Global, tree: &SeqTree, path: &Path, count: u64) -> Result<Reply, AllocError>
-    ensures { IfOk result (λ r. r ≡ reply_at tree.now (Call.Read path.now 0 count)) }
+/// The reply of a read.
+fn read_at(
+    alloc: Global,
+    tree: &SeqTree,
+    path: &Path,
+    off: u64,
+    count: u64,
+) -> Result<Reply, AllocError>
+    ensures { IfOk result (λ r. r ≡ reply_at tree.now (Call.Read path.now off count)) }
 {
-    let call = Call::Read(path.copy()?, 0, count);
+    let call = Call::Read(path.copy()?, off, count);
     tree.look(alloc, &call)
 }
 
@@ -79,13 +85,21 @@ fn kind_at(alloc: Global, tree: &SeqTree, path: &Path) -> Result<Option<(Kind, u
     Ok(kind_in(&reply))
 }
 
-/// The bytes of a file of this size that stands at a path.
+/// The bytes of a file of this size that stands at a path, as many at a time as a read answers.
 fn bytes_at(alloc: Global, tree: &SeqTree, path: &Path, size: u64) -> Result<Bytes, AllocError>
     requires { IsTree tree.now.tree }
     ensures { (bytes : List ℕ) → look tree.now.tree path.now ≡ Some (File bytes) → length bytes ≡ size → IfOk result (λ copy. copy ≡ bytes) }
 {
-    let reply = read_at(alloc, tree, path, size)?;
-    Ok(bytes_in(alloc, reply))
+    let most = tree.limits().read() as u64;
+    let mut bytes = Vec::new(alloc);
+    let mut off = 0;
+    while off < size {
+        let count = most.min(size - off);
+        let piece = bytes_in(alloc, read_at(alloc, tree, path, off, count)?);
+        bytes.extend_from_slice(piece.as_slice())?;
+        off += count;
+    }
+    Ok(Bytes::new(bytes))
 }
 
 /// What stands at a path.

@@ -1,6 +1,6 @@
 //! What is drawn: lanes, calls, and the marks of what they did, in order.
 
-use fs_calls::{Call, Errno, Reply, Target};
+use fs_calls::{Call, Errno, NodeCall, Reply, Target};
 use fs_text::{write_call, write_reply};
 use std::alloc::{AllocError, Global};
 
@@ -125,7 +125,10 @@ impl Card {
 
     /// Tells which call it is.
     pub fn tell(&mut self, alloc: Global, call: &Call) -> Result<(), AllocError> {
-        self.has_two_paths = matches!(call.target(), Target::Pair(_, _, _));
+        self.has_two_paths = matches!(
+            call.target(),
+            Target::Pair(_, _, _) | Target::Node(NodeCall::ListAfter(_, _), _)
+        );
         write_call(alloc, call, &mut self.words)
     }
 }

@@ -45,6 +45,7 @@ steps_any limits (calls.Rename p q) = refl
 steps_any limits (calls.Exchange p q) = refl
 steps_any limits (calls.Stat p) = refl
 steps_any limits (calls.Readdir p) = refl
+steps_any limits (calls.ListAfter p after count) = refl
 steps_any limits (calls.Read p off count) = refl
 steps_any limits (calls.Write p off bytes) = refl
 steps_any limits (calls.Truncate p size) = refl

@@ -1,9 +1,11 @@
--- The paths of a run are those of its script's calls, so they keep the limits by which these were read, and all names do.
+-- The paths of a run are those of its script's calls, so they keep the limits by which these were read, and all names do; a list is begun only
+-- where these have it.
 use Rattle.std.proofs.Common.{◌≡◌, ℕ, zero, suc, Bool, true, false, List, [], ◌∷◌, ◌++◌, length, get_or, replicate, Option, Some, None, slice_get, sym, ap, ◌∙◌, subst, Ok}
+use Rattle.std.specs.Prelude.{IsTrue}
 use Rattle.std.specs.List.{AllByRecursion, range_with_len}
 use Rattle.fs_names.specs.Names.{Name}
 use Rattle.fs_names.specs.Keys.{Key}
-use Rattle.fs_names.specs.Limits.{largest}
+use Rattle.fs_names.specs.Limits.{largest, has_list}
 use Rattle.fs_names.specs.Shapes.{Shape}
 use Rattle.fs_names.specs.declared.limits.Limits.{Limits}
 use Rattle.fs_names.proofs.ReadingLemmas.{KeepsLimits}
@@ -36,23 +38,23 @@ use Rattle.fs_sched.specs.EachRun.{IsReadAgain}
 use Rattle.fs_sched.specs.Schedules.{words_by, goes_on}
 use Rattle.fs_sched.specs.declared.schedule.Schedule.{Schedule}
 
-module _ (P : Name → Type 0) (Q : Key → Type 0) (named : (k : Key) → Q k → AllByRecursion P k) (limits : Limits) where
+module _ (P : Name → Type 0) (Q : Key → Type 0) (L : Type 0) (named : (k : Key) → Q k → AllByRecursion P k) (limits : Limits) where
   -- what a stage has begun has such keys, and its start tree such names
   record Named (s : Stage) : Type 0 where
-    begun : AllByRecursion (NamesBegun Q) s.state.timeline
+    begun : AllByRecursion (NamesBegun Q L) s.state.timeline
     tree : NamesTree P s.state.start.tree
     kept : s.state.start.limits ≡ limits
 
-  -- the calls of lists have such keys
+  -- the calls of lists have such keys, and what a list needs besides
   abbrev Lists : List (List Call) → Type 0
-  Lists lists = AllByRecursion (λ (calls : List Call). AllByRecursion (NamesCall Q) calls) lists
+  Lists lists = AllByRecursion (λ (calls : List Call). AllByRecursion (NamesCall Q L) calls) lists
 
-  call_at : (calls : List Call) (n : ℕ) (call : Call) → AllByRecursion (NamesCall Q) calls → slice_get calls n ≡ Some call → NamesCall Q call
+  call_at : (calls : List Call) (n : ℕ) (call : Call) → AllByRecursion (NamesCall Q L) calls → slice_get calls n ≡ Some call → NamesCall Q L call
   call_at [] n call h is = absurd (cc)
-  call_at (c ∷ calls) zero call h is = let same : c ≡ call = cc in subst (NamesCall Q) same h.0
+  call_at (c ∷ calls) zero call h is = let same : c ≡ call = cc in subst (NamesCall Q L) same h.0
   call_at (c ∷ calls) (suc n) call h is = call_at calls n call h.1 is
 
-  list_at : (lists : List (List Call)) (seat : ℕ) → Lists lists → AllByRecursion (NamesCall Q) (get_or lists seat [])
+  list_at : (lists : List (List Call)) (seat : ℕ) → Lists lists → AllByRecursion (NamesCall Q L) (get_or lists seat [])
   list_at [] seat h = tt
   list_at (calls ∷ lists) zero h = h.0
   list_at (calls ∷ lists) (suc seat) h = list_at lists seat h.1
@@ -60,14 +62,14 @@ module _ (P : Name → Type 0) (Q : Key → Type 0) (named : (k : Key) → Q k �
   -- a state with this start and this timeline
   same_named : (old new : Stage) → new.state.start ≡ old.state.start → new.state.timeline ≡ old.state.timeline → Named old → Named new
   same_named old new a b h = record {
-    begun = subst (AllByRecursion (NamesBegun Q)) (sym b) h.begun;
+    begun = subst (AllByRecursion (NamesBegun Q L)) (sym b) h.begun;
     tree = subst (λ (s : Start). NamesTree P s.tree) (sym a) h.tree;
     kept = ap (λ (s : Start). s.limits) a ∙ h.kept;
   }
 
-  more_named : (old new : Stage) (e : Entry) → new.state.start ≡ old.state.start → new.state.timeline ≡ old.state.timeline ++ e ∷ [] → NamesBegun Q e → Named old → Named new
+  more_named : (old new : Stage) (e : Entry) → new.state.start ≡ old.state.start → new.state.timeline ≡ old.state.timeline ++ e ∷ [] → NamesBegun Q L e → Named old → Named new
   more_named old new e a b g h = record {
-    begun = subst (AllByRecursion (NamesBegun Q)) (sym b) (one_more P Q named old.state.timeline e h.begun g);
+    begun = subst (AllByRecursion (NamesBegun Q L)) (sym b) (one_more P Q L named old.state.timeline e h.begun g);
     tree = subst (λ (s : Start). NamesTree P s.tree) (sym a) h.tree;
     kept = ap (λ (s : Start). s.limits) a ∙ h.kept;
   }
@@ -107,7 +109,7 @@ module _ (P : Name → Type 0) (Q : Key → Type 0) (named : (k : Key) → Q k �
   does_named lists (words.Events seat times) told old new all (events, none) h = events_named lists (replicate times seat) old new all events h
   does_named lists words.Checkpoint told old new all (idle, is, again) h = subst Named (sym again) (record {
     begun = tt;
-    tree = spelled_kept P Q named old.state.start old.state.timeline h.tree h.begun;
+    tree = spelled_kept P Q L named old.state.start old.state.timeline h.tree h.begun;
     kept = h.kept;
   })
   does_named lists words.Finish told old new all (same, none) h = subst Named (sym same) h
@@ -129,7 +131,7 @@ module _ (P : Name → Type 0) (Q : Key → Type 0) (named : (k : Key) → Q k �
 
 -- what the last stage of a run of a script that was read names, by the limits of the script
 pub record Short (limits : Limits) (s : State) : Type 0 where
-  pub entries : AllByRecursion (NamesEntry (IsShort limits) (KeepsLimits limits)) s.timeline
+  pub entries : AllByRecursion (NamesEntry (IsShort limits) (KeepsLimits limits) (IsTrue (has_list limits))) s.timeline
   pub tree : NamesTree (IsShort limits) s.start.tree
   pub kept : s.start.limits ≡ limits
 
@@ -139,11 +141,12 @@ short_from schedule input script limit first graph told last is tree kept run (m
     let all : ShortLists script = short_lists input script is in
     let names : Name → Type 0 = IsShort script.limits in
     let keys : Key → Type 0 = KeepsLimits script.limits in
+    let list : Type 0 = IsTrue (has_list script.limits) in
     let named : (k : Key) → keys k → AllByRecursion names k = λ k h. h.short in
-    let h = ends_named names keys named script.limits (goes_on schedule script.words) script.lists middle last all ends
-    (words_named names keys named script.limits script.lists (words_by schedule script.words (length script.lists)) told (before_all (fresh limit first graph) (length script.lists)) middle all done (fresh_named names keys named script.limits limit first graph (length script.lists) tree kept)) in
+    let h = ends_named names keys list named script.limits (goes_on schedule script.words) script.lists middle last all ends
+    (words_named names keys list named script.limits script.lists (words_by schedule script.words (length script.lists)) told (before_all (fresh limit first graph) (length script.lists)) middle all done (fresh_named names keys list named script.limits limit first graph (length script.lists) tree kept)) in
     record {
-      entries = lawful_kept names keys named last.state.start last.state.timeline (linearizes last.state run).lawful h.tree h.begun;
+      entries = lawful_kept names keys list named last.state.start last.state.timeline (linearizes last.state run).lawful h.tree h.begun;
       tree = h.tree;
       kept = h.kept;
     }
@@ -160,9 +163,9 @@ short_nodes more limits ((key, Dir) ∷ t) h s = (short_names more limits key h.
 short_nodes more limits ((key, File bytes) ∷ t) h s = ((short_names more limits key h.0.0 s.0, h.0.1), short_nodes more limits t h.1 s.1)
 
 pub again_short : (limits : Limits) (start : Start) (es : List Entry) → IsWithinLimits start.limits start.tree → IsToldFit start → AllFit largest es
-    → AllByRecursion (NamesEntry (IsShort limits) (KeepsLimits limits)) es → NamesTree (IsShort limits) start.tree → start.limits ≡ limits → IsReadAgain start es
+    → AllByRecursion (NamesEntry (IsShort limits) (KeepsLimits limits) (IsTrue (has_list limits))) es → NamesTree (IsShort limits) start.tree → start.limits ≡ limits → IsReadAgain start es
 again_short limits start es within told fit entries tree kept short =
-    let named = subst (λ (l : Limits). AllByRecursion (NamesEntry (IsShort l) (KeepsLimits l)) es) (sym kept) entries in
+    let named = subst (λ (l : Limits). AllByRecursion (NamesEntry (IsShort l) (KeepsLimits l) (IsTrue (has_list l))) es) (sym kept) entries in
     let nodes = subst (λ (l : Limits). NamesTree (IsShort l) start.tree) (sym kept) tree in
     reads_journals_back start es
     (record { within = within; told = λ is. short_nodes largest start.limits start.tree (told is) nodes })

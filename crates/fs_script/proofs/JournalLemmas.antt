@@ -1,5 +1,5 @@
 -- A journal that was written is read again as the same start tree and the same entries.
-use Rattle.std.proofs.Common.{◌≡◌, ◌≢◌, ℕ, ◌+◌, ◌<◌, ◌≤◌, true, false, cond, not, ltb, eqb, ◌&&◌, ⊎_elim, List, [], ◌∷◌, ◌++◌, length, map, Result, Ok, Err, refl, sym, ap, subst, ◌∙◌, arith, append_assoc, append-nil, codes, rules}
+use Rattle.std.proofs.Common.{◌≡◌, ◌≢◌, ℕ, ◌+◌, ◌<◌, ◌≤◌, true, false, cond, not, eqb, ◌&&◌, ⊎_elim, List, [], ◌∷◌, ◌++◌, length, map, Result, Ok, Err, refl, sym, ap, subst, ◌∙◌, arith, append_assoc, append-nil, codes, rules}
 use Rattle.std.specs.List.{All, AllByRecursion, slice_split, flat_map, join_with_byte}
 use Rattle.std.specs.Str.{bytes_eq}
 use Rattle.std.proofs.lemmas.Bool.{cond-true, cond-false, cases_Bool, eq-eqb}
@@ -12,7 +12,7 @@ use Rattle.percent_encoding.proofs.PercentLemmas.{IsEscapeByte, All-percent_enco
 use Rattle.fs_names.specs.Names.{Name, IsName}
 use Rattle.fs_names.specs.Keys.{Key}
 use Rattle.fs_names.specs.declared.limits.Limits.{Limits}
-use Rattle.fs_names.specs.declared.limits.Limits.TheVariants.{V1, V2}
+use Rattle.fs_names.specs.declared.limits.Limits.TheVariants.{V1, V2, V3}
 use Rattle.fs_names.specs.Reading.{is_slash}
 use Rattle.fs_names.specs.declared.kind.Kind.{Kind}
 use Rattle.fs_names.specs.declared.kind.Kind.TheVariants as kinds
@@ -23,7 +23,7 @@ use Rattle.fs_seq.specs.Rows.{node_of_kind, IsWithinLimits}
 use Rattle.fs_seq.proofs.Fitting.{node_fits, root_first}
 use Rattle.fs_words.specs.Lines.{lines_of, pieces_of, has_empty, is_passed_over}
 use Rattle.fs_words.specs.Words.{is_escaped, escaped, path_word}
-use Rattle.fs_words.specs.Reading.{◌>>=◌, words_of, behind_header, first_is, behind_first}
+use Rattle.fs_words.specs.Reading.{◌>>=◌, words_of}
 use Rattle.fs_words.specs.declared.fault.FaultKind.{FaultKind}
 use Rattle.fs_words.specs.declared.fault.FaultKind.TheVariants as kind
 use Rattle.fs_words.proofs.EscapeLemmas.{escaped_cons_yes, escaped_cons_no, IsWord_escaped}
@@ -36,12 +36,13 @@ use Rattle.fs_text.specs.Journal.{entry_line, entries_of, names_at}
 use Rattle.fs_text.specs.Journal as text
 use Rattle.fs_text.proofs.EntryLemmas.{joined, text_ended, are_lines, journal_lines, lines_again, journal_again, kind_good, names_read, hex_read}
 use Rattle.fs_script.specs.TreeText.{node_words, node_line}
-use Rattle.fs_script.specs.Journals.{Read, with_start, key_at, node_at, node_in_line, grown, in_start, started_from, behind_line, started_header, is_told, journal_text, journal_of}
+use Rattle.fs_script.specs.Headers.{started_header}
+use Rattle.fs_script.specs.Journals.{Read, with_start, key_at, node_at, node_in_line, grown, in_start, started_from, behind_line, is_told, journal_text, journal_of}
 use Rattle.fs_script.specs.code.Starts.{starting}
 use Rattle.fs_script.specs.Laws.{FitsNode, FitsStart, ReadsJournalsBack}
 use Rattle.fs_script.proofs.NodeLines.{spelled, path_spelled}
 use Rattle.fs_script.proofs.Openings.{started, from_the_root}
-use Rattle.fs_script.proofs.HeaderLemmas.{started_lines, told_by}
+use Rattle.fs_script.proofs.HeaderLemmas.{short_journal, root_journal}
 
 -- ---- a path of any number of names
 
@@ -174,8 +175,7 @@ abbrev all_lines : Start → List Entry → List (List ℕ)
 all_lines start es = started_header start.limits ∷ codes "start" ∷ rest_lines start.tree es
 
 header_ended : (limits : Limits) (z : List ℕ) → started_header limits ++ (codes "\nstart\n" ++ z) ≡ ended (started_header limits) ++ (ended (codes "start") ++ z)
-header_ended V1 z = refl
-header_ended V2 z = refl
+header_ended limits z = sym (append_assoc (started_header limits) (10 ∷ []) (codes "start\n" ++ z))
 
 abbrev AreTold : Start → Type 0
 AreTold start = is_told start.limits (length start.tree) ≡ true
@@ -203,6 +203,7 @@ is_line w h = All-from_recursion (λ b. 31 < b) w h
 header_is_line : (limits : Limits) → IsLine (started_header limits)
 header_is_line V1 = is_line (codes "atomfs-journal 2") (search rules)
 header_is_line V2 = is_line (codes "atomfs-journal 3") (search rules)
+header_is_line V3 = is_line (codes "atomfs-journal 4") (search rules)
 
 text_lines : (start : Start) (es : List Entry) → AreTold start → Told start.limits start.tree → AllFit start.limits es → lines_of (journal_text start es) ≡ all_lines start es
 text_lines start es is told fit =
@@ -212,9 +213,6 @@ text_lines start es is told fit =
 
 -- ---- the whole text
 
-not_above : (n : ℕ) → n ≤ 16777216 → ltb 16777216 n ≡ false
-not_above n h = grind (arith, nat_tests)
-
 wanted_again : (wanted : List ℕ) (read : ℕ → List (List ℕ) → Read) (n : ℕ) (line : List ℕ) (more : List (List ℕ)) → is_passed_over line ≡ false → line ≡ wanted → behind_line wanted read n (line ∷ more) ≡ read (n + 1) more
 unfolding behind_line
 wanted_again wanted read n line more p is = cond-false _ _ _ p ∙ cond-true _ _ _ (ap (λ (w : List ℕ). bytes_eq w wanted) is ∙ bytes_same wanted)
@@ -222,32 +220,19 @@ wanted_again wanted read n line more p is = cond-false _ _ _ p ∙ cond-true _ _
 root_line : line_of ([], Dir) ≡ codes "dir /"
 root_line = ap (λ (w : List ℕ). codes "dir " ++ w) (root_word [] refl)
 
--- a text is read by the limits that its first line announces
-read_by : (limits : Limits) (text : List ℕ) (more lines : List (List ℕ)) → lines_of text ≡ started_header limits ∷ more → behind_header (started_header limits) text ≡ Ok lines → journal_of text ≡ started_lines limits lines
-unfolding journal_of
-read_by V1 text more lines are is = cond-false _ _ _ (ap (first_is (started_header V2)) are) ∙ told_by V1 text _ lines is
-read_by V2 text more lines are is = told_by V2 text _ lines is
-
 told_again : (limits : Limits) (u : Tree) (es : List Entry) → IsWithinLimits limits (([], Dir) ∷ u) → AreTold (starting limits (([], Dir) ∷ u)) → Told limits (([], Dir) ∷ u) → AllFit limits es
     → length (journal_text (starting limits (([], Dir) ∷ u)) es) ≤ 16777216 → journal_of (journal_text (starting limits (([], Dir) ∷ u)) es) ≡ Ok (starting limits (([], Dir) ∷ u), es)
 told_again limits u es within is told fit short =
     let start : Start = starting limits (([], Dir) ∷ u) in
-    let lines : lines_of (journal_text start es) ≡ all_lines start es = text_lines start es is told fit in
-    let first : first_is (started_header limits) (lines_of (journal_text start es)) ≡ true = ap (first_is (started_header limits)) lines ∙ bytes_same (started_header limits) in
-    let behind : behind_header (started_header limits) (journal_text start es) ≡ Ok (codes "start" ∷ rest_lines start.tree es) =
-    cond-false _ _ _ (not_above (length (journal_text start es)) short) ∙ cond-true _ _ _ first ∙ ap (λ ls. Ok (behind_first ls)) lines in
-    read_by limits (journal_text start es) _ _ lines behind
+    short_journal limits (journal_text start es) (codes "start" ∷ rest_lines start.tree es) short (text_lines start es is told fit)
     ∙ wanted_again (codes "start") (behind_line (codes "dir /") (started_from limits root_tree)) 2 (codes "start") (rest_lines start.tree es) refl refl
     ∙ wanted_again (codes "dir /") (started_from limits root_tree) 3 (line_of ([], Dir)) (rest_lines u es) refl root_line
     ∙ started_again limits ([], Dir) [] u 4 es within told.1 fit
 
 root_again : (es : List Entry) → AllFit V1 es → length (journal_text (root_start V1) es) ≤ 16777216 → journal_of (journal_text (root_start V1) es) ≡ Ok (root_start V1, es)
-unfolding journal_of
 root_again es fit short =
     let is : journal_text (root_start V1) es ≡ text.journal_text es = from_the_root es in
-    let other : (limits : Limits) → first_is (started_header limits) (text.journal_header ∷ map joined es) ≡ false → first_is (started_header limits) (lines_of (journal_text (root_start V1) es)) ≡ false =
-    λ limits no. ap (λ t. first_is (started_header limits) (lines_of t)) is ∙ ap (first_is (started_header limits)) (journal_lines V1 es fit) ∙ no in
-    cond-false _ _ _ (other V2 refl) ∙ cond-false _ _ _ (other V1 refl)
+    root_journal (journal_text (root_start V1) es) text.journal_header (map joined es) short (ap lines_of is ∙ journal_lines V1 es fit) refl
     ∙ ap (λ t. with_start (root_start V1) (entries_of t)) is
     ∙ ap (with_start (root_start V1)) (journal_again es fit (subst (λ (t : List ℕ). length t ≤ 16777216) is short))
 
@@ -262,6 +247,7 @@ by_rest : (limits : Limits) (u : Tree) (es : List Entry) → IsAgain es (startin
 by_rest V1 [] es h fit short = root_again es fit short
 by_rest V1 (e ∷ u) es h fit short = let told = two_told (length (([], Dir) ∷ e ∷ u)) (omega arith) in told_again V1 (e ∷ u) es h.within told (h.told told) fit short
 by_rest V2 u es h fit short = told_again V2 u es h.within refl (h.told refl) fit short
+by_rest V3 u es h fit short = told_again V3 u es h.within refl (h.told refl) fit short
 
 pub reads_journals_back : ReadsJournalsBack
 reads_journals_back start es h fit short =

@@ -1,29 +1,34 @@
--- The calls of a script that was read have only paths that keep its limits.
+-- The calls of a script that was read have only paths that keep its limits, and are ones that these have.
 use Rattle.std.proofs.Common.{◌≡◌, ℕ, ◌+◌, Bool, true, false, cond, not, List, [], ◌∷◌, ◌++◌, length, Option, Some, None, Result, Ok, Err, codes, position}
-use Rattle.std.specs.Prelude.{◌==◌, ◌&&◌, nat_le, nat_lt, take, drop}
+use Rattle.std.specs.Prelude.{IsTrue, ◌==◌, ◌&&◌, nat_le, nat_lt, take, drop}
 use Rattle.std.specs.List.{AllByRecursion, list_any}
 use Rattle.std.specs.Str.{bytes_eq}
 use Rattle.fs_names.specs.declared.limits.Limits.{Limits}
-use Rattle.fs_names.specs.declared.limits.Limits.TheVariants.{V1, V2}
+use Rattle.fs_names.specs.Limits.{has_list}
 use Rattle.fs_names.proofs.ReadingLemmas.{KeepsLimits}
 use Rattle.fs_calls.specs.declared.call.Call.{Call}
 use Rattle.fs_timeline.proofs.KeptNames.{NamesCall}
-use Rattle.fs_words.specs.Lines.{lines_of, is_passed_over}
+use Rattle.fs_words.specs.Lines.{is_passed_over}
 use Rattle.fs_words.specs.Words as words
 use Rattle.fs_words.specs.Words.{number_of}
-use Rattle.fs_words.specs.Reading.{◌>>=◌, words_of, at_line, first_is, behind_header}
+use Rattle.fs_words.specs.Reading.{◌>>=◌, words_of, at_line, headed}
 use Rattle.fs_words.specs.declared.fault.FaultKind.{FaultKind}
 use Rattle.fs_text.specs.Calls.{call_of}
 use Rattle.fs_text.proofs.ReadNames.{Given, given_then, given_is, call_given}
-use Rattle.fs_script.specs.Script.{nothing_yet, is_thread, seat_named, with_call, new_thread, thread_line, new_call, call_line, block_line, with_word, new_events, events_word, is_star, timed_word, has_finish, schedule_word, schedule_line, schedule_from, blocks_from, script_header, script_by, script_of}
+use Rattle.fs_script.specs.Headers.{script_header, announced}
+use Rattle.fs_script.specs.Script.{nothing_yet, is_thread, seat_named, with_call, new_thread, thread_line, new_call, call_line, block_line, with_word, new_events, events_word, is_star, timed_word, has_finish, schedule_word, schedule_line, schedule_from, blocks_from, announced_script, script_behind, script_of}
 use Rattle.fs_script.specs.declared.limits.TheConstants.{THREAD_LIMIT, CALL_LIMIT, EVENT_LIMIT}
 use Rattle.fs_script.specs.declared.script.Script.{Script}
 use Rattle.fs_script.specs.declared.script.Word.TheVariants.{Finish, Checkpoint}
 use Rattle.fs_script.specs.Limits.{calls_in, events_in}
 
--- the paths of a script's calls
+-- a call of these limits, with such paths
+abbrev pub ShortCall : Limits → Call → Type 0
+ShortCall limits = NamesCall (KeepsLimits limits) (IsTrue (has_list limits))
+
+-- the calls of a script
 abbrev pub ShortLists : Script → Type 0
-ShortLists s = AllByRecursion (λ (calls : List Call). AllByRecursion (NamesCall (KeepsLimits s.limits)) calls) s.lists
+ShortLists s = AllByRecursion (λ (calls : List Call). AllByRecursion (ShortCall s.limits) calls) s.lists
 
 -- what is given, if it is a script, has paths that keep its limits
 abbrev Keeps : {F : Type 0} → Result Script F → Type 0
@@ -66,15 +71,15 @@ calls_more P c (calls ∷ next ∷ more) one h = (h.0, calls_more P c (next ∷ 
 thread_keeps : (s : Script) (name : words.Word) → ShortLists s → Keeps (new_thread s name)
 thread_keeps s name h =
     else_keeps (not (is_thread name)) _ _ (else_keeps (list_any (bytes_eq name) s.names) _ _ (else_keeps (nat_le THREAD_LIMIT (length s.names)) _ _
-    (list_more (λ (calls : List Call). AllByRecursion (NamesCall (KeepsLimits s.limits)) calls) s.lists tt h)))
+    (list_more (λ (calls : List Call). AllByRecursion (ShortCall s.limits) calls) s.lists tt h)))
 
 thread_line_keeps : (s : Script) (ws : List words.Word) → ShortLists s → Keeps (thread_line s ws)
 thread_line_keeps s [] h = tt
 thread_line_keeps s (name ∷ []) h = thread_keeps s name h
 thread_line_keeps s (name ∷ next ∷ more) h = tt
 
-call_keeps : (s : Script) (c : Call) → NamesCall (KeepsLimits s.limits) c → ShortLists s → Keeps (new_call s c)
-call_keeps s c one h = else_keeps (nat_le CALL_LIMIT (calls_in s.lists)) _ _ (calls_more (NamesCall (KeepsLimits s.limits)) c s.lists one h)
+call_keeps : (s : Script) (c : Call) → ShortCall s.limits c → ShortLists s → Keeps (new_call s c)
+call_keeps s c one h = else_keeps (nat_le CALL_LIMIT (calls_in s.lists)) _ _ (calls_more (ShortCall s.limits) c s.lists one h)
 
 block_keeps : (s : Script) (ws : List words.Word) → ShortLists s → Keeps (block_line s ws)
 unfolding block_line
@@ -82,7 +87,7 @@ block_keeps s [] h = tt
 block_keeps s (first ∷ more) h =
     either_keeps (bytes_eq first (codes "thread")) (thread_line s more) (call_line s (first ∷ more)) (thread_line_keeps s more h)
     (else_keeps (length s.lists == 0) _ _
-    (given_then (NamesCall (KeepsLimits s.limits)) ShortLists (call_of s.limits (first ∷ more)) (new_call s) (call_given s.limits (first ∷ more)) (λ c one. call_keeps s c one h)))
+    (given_then (ShortCall s.limits) ShortLists (call_of s.limits (first ∷ more)) (new_call s) (call_given s.limits (first ∷ more)) (λ c one. call_keeps s c one h)))
 
 -- ---- lines of the schedule
 
@@ -122,12 +127,13 @@ blocks_from_keeps n s (line ∷ more) h =
     (either_keeps (bytes_eq line (codes "schedule")) (schedule_from (n + 1) s more) _ (schedule_from_keeps (n + 1) s more h)
     (then_keeps (at_line n (words_of line >>= block_line s)) (λ t. blocks_from (n + 1) t more) (line_keeps n _ (any_keeps (words_of line) (block_line s) (λ ws. block_keeps s ws h))) (λ t g. blocks_from_keeps (n + 1) t more g)))
 
-by_keeps : (limits : Limits) (input : List ℕ) → Keeps (script_by limits input)
-by_keeps limits input = any_keeps (behind_header (script_header limits) input) (blocks_from 2 (nothing_yet limits)) (λ lines. blocks_from_keeps 2 (nothing_yet limits) lines tt)
+announced_keeps : (limits : Option Limits) (lines : List (List ℕ)) → Keeps (announced_script limits lines)
+announced_keeps None lines = tt
+announced_keeps (Some limits) lines = blocks_from_keeps 2 (nothing_yet limits) lines tt
 
 text_keeps : (input : List ℕ) → Keeps (script_of input)
 unfolding script_of
-text_keeps input = either_keeps (first_is (script_header V2) (lines_of input)) (script_by V2 input) (script_by V1 input) (by_keeps V2 input) (by_keeps V1 input)
+text_keeps input = any_keeps (headed input) script_behind (λ h. announced_keeps (announced script_header h.0) h.1)
 
 -- the calls of a script that was read have paths that keep its limits
 pub short_lists : (input : List ℕ) (script : Script) → script_of input ≡ Ok script → ShortLists script

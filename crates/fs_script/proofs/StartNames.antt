@@ -1,8 +1,7 @@
 -- A tree that was read has the limits by which it was read, and its names keep them.
-use Rattle.std.proofs.Common.{◌≡◌, ◌≤◌, ℕ, ◌+◌, Bool, true, false, cond, List, [], ◌∷◌, ◌++◌, length, Result, Ok, Err, refl, sym, ap, subst, ◌∙◌, codes, arith, rules}
-use Rattle.std.proofs.lemmas.Bool.{cond-true, cond-false}
+use Rattle.std.proofs.Common.{◌≡◌, ◌≤◌, ℕ, ◌+◌, Bool, true, false, cond, List, [], ◌∷◌, ◌++◌, length, Option, Some, None, Result, Ok, Err, refl, sym, ap, subst, ◌∙◌, codes, arith, rules}
 use Rattle.std.proofs.lemmas.Bool.Decides.{nat_tests}
-use Rattle.std.specs.Prelude.{nat_le, ◌&&◌, ◌==◌, take, drop, IfOk}
+use Rattle.std.specs.Prelude.{nat_le, nat_lt, ◌&&◌, take, drop, IfOk}
 use Rattle.std.specs.List.{All, AllByRecursion, slice_split, join_with_byte}
 use Rattle.std.proofs.lemmas.List.Splits.{slice_split_at}
 use Rattle.std.proofs.lemmas.List.Elements.{All-from_recursion}
@@ -14,7 +13,7 @@ use Rattle.fs_names.specs.Limits.{same_limits, name_limit}
 use Rattle.fs_names.proofs.LimitLemmas.{one_set}
 use Rattle.fs_names.specs.declared.kind.Kind.{Kind}
 use Rattle.fs_names.specs.declared.limits.Limits.{Limits}
-use Rattle.fs_names.specs.declared.limits.Limits.TheVariants.{V1, V2}
+use Rattle.fs_names.specs.declared.limits.Limits.TheVariants.{V1, V2, V3}
 use Rattle.fs_calls.specs.Tree.{Tree, Node, root_tree}
 use Rattle.fs_calls.specs.Starts.{Start, root_start}
 use Rattle.fs_timeline.specs.declared.entry.Entry.{Entry}
@@ -23,15 +22,17 @@ use Rattle.fs_seq.specs.Rows.{node_of_kind, fits_at}
 use Rattle.fs_words.specs.Lines.{is_line_feed, without_last_empty, lines_of, is_passed_over}
 use Rattle.fs_words.specs.Words.{Word}
 use Rattle.fs_words.specs.code.Answers.{GivesText}
-use Rattle.fs_words.specs.Reading.{◌>>=◌, read_name, name_at, hex_at, words_of, fault_at, first_is, behind_first, behind_header}
+use Rattle.fs_words.specs.Reading.{◌>>=◌, read_name, name_at, hex_at, words_of, fault_at, behind_first, first_line, headed}
 use Rattle.fs_words.specs.declared.fault.FaultKind.{FaultKind}
 use Rattle.fs_words.specs.declared.fault.FaultKind.TheVariants as kind
 use Rattle.fs_words.specs.declared.fault.ScriptFault.{ScriptFault}
 use Rattle.fs_words.proofs.PathLemmas.{IsShort}
 use Rattle.fs_text.specs.Journal.{names_at, entries_from, entries_of}
 use Rattle.fs_text.proofs.ReadNames.{Given, given_then, given_is}
-use Rattle.fs_script.specs.Journals.{Read, key_at, node_at, node_in_line, grown, in_start, with_start, started_from, behind_line, started_header, started_or, journal_of, line_end, nodes_journal, start_read, by_limits, start_of}
+use Rattle.fs_script.specs.Headers.{started_header, announced}
+use Rattle.fs_script.specs.Journals.{Read, key_at, node_at, node_in_line, grown, in_start, with_start, started_from, behind_line, started_lines, announced_journal, journal_behind, journal_of, line_end, nodes_journal, start_read, by_limits, start_of}
 use Rattle.fs_script.specs.TreeText.{node_words}
+use Rattle.fs_script.proofs.HeaderLemmas.{started_announced}
 
 either : {A F : Type 0} (P : A → Type 0) (b : Bool) (r q : Result A F) → Given P r → Given P q → Given P (cond b r q)
 either P true r q h g = h
@@ -114,7 +115,7 @@ behind_given P wanted read n [] each = tt
 behind_given P wanted read n (line ∷ more) each =
     either P (is_passed_over line) _ _ (behind_given P wanted read (n + 1) more each) (either P (bytes_eq line wanted) (read (n + 1) more) (Err (fault_at n kind.BadStart)) (each (n + 1) more) tt)
 
--- what is read by either set of limits
+-- what is read by the limits that it has
 abbrev AnyRead : Start × List Entry → Type 0
 AnyRead read = ShortRead read.0.limits read
 
@@ -122,23 +123,18 @@ by_given : (limits : Limits) (read : Read) → Given (ShortRead limits) read →
 by_given limits (Ok read) (is, h) = let same : limits ≡ read.0.limits = sym is in (refl, subst (λ (l : Limits). NamesTree (IsShort l) read.0.tree) same h)
 by_given limits (Err f) h = tt
 
-header_given : (limits : Limits) (text : List ℕ) → Given (ShortRead limits) (behind_header (started_header limits) text >>= behind_line (codes "start") (behind_line (codes "dir /") (started_from limits root_tree)) 2)
-header_given limits text = any_then (ShortRead limits) (behind_header (started_header limits) text) _ (λ lines. behind_given (ShortRead limits) (codes "start") _ 2 lines (λ m rest. behind_given (ShortRead limits) (codes "dir /") _ m rest (λ k last. from_given limits root_tree k last (tt, tt))))
+lines_given : (limits : Limits) (lines : List (List ℕ)) → Given (ShortRead limits) (started_lines limits lines)
+lines_given limits lines = behind_given (ShortRead limits) (codes "start") _ 2 lines (λ m rest. behind_given (ShortRead limits) (codes "dir /") _ m rest (λ k last. from_given limits root_tree k last (tt, tt)))
 
-or_given : (limits : Limits) (text : List ℕ) (other : Read) → Given AnyRead other → Given AnyRead (started_or limits text other)
-or_given limits text other h = either AnyRead (first_is (started_header limits) (lines_of text)) _ _ (by_given limits _ (header_given limits text)) h
+announced_given : (text : List ℕ) (limits : Option Limits) (lines : List (List ℕ)) → Given AnyRead (announced_journal text limits lines)
+announced_given text None lines = by_given V1 _ (entries_given V1 (root_start V1) (entries_of text) (refl, (tt, tt)))
+announced_given text (Some limits) lines = by_given limits _ (lines_given limits lines)
 
 journal_given : (text : List ℕ) → Given AnyRead (journal_of text)
 unfolding journal_of
-journal_given text = or_given V2 text _ (or_given V1 text _ (by_given V1 _ (entries_given V1 (root_start V1) (entries_of text) (refl, (tt, tt)))))
+journal_given text = any_then AnyRead (headed text) (journal_behind text) (λ h. announced_given text (announced started_header h.0) h.1)
 
 -- ---- the tree at which something starts
-
-or_first : (limits : Limits) (text : List ℕ) (other : Read) → first_is (started_header limits) (lines_of text) ≡ true → Given (ShortRead limits) (started_or limits text other)
-or_first limits text other e = subst (Given (ShortRead limits)) (sym (cond-true _ _ _ e)) (header_given limits text)
-
-or_other : (P : Start × List Entry → Type 0) (limits : Limits) (text : List ℕ) (other : Read) → first_is (started_header limits) (lines_of text) ≡ false → Given P other → Given P (started_or limits text other)
-or_other P limits text other e h = subst (Given P) (sym (cond-false _ _ _ e)) h
 
 -- the journal of a tree's lines begins with the header of its limits
 no_end : (w : List ℕ) → AllByRecursion (λ b. is_line_feed b ≡ false) w → All (λ b. is_line_feed b ≡ false) w
@@ -147,6 +143,7 @@ no_end w h = All-from_recursion (λ b. is_line_feed b ≡ false) w h
 header_no_end : (limits : Limits) → All (λ b. is_line_feed b ≡ false) (started_header limits)
 header_no_end V1 = no_end (codes "atomfs-journal 2") (search rules)
 header_no_end V2 = no_end (codes "atomfs-journal 3") (search rules)
+header_no_end V3 = no_end (codes "atomfs-journal 4") (search rules)
 
 -- what stands behind a line and the line `start`
 split_twice : (line rest : List ℕ) → All (λ b. is_line_feed b ≡ false) line → lines_of (line ++ (10 ∷ (codes "start" ++ (10 ∷ rest)))) ≡ line ∷ without_last_empty (codes "start" ∷ slice_split is_line_feed rest)
@@ -155,16 +152,23 @@ split_twice line rest h = ap without_last_empty (slice_split_at is_line_feed lin
 pub cut : (limits : Limits) (nodes : List ℕ) → lines_of (nodes_journal limits nodes) ≡ started_header limits ∷ without_last_empty (codes "start" ∷ slice_split is_line_feed (nodes ++ line_end nodes ++ codes "entries\n"))
 cut V1 nodes = split_twice (started_header V1) (nodes ++ line_end nodes ++ codes "entries\n") (header_no_end V1)
 cut V2 nodes = split_twice (started_header V2) (nodes ++ line_end nodes ++ codes "entries\n") (header_no_end V2)
+cut V3 nodes = split_twice (started_header V3) (nodes ++ line_end nodes ++ codes "entries\n") (header_no_end V3)
 
 nodes_given : (limits : Limits) (nodes : List ℕ) → Given (ShortRead limits) (journal_of (nodes_journal limits nodes))
 unfolding journal_of
-nodes_given V1 nodes =
-    let text : List ℕ = nodes_journal V1 nodes in
-    let plain : Read = with_start (root_start V1) (entries_of text) in
-    or_other (ShortRead V1) V2 text (started_or V1 text plain) (ap (first_is (started_header V2)) (cut V1 nodes)) (or_first V1 text plain (ap (first_is (started_header V1)) (cut V1 nodes)))
-nodes_given V2 nodes =
-    let text : List ℕ = nodes_journal V2 nodes in
-    or_first V2 text (started_or V1 text (with_start (root_start V1) (entries_of text))) (ap (first_is (started_header V2)) (cut V2 nodes))
+nodes_given limits nodes = by (nat_lt 16777216 (length text))
+  where
+    text : List ℕ
+    text = nodes_journal limits nodes
+
+    rest : List (List ℕ)
+    rest = without_last_empty (codes "start" ∷ slice_split is_line_feed (nodes ++ line_end nodes ++ codes "entries\n"))
+
+    by : (b : Bool) → Given (ShortRead limits) (cond {A = Result (List ℕ × List (List ℕ)) ScriptFault} b (Err (fault_at 1 kind.TooLarge)) (first_line (lines_of text)) >>= journal_behind text)
+    by true = tt
+    by false =
+        subst (λ (lines : List (List ℕ)). Given (ShortRead limits) (first_line lines >>= journal_behind text)) (sym (cut limits nodes))
+        (subst (λ (o : Option Limits). Given (ShortRead limits) (announced_journal text o rest)) (sym (started_announced limits)) (lines_given limits rest))
 
 start_given : (limits : Limits) (read : Read) → Given (ShortRead limits) read → Given (IsShortStart limits) (start_read read)
 start_given limits (Ok read) h = h

@@ -10,7 +10,8 @@ use Rattle.fs_seq.proofs.Fitting.{root_first}
 use Rattle.fs_words.specs.declared.limits.TheConstants.{TEXT_LIMIT}
 use Rattle.fs_script.specs.TreeText.{node_line, node_words, tree_text}
 use Rattle.fs_script.specs.Laws.{ReadsTreesBack}
-use Rattle.fs_script.specs.Journals.{started_header, is_told, opening, ends_line, line_end, nodes_journal, start_read, journal_text, journal_of, tree_of}
+use Rattle.fs_script.specs.Headers.{started_header}
+use Rattle.fs_script.specs.Journals.{is_told, opening, ends_line, line_end, nodes_journal, start_read, journal_text, journal_of, tree_of}
 use Rattle.fs_script.proofs.JournalLemmas.{reads_journals_back}
 
 -- bytes with the end of a line behind them end with it

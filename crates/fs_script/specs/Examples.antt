@@ -3,10 +3,10 @@ use Rattle.std.specs.Prelude.{◌≡◌, ℕ, ◌^◌, ◌-◌, [], ◌∷◌, �
 use Prim.Native.String.{String}
 use Rattle.fs_names.specs.Reading.{names}
 use Rattle.fs_names.specs.Keys.{Key}
-use Rattle.fs_names.specs.declared.limits.Limits.TheVariants.{V1, V2}
+use Rattle.fs_names.specs.declared.limits.Limits.TheVariants.{V1, V2, V3}
 use Rattle.fs_names.specs.declared.fault.PathFault.TheVariants.{Nul, TrailingSlash}
-use Rattle.fs_calls.specs.declared.call.Call.TheVariants.{Mkdir, Mknod, Unlink, Rmdir, Rename, Stat, Readdir, Read, Write, Truncate}
-use Rattle.fs_calls.specs.declared.reply.Reply.TheVariants.{Done}
+use Rattle.fs_calls.specs.declared.call.Call.TheVariants.{Mkdir, Mknod, Unlink, Rmdir, Rename, Stat, Readdir, ListAfter, Read, Write, Truncate}
+use Rattle.fs_calls.specs.declared.reply.Reply.TheVariants.{Done, Names}
 use Rattle.fs_calls.specs.Tree.{Tree}
 use Rattle.fs_calls.specs.Starts.{Start, root_start}
 use Rattle.fs_calls.specs.Outcomes.{play}
@@ -34,9 +34,12 @@ FaultOf lines line kind = script lines ≡ Err (fault_at line kind)
 
 pub record ScriptFaults : Type 0 where
   pub empty : script_of [] ≡ Err (fault_at 1 BadHeader)
-  pub other_header : script_of (codes "atomfs 3\n") ≡ Err (fault_at 1 BadHeader)
+  pub other_header : script_of (codes "atomfs 4\n") ≡ Err (fault_at 1 BadHeader)
   pub spaced_second : script_of (codes "atomfs 2 \n") ≡ Err (fault_at 1 BadHeader)
   pub second_unended : script_of (codes "atomfs 2\n") ≡ Err (fault_at 2 NoSchedule)
+  pub third_unended : script_of (codes "atomfs 3\n") ≡ Err (fault_at 2 NoSchedule)
+  pub list_in_the_second : script_of (codes "atomfs 2\nthread t\nlist / / 1\nschedule\n") ≡ Err (fault_at 3 BadLine)
+  pub few_words_of_a_list : script_of (codes "atomfs 3\nthread t\nlist / 1\nschedule\n") ≡ Err (fault_at 3 BadLine)
   pub spaced_header : script_of (codes "atomfs 1 \n") ≡ Err (fault_at 1 BadHeader)
   pub upper_thread : FaultOf "thread T\n" 2 BadThread
   pub thread_finish : FaultOf "thread finish\n" 2 BadThread
@@ -67,6 +70,8 @@ pub record ScriptFaults : Type 0 where
 pub record ScriptsRead : Type 0 where
   pub empty_script : script "schedule\n" ≡ Ok (record { names = []; lists = []; words = []; limits = V1 })
   pub second_version : script_of (codes "atomfs 2\nschedule\n") ≡ Ok (record { names = []; lists = []; words = []; limits = V2 })
+  pub third_version : script_of (codes "atomfs 3\nthread t\nlist /d /d/x 3\nlist / / 256\nschedule\n")
+      ≡ Ok (record { names = codes "t" ∷ []; lists = (ListAfter (at "/d") (at "/d/x") 3 ∷ ListAfter [] [] 256 ∷ []) ∷ []; words = []; limits = V3 })
   pub first_mkdir : script "thread t\nmkdir /a\nschedule\nt*5\n"
       ≡ Ok (record { names = codes "t" ∷ []; lists = (Mkdir (at "/a") ∷ []) ∷ []; words = Events 0 5 ∷ []; limits = V1 })
   pub helped_mkdir : script "thread m\nmkdir /a\nmkdir /a/d\nmkdir /a/d/x\nthread r\nrename /a /b\nschedule\nm*18 r*6 m*3\n"
@@ -112,6 +117,7 @@ pub record JournalTexts : Type 0 where
   pub from_a_directory : journal_text (record { limits = V1; tree = play (root_start V1) (Mkdir (at "/a") ∷ []) }) (Begin 1 0 (Mkdir (at "/a/b")) ∷ Commit 1 ∷ Return 1 Done ∷ [])
       ≡ codes "atomfs-journal 2\nstart\ndir /\ndir /a\nentries\nbegin 1 0 mkdir /a/b\ncommit 1\nreturn 1 ok\n"
   pub by_the_second : journal_text (root_start V2) (Begin 1 0 (Mkdir (at "/a")) ∷ Commit 1 ∷ Return 1 Done ∷ []) ≡ codes "atomfs-journal 3\nstart\ndir /\nentries\nbegin 1 0 mkdir /a\ncommit 1\nreturn 1 ok\n"
+  pub by_the_third : journal_text (root_start V3) (Begin 1 0 (ListAfter (at "/") (at "/x") 2) ∷ Commit 1 ∷ Return 1 (Names (codes "y" ∷ [])) ∷ []) ≡ codes "atomfs-journal 4\nstart\ndir /\nentries\nbegin 1 0 list / /x 2\ncommit 1\nreturn 1 names y\n"
   pub from_a_file : journal_text small_start [] ≡ codes "atomfs-journal 2\nstart\ndir /\ndir /a\nfile /a/f 6869\ndir /b%20c\nentries\n"
 
 -- the lines behind the header of a journal that tells its start tree, read; and the fault of a line of that
@@ -144,13 +150,16 @@ pub record StartFaults : Type 0 where
   pub second_entries : started "start\ndir /\nentries\nentries\n" ≡ Err (fault_at 5 BadLine)
   pub third_alone : journal_of (codes "atomfs-journal 3\n") ≡ Err (fault_at 2 BadStart)
   pub third_without_start : journal_of (codes "atomfs-journal 3\ncommit 1\n") ≡ Err (fault_at 2 BadStart)
-  pub other_version : journal_of (codes "atomfs-journal 4\n") ≡ Err (fault_at 1 BadHeader)
+  pub fourth_without_start : journal_of (codes "atomfs-journal 4\ncommit 1\n") ≡ Err (fault_at 2 BadStart)
+  pub list_in_the_third : journal_of (codes "atomfs-journal 3\nstart\ndir /\nentries\nbegin 1 0 list / / 1\n") ≡ Err (fault_at 5 BadLine)
+  pub other_version : journal_of (codes "atomfs-journal 5\n") ≡ Err (fault_at 1 BadHeader)
   pub first_version_alone : entries_of (codes "atomfs-journal 2\nstart\ndir /\nentries\n") ≡ Err (fault_at 1 BadHeader)
 
 pub record JournalsRead : Type 0 where
   pub root_alone : started "start\ndir /\nentries" ≡ Ok (root_start V1, [])
   pub first_version : journal_of (codes "atomfs-journal 1\ncommit 1\n") ≡ Ok (root_start V1, Commit 1 ∷ [])
   pub third_version : journal_of (codes "atomfs-journal 3\nstart\ndir /\nentries\ncommit 1\n") ≡ Ok (root_start V2, Commit 1 ∷ [])
+  pub fourth_version : journal_of (codes "atomfs-journal 4\nstart\ndir /\nentries\nbegin 1 0 list / /x 2\ncommit 1\n") ≡ Ok (root_start V3, Begin 1 0 (ListAfter [] (at "/x") 2) ∷ Commit 1 ∷ [])
   pub small : started "\nstart\n# a\ndir /\ndir /a\n\nfile /a/f 6869\ndir /b%20c\nentries\n\ncommit 1\ntree\nno  entry" ≡ Ok (small_start, Commit 1 ∷ [])
 
 pub record TreeTexts : Type 0 where

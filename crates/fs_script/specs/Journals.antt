@@ -1,11 +1,11 @@
--- Journals that start at a tree, by either set of limits: how one is written, and what reading one gives.
-use Rattle.std.specs.Prelude.{ℕ, ◌+◌, ◌-◌, slice_index, take, drop, Bool, true, not, ◌==◌, List, [], ◌∷◌, ◌++◌, length, Result, Ok, Err, if◌then◌else◌, codes}
+-- Journals that start at a tree, by each set of limits: how one is written, and what reading one gives.
+use Rattle.std.specs.Prelude.{ℕ, ◌+◌, ◌-◌, slice_index, take, drop, Bool, true, not, ◌==◌, List, [], ◌∷◌, ◌++◌, length, Result, Ok, Err, Option, Some, None, if◌then◌else◌, codes}
 use Rattle.std.specs.List.{flat_map, join_with_byte, slice_split}
 use Rattle.std.specs.Str.{bytes_eq}
 use Rattle.fs_names.specs.Keys.{Key}
 use Rattle.fs_names.specs.Limits.{same_limits}
 use Rattle.fs_names.specs.declared.limits.Limits.{Limits}
-use Rattle.fs_names.specs.declared.limits.Limits.TheVariants.{V1, V2}
+use Rattle.fs_names.specs.declared.limits.Limits.TheVariants.{V1}
 use Rattle.fs_names.specs.Reading.{is_slash}
 use Rattle.fs_names.specs.declared.kind.Kind.{Kind}
 use Rattle.fs_names.specs.declared.kind.Kind.TheVariants.{Dir, File}
@@ -13,26 +13,22 @@ use Rattle.fs_calls.specs.Tree.{Tree, root_tree}
 use Rattle.fs_calls.specs.Starts.{Start, root_start}
 use Rattle.fs_timeline.specs.declared.entry.Entry.{Entry}
 use Rattle.fs_seq.specs.Rows.{node_of_kind, fits_at}
-use Rattle.fs_words.specs.Lines.{lines_of, is_passed_over}
+use Rattle.fs_words.specs.Lines.{is_passed_over}
 use Rattle.fs_words.specs.Words.{Word}
-use Rattle.fs_words.specs.Reading.{◌>>=◌, hex_at, words_of, fault_at, first_is, behind_first, behind_header}
+use Rattle.fs_words.specs.Reading.{◌>>=◌, hex_at, words_of, fault_at, behind_first, headed}
 use Rattle.fs_words.specs.declared.fault.ScriptFault.{ScriptFault}
 use Rattle.fs_words.specs.declared.fault.FaultKind.{FaultKind}
 use Rattle.fs_words.specs.declared.fault.FaultKind.TheVariants as kind
 use Rattle.fs_text.specs.Journal.{journal_header, entry_line, names_at, entries_from, entries_of}
+use Rattle.fs_script.specs.Headers.{started_header, announced}
 use Rattle.fs_script.specs.TreeText.{node_words, node_line}
 
 -- ---- written
 
--- the first line of a journal that tells its start tree, by the limits that it announces
-abbrev pub started_header : Limits → List ℕ
-started_header V1 = codes "atomfs-journal 2"
-started_header V2 = codes "atomfs-journal 3"
-
--- whether a start tree of so many nodes is told: by the first limits where it is more than the root alone, by the second always
+-- whether a start tree of so many nodes is told: by the first limits where it is more than the root alone, by all others always
 abbrev pub is_told : Limits → ℕ → Bool
 is_told V1 nodes = not (nodes == 1)
-is_told V2 nodes = true
+is_told limits nodes = true
 
 -- what stands before the entries
 unfoldable pub opening : Start → List ℕ
@@ -97,16 +93,22 @@ behind_line wanted read n (line ∷ more) =
     if is_passed_over line then behind_line wanted read (n + 1) more
     else (if bytes_eq line wanted then read (n + 1) more else Err (fault_at n kind.BadStart))
 
--- what a text tells behind the header that announces a start tree and these limits; behind another header it tells something else
-abbrev pub started_or : Limits → List ℕ → Read → Read
-started_or limits text other =
-    if first_is (started_header limits) (lines_of text)
-    then (behind_header (started_header limits) text >>= behind_line (codes "start") (behind_line (codes "dir /") (started_from limits root_tree)) 2)
-    else other
+-- what the lines tell behind the header that announces a start tree and these limits
+abbrev pub started_lines : Limits → List (List ℕ) → Read
+started_lines limits lines = behind_line (codes "start") (behind_line (codes "dir /") (started_from limits root_tree)) 2 lines
+
+-- what a text tells with lines behind one that announces these limits and a start tree; where it announces none the text starts at the root
+abbrev pub announced_journal : List ℕ → Option Limits → List (List ℕ) → Read
+announced_journal text None lines = with_start (root_start V1) (entries_of text)
+announced_journal text (Some limits) lines = started_lines limits lines
+
+-- what a text tells with this first line, and these behind it
+abbrev pub journal_behind : List ℕ → List ℕ × List (List ℕ) → Read
+journal_behind text (first, lines) = announced_journal text (announced started_header first) lines
 
 -- what reading a journal text gives, of any version: its start, and its entries
 unfoldable pub journal_of : List ℕ → Read
-journal_of text = started_or V2 text (started_or V1 text (with_start (root_start V1) (entries_of text)))
+journal_of text = headed text >>= journal_behind text
 
 -- ---- a tree alone
 

@@ -1,4 +1,5 @@
 pub mod Limits
+pub mod Headers
 pub mod Script
 pub mod TreeText
 pub mod Journals

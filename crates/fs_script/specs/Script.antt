@@ -3,11 +3,10 @@ use Rattle.std.specs.Prelude.{ℕ, ◌+◌, Bool, true, false, not, ◌&&◌, �
 use Rattle.std.specs.List.{list_all, list_any}
 use Rattle.std.specs.Str.{bytes_eq}
 use Rattle.fs_names.specs.declared.limits.Limits.{Limits}
-use Rattle.fs_names.specs.declared.limits.Limits.TheVariants.{V1, V2}
 use Rattle.fs_calls.specs.declared.call.Call.{Call}
-use Rattle.fs_words.specs.Lines.{lines_of, is_passed_over}
+use Rattle.fs_words.specs.Lines.{is_passed_over}
 use Rattle.fs_words.specs.Words.{Word, number_of}
-use Rattle.fs_words.specs.Reading.{◌>>=◌, words_of, fault_at, at_line, first_is, behind_header}
+use Rattle.fs_words.specs.Reading.{◌>>=◌, words_of, fault_at, at_line, headed}
 use Rattle.fs_text.specs.Calls.{call_of}
 use Rattle.fs_script.specs.declared.limits.TheConstants.{THREAD_LIMIT, CALL_LIMIT, EVENT_LIMIT, THREAD_NAME_LIMIT}
 use Rattle.fs_words.specs.declared.fault.ScriptFault.{ScriptFault}
@@ -16,6 +15,7 @@ use Rattle.fs_words.specs.declared.fault.FaultKind.TheVariants as kind
 use Rattle.fs_script.specs.declared.script.Script.{Script}
 use Rattle.fs_script.specs.declared.script.Word as schedule
 use Rattle.fs_script.specs.declared.script.Word.TheVariants.{Events, Finish, Checkpoint}
+use Rattle.fs_script.specs.Headers.{script_header, announced}
 use Rattle.fs_script.specs.Limits.{calls_in, events_in}
 
 -- ---- threads
@@ -140,19 +140,19 @@ blocks_from n s (line ∷ more) =
     else (if bytes_eq line (codes "schedule") then schedule_from (n + 1) s more
     else (at_line n (words_of line >>= block_line s) >>= λ t. blocks_from (n + 1) t more))
 
--- the first line, by the limits that it announces
-abbrev pub script_header : Limits → List ℕ
-script_header V1 = codes "atomfs 1"
-script_header V2 = codes "atomfs 2"
-
 -- the script before its lines are read, by these limits
 abbrev pub nothing_yet : Limits → Script
 nothing_yet limits = record { names = []; lists = []; words = []; limits = limits }
 
--- what reading a script text gives behind the header of these limits
-abbrev pub script_by : Limits → List ℕ → Result Script ScriptFault
-script_by limits text = behind_header (script_header limits) text >>= blocks_from 2 (nothing_yet limits)
+-- what lines give behind one that announces these limits, or none
+abbrev pub announced_script : Option Limits → List (List ℕ) → Result Script ScriptFault
+announced_script None lines = Err (fault_at 1 kind.BadHeader)
+announced_script (Some limits) lines = blocks_from 2 (nothing_yet limits) lines
 
--- what reading a script text gives: its header announces the limits
+-- what a first line and those behind it give
+abbrev pub script_behind : List ℕ × List (List ℕ) → Result Script ScriptFault
+script_behind (first, lines) = announced_script (announced script_header first) lines
+
+-- what reading a script text gives
 unfoldable pub script_of : List ℕ → Result Script ScriptFault
-script_of text = if first_is (script_header V2) (lines_of text) then script_by V2 text else script_by V1 text
+script_of text = headed text >>= script_behind

@@ -12,10 +12,11 @@ ghost use Rattle.fs_words.specs.Reading.{behind_first};
 ghost use Rattle.fs_words.specs.code.Answers.{Gives, GivesText};
 ghost use Rattle.fs_text.specs.Journal.{names_at, entries_of};
 ghost use Rattle.fs_script.specs.TreeText.{node_words};
-ghost use Rattle.fs_script.specs.Journals.{key_at, file_at, node_at, node_in_line, with_start, started_from, behind_line, started_or, journal_of};
+ghost use Rattle.fs_script.specs.Journals.{key_at, file_at, node_at, node_in_line, with_start, started_from, behind_line, journal_of};
 ghost use Rattle.fs_script.specs.code.Starts.{node_of_row, IsToldBy, Expects, AreTaken, read_end, IsRootAlone, AreNumbered, MakesTree, journal_seen};
 
 use crate::node_line::push_row;
+use crate::opening::started_limits;
 use fs_names::{Kind, Limits, Name};
 use fs_seq::{NotTree, Row, SeqTree};
 use fs_text::{entries_in, names_at, read_entries};
@@ -334,25 +335,19 @@ fn from_root(alloc: Global, text: &[u8]) -> Result<Journal, ScriptFault>
     }
 }
 
-/// The journal of a text of the first version or the second, which have the first set of limits.
-fn by_first_limits(alloc: Global, text: &[u8]) -> Result<Journal, ScriptFault>
-    ensures read { GivesText journal_seen result (started_or V1 text.now (with_start (root_start V1) (entries_of text.now))) }
-    ensures within { IfOk result (λ journal. IsWithinLimits journal.start.limits journal.start.tree) }
-{
-    match Lines::behind_header(text, b"atomfs-journal 2") {
-        Ok(lines) => started(alloc, Limits::V1, lines),
-        Err(_) => from_root(alloc, text),
-    }
-}
-
 /// Reads a journal of any version, with its start tree, which is within its limits. The fault is the first from the left, with
 /// its line.
+#[tactic(auto, unfolding(crate::specs::Journals::journal_of))]
 pub fn read_journal(alloc: Global, text: &[u8]) -> Result<Journal, ScriptFault>
     ensures read { GivesText journal_seen result (journal_of text.now) }
     ensures within { IfOk result (λ journal. IsWithinLimits journal.start.limits journal.start.tree) }
 {
-    match Lines::behind_header(text, b"atomfs-journal 3") {
-        Ok(lines) => started(alloc, Limits::V2, lines),
-        Err(_) => by_first_limits(alloc, text),
+    let (first, lines) = match Lines::behind_first(text) {
+        Ok(both) => both,
+        Err(fault) => return Err(fault),
+    };
+    match started_limits(first) {
+        Some(limits) => started(alloc, limits, lines),
+        None => from_root(alloc, text),
     }
 }

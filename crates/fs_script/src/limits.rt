@@ -1,5 +1,10 @@
 //! The limits of scripts, each named in this one place; that of the text is `fs_words::limits::TEXT_LIMIT`.
 
+use fs_names::Limits;
+
+/// The sets of limits that texts announce.
+pub const SETS: [Limits; 3] = [Limits::V1, Limits::V2, Limits::V3];
+
 /// The most threads that a script has.
 pub const THREAD_LIMIT: usize = 256;
 

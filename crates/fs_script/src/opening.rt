@@ -6,13 +6,16 @@ ghost use Rattle.fs_names.specs.Limits.{largest};
 ghost use Rattle.fs_seq.specs.Rows.{row_of};
 ghost use Rattle.fs_script.specs.TreeText.{node_line};
 ghost use Rattle.fs_script.specs.Laws.{FitsNode};
-ghost use Rattle.fs_script.specs.Journals.{started_header, is_told, opening};
+ghost use Rattle.fs_script.specs.Headers.{started_header, announced};
+ghost use Rattle.fs_script.specs.Journals.{is_told, opening};
 
+use crate::limits::SETS;
 use crate::node_line::push_row;
 use fs_names::Limits;
 use fs_seq::{Row, SeqTree};
 use fs_words::Addition;
 use fs_words::addition::put_back;
+use fs_words::words::is_word;
 use std::alloc::{AllocError, Global};
 use std::mem;
 
@@ -36,7 +39,16 @@ pub(crate) fn started_header(limits: Limits) -> &'static [u8]
     match limits {
         Limits::V1 => b"atomfs-journal 2",
         Limits::V2 => b"atomfs-journal 3",
+        Limits::V3 => b"atomfs-journal 4",
     }
+}
+
+/// The limits of which a line is the first one of such a journal.
+pub(crate) fn started_limits(line: &[u8]) -> Option<Limits>
+    ensures { result ≡ announced started_header line.now }
+{
+    SETS.into_iter()
+        .find(|limits| is_word(line, started_header(*limits)))
 }
 
 /// Whether a journal tells a start tree of so many nodes.
@@ -45,7 +57,7 @@ fn is_told(limits: Limits, nodes: usize) -> bool
 {
     match limits {
         Limits::V1 => nodes != 1,
-        Limits::V2 => true,
+        Limits::V2 | Limits::V3 => true,
     }
 }
 
@@ -66,9 +78,9 @@ fn push_opening(alloc: Global, start: &SeqTree, line: &mut Addition) -> Result<(
 }
 
 /// Appends what stands before the entries of a journal that starts at this tree: its header, and where the tree is more than
-/// the root alone or keeps the second set of limits, a line `start`, the lines of its nodes as in the text of a tree, and a
-/// line `entries`. An `Err`, which is out of memory, leaves the text as it was. The names and bytes that it writes are such
-/// that they are read back, where the names keep the limit of the tree.
+/// the root alone or keeps another set of limits than the first, a line `start`, the lines of its nodes as in the text of a
+/// tree, and a line `entries`. An `Err`, which is out of memory, leaves the text as it was. The names and bytes that it
+/// writes are such that they are read back, where the names keep the limit of the tree.
 pub fn write_opening(alloc: Global, start: &SeqTree, text: &mut Vec<u8>) -> Result<(), AllocError>
     ensures ok { OnOk result (text.new.items ≡ text.old.items ++ opening start.now) }
     ensures err { OnErr result (text.new.items ≡ text.old.items) }

@@ -2,14 +2,16 @@
 
 ghost use Rattle.std.specs.Prelude.{◌≡◌, codes, not, ◌&&◌};
 ghost use Rattle.std.specs.Str.{bytes_eq};
-ghost use Rattle.fs_script.specs.Script.{nothing_yet, blocks_from, script_by, script_of};
-ghost use Rattle.fs_names.specs.declared.limits.Limits.TheVariants.{V1};
+ghost use Rattle.fs_script.specs.Headers.{script_header, announced};
+ghost use Rattle.fs_script.specs.Script.{nothing_yet, blocks_from, script_of};
 ghost use Rattle.fs_words.specs.code.Answers.{GivesText};
 
 use crate::draft::Draft;
+use crate::limits::SETS;
 use crate::script::Script;
 use fs_names::Limits;
 use fs_words::recent::Recent;
+use fs_words::words::is_word;
 use fs_words::{FaultKind, Lines, ScriptFault};
 use std::alloc::Global;
 
@@ -50,19 +52,36 @@ fn script_in(alloc: Global, limits: Limits, lines: Lines<'_>) -> Result<Script, 
     Ok(draft.script)
 }
 
-/// The script of a text of the first version.
-fn by_first_limits(alloc: Global, text: &[u8]) -> Result<Script, ScriptFault>
-    ensures { GivesText (λ script. script) result (script_by V1 text.now) }
+/// The first line of a script.
+fn script_header(limits: Limits) -> &'static [u8]
+    ensures { result.now ≡ script_header limits }
 {
-    script_in(alloc, Limits::V1, Lines::behind_header(text, b"atomfs 1")?)
+    match limits {
+        Limits::V1 => b"atomfs 1",
+        Limits::V2 => b"atomfs 2",
+        Limits::V3 => b"atomfs 3",
+    }
 }
 
-/// Reads a script of either version. The fault is the first from the left, with its line.
+/// The limits of which a line is the first one of a script.
+fn script_limits(line: &[u8]) -> Option<Limits>
+    ensures { result ≡ announced script_header line.now }
+{
+    SETS.into_iter()
+        .find(|limits| is_word(line, script_header(*limits)))
+}
+
+/// Reads a script of any version. The fault is the first from the left, with its line.
+#[tactic(auto, unfolding(crate::specs::Script::script_of))]
 pub fn read_script(alloc: Global, text: &[u8]) -> Result<Script, ScriptFault>
     ensures { GivesText (λ script. script) result (script_of text.now) }
 {
-    match Lines::behind_header(text, b"atomfs 2") {
-        Ok(lines) => script_in(alloc, Limits::V2, lines),
-        Err(_) => by_first_limits(alloc, text),
+    let (first, lines) = Lines::behind_first(text)?;
+    match script_limits(first) {
+        Some(limits) => script_in(alloc, limits, lines),
+        None => Err(ScriptFault {
+            line: 1,
+            kind: FaultKind::BadHeader,
+        }),
     }
 }

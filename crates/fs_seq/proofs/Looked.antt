@@ -15,6 +15,7 @@ use Rattle.fs_names.specs.Failures.{or_else}
 use Rattle.fs_calls.specs.Rows.{node_fault, node_reply}
 use Rattle.fs_slab.specs.code.Slots.{Place, Dir, File, Slots, place_at, links_of, shape_of, walk, tree_of, IsForest}
 use Rattle.fs_seq.specs.code.Effects.{IsFound, node_error}
+use Rattle.fs_slab.proofs.NodeLemmas.{rising_got}
 use Rattle.fs_slab.proofs.Resolving.{resolution_walked, seen_at}
 
 -- the first error of a call on a node whose path leads nowhere
@@ -27,7 +28,7 @@ error_there g c p n at forest w placed = λ i. node_fault c (resolution_walked g
 
 -- a node on which a call works, where the row has no error
 pub is_found : (g : Slots) (c : NodeCall) (p : Key) (n : ℕ) (at : Place) → IsForest g → walk g p ≡ Some n → place_at g n ≡ Some at → node_fault c None (shape_of (Some at)) ≡ None → IsFound (tree_of g) c p at
-is_found g c p n at forest w placed sound = record { sound = error_there g c p n at forest w placed ∙ sound; shape = seen_at g p n forest w ∙ ap shape_of placed }
+is_found g c p n at forest w placed sound = record { sound = error_there g c p n at forest w placed ∙ sound; shape = seen_at g p n forest w ∙ ap shape_of placed; rising = rising_got g n (Some at) (links_of (Some at)) (forest.rising n) placed refl }
 
 module _ (limits : Limits) (call : Call) (c : NodeCall) (p : Key) (on_node : form limits call ≡ AtNode c p) (t : Tree) where
   -- the first error of a call on a node

@@ -8,9 +8,9 @@
 //! entries or tells the first that no tree within the limits has there (`specs/Rows.antt`, with a law in `laws`). Its limits
 //! say whether files are in blocks, which copies of a tree share, or in one vector each.
 //!
-//! Enter at `SeqTree::new`, or at `SeqTree::with_limits` for either set of limits, and at `SeqTree::apply`. What a call
+//! Enter at `SeqTree::new`, or at `SeqTree::with_limits` for any set of limits, and at `SeqTree::apply`. What a call
 //! replies and leaves is defined in `fs_calls`, whose types are handed on here. The modules are by calls: `queries` (stat,
-//! readdir, read), `create`, `remove`, `rename`, `exchange` and `write`, and by what is done to whole trees: `rows` and
+//! readdir, list, read), `create`, `remove`, `rename`, `exchange` and `write`, and by what is done to whole trees: `rows` and
 //! `from_rows`, over the slab of nodes of `fs_slab`. `specs/code/` serves the code, and changes no meaning.
 #![tactic(auto)]
 

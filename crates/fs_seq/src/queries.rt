@@ -1,6 +1,9 @@
 //! The calls that change nothing: what stands at a path.
 
-ghost use Rattle.std.specs.Prelude.{◌≡◌, ◌≢◌, Some, MatchResult, IfOk, OnOk, OnErr, IsTrue, map, take, drop};
+ghost use Rattle.std.specs.Prelude.{◌≡◌, ◌≢◌, Some, MatchResult, IfOk, OnOk, OnErr, IsTrue, min, map, take, drop};
+ghost use Rattle.std.specs.FinMap.{is_sorted};
+ghost use Rattle.fs_names.specs.Names.{name_cmp, names_above};
+ghost use Rattle.fs_names.specs.Keys.{last_of};
 ghost use Rattle.fs_names.specs.declared.limits.Limits.{Limits};
 ghost use Rattle.fs_names.specs.declared.limits.Limits.TheVariants.{V1};
 ghost use Rattle.fs_calls.specs.Outcomes.{reply};
@@ -8,17 +11,18 @@ ghost use Rattle.fs_calls.specs.Sights.{has_any, bytes_of};
 ghost use Rattle.fs_calls.specs.code.Targets.{node_call};
 ghost use Rattle.fs_slab.specs.code.Nodes.{graph, pairs, place};
 ghost use Rattle.fs_slab.specs.code.Slots.{IsForest, shape_of, tree_of};
+ghost use Rattle.fs_seq.specs.Memory.{needs_memory};
 ghost use Rattle.fs_seq.specs.code.Effects.{IsFound, NeedsMemory, node_error};
 
 use fs_calls::{Bytes, Call, Errno, NameList, NodeCall, Reply};
 use fs_memory::Memory;
-use fs_names::{Kind, Limits, Path};
-use fs_slab::nodes::resolve;
+use fs_names::{Kind, LIST_LIMIT, Limits, Path};
+use fs_slab::nodes::{above, resolve};
 use fs_slab::{Link, Node};
 use slab::Slab;
 use std::alloc::{AllocError, Global};
 
-/// The node on which a call works at a path, or the call's first error. No limit decides a call here.
+/// The node on which a call works at a path, or the call's first error. No limit decides an error here.
 fn find<'a>(nodes: &'a Slab<Node>, path: &Path, call: NodeCall<'_>) -> Result<&'a Node, Errno>
     requires { IsForest (graph nodes.now) }
     ensures { MatchResult result
@@ -62,7 +66,7 @@ fn names_of(alloc: Global, memory: &mut Memory, links: &[Link]) -> Result<NameLi
     Ok(NameList::new(names))
 }
 
-/// All names of a directory, in byte order.
+/// All names of a directory, in byte order, where they are no more than a call answers.
 pub fn readdir(
     alloc: Global,
     memory: &mut Memory,
@@ -79,6 +83,50 @@ pub fn readdir(
         Err(errno) => Ok(Reply::Failed(errno)),
         Ok(node) => {
             let names = names_of(alloc, memory, node.links())?;
+            Ok(Reply::Names(names))
+        }
+    }
+}
+
+/// The bytes of a path's last name; the root has none.
+fn last_bytes(path: &Path) -> &[u8]
+    ensures { result.now ≡ last_of path.now }
+{
+    if path.is_empty() {
+        return &[];
+    }
+    path.last_name().bytes()
+}
+
+/// The links of which a list tells the names: those above a path's last name, and no more than a count.
+fn piece<'a>(links: &'a [Link], after: &Path, count: u64) -> &'a [Link]
+    requires { IsTrue (is_sorted name_cmp (pairs links.now)) }
+    ensures { map (λ l. l.0) (pairs result.now) ≡ take (min count LIST_LIMIT) (names_above (last_of after.now) (map (λ l. l.0) (pairs links.now))) }
+{
+    let rest = above(links, last_bytes(after));
+    let most = count.min(LIST_LIMIT as u64) as usize;
+    &rest[..most.min(rest.len())]
+}
+
+/// Names of a directory above a path's last name, in byte order, and no more than a count.
+pub fn list(
+    alloc: Global,
+    memory: &mut Memory,
+    nodes: &Slab<Node>,
+    path: &Path,
+    after: &Path,
+    count: u64,
+) -> Result<Reply, AllocError>
+    requires { IsForest (graph nodes.now) }
+    ensures reply { IfOk result (λ r. (limits : Limits) → r ≡ reply limits (tree_of (graph nodes.now)) (Call.ListAfter path.now after.now count)) }
+    ensures memory { OnErr result (NeedsMemory (tree_of (graph nodes.now)) (Call.ListAfter path.now after.now count)) }
+    ensures granted { OnOk result (memory.new ≡ memory.old) }
+    ensures refused { OnErr result (memory.new ≢ memory.old) }
+{
+    match find(nodes, path, NodeCall::ListAfter(after, count)) {
+        Err(errno) => Ok(Reply::Failed(errno)),
+        Ok(node) => {
+            let names = names_of(alloc, memory, piece(node.links(), after, count))?;
             Ok(Reply::Names(names))
         }
     }
@@ -103,7 +151,7 @@ fn copied(
     Ok(Bytes::new(copy))
 }
 
-/// The bytes of a file from an offset on, and no more than a count.
+/// The bytes of a file from an offset on, no more than a count, and no more than a read answers by these limits.
 pub fn read(
     alloc: Global,
     memory: &mut Memory,
@@ -111,17 +159,19 @@ pub fn read(
     path: &Path,
     off: u64,
     count: u64,
+    limits: Limits,
 ) -> Result<Reply, AllocError>
     requires { IsForest (graph nodes.now) }
-    ensures reply { IfOk result (λ r. (limits : Limits) → r ≡ reply limits (tree_of (graph nodes.now)) (Call.Read path.now off count)) }
-    ensures memory { OnErr result (NeedsMemory (tree_of (graph nodes.now)) (Call.Read path.now off count)) }
+    ensures reply { IfOk result (λ r. r ≡ reply limits (tree_of (graph nodes.now)) (Call.Read path.now off count)) }
+    ensures memory { OnErr result (IsTrue (needs_memory limits (tree_of (graph nodes.now)) (Call.Read path.now off count))) }
     ensures granted { OnOk result (memory.new ≡ memory.old) }
     ensures refused { OnErr result (memory.new ≢ memory.old) }
 {
     match find(nodes, path, NodeCall::Read(off, count)) {
         Err(errno) => Ok(Reply::Failed(errno)),
         Ok(node) => {
-            let copy = copied(alloc, memory, node, off, count)?;
+            let most = count.min(limits.read() as u64);
+            let copy = copied(alloc, memory, node, off, most)?;
             Ok(Reply::Bytes(copy))
         }
     }

@@ -153,7 +153,7 @@ impl SeqTree {
             Call::Rmdir(path) => Ok(self.rmdir(path)),
             Call::Rename(from, to) => self.rename(alloc, memory, from, to),
             Call::Exchange(path, other) => Ok(self.exchange(path, other)),
-            Call::Stat(_) | Call::Readdir(_) | Call::Read(_, _, _) => {
+            Call::Stat(_) | Call::Readdir(_) | Call::ListAfter(_, _, _) | Call::Read(_, _, _) => {
                 self.look_counted(alloc, memory, call)
             }
             Call::Write(path, off, bytes) => self.write(alloc, memory, path, *off, bytes),
@@ -161,7 +161,7 @@ impl SeqTree {
         }
     }
 
-    /// The reply of a call that changes nothing: a stat, a readdir or a read. It is the reply that `apply` gives; a call
+    /// The reply of a call that changes nothing: a stat, a readdir, a list or a read. It is the reply that `apply` gives; a call
     /// that needs to allocate nothing never fails.
     pub fn look(&self, alloc: Global, call: &Call) -> Result<Reply, AllocError>
         requires { IsTrue (is_look call.now) }
@@ -187,6 +187,7 @@ impl SeqTree {
         match call {
             Call::Stat(path) => Ok(self.stat(path)),
             Call::Readdir(path) => self.readdir(alloc, memory, path),
+            Call::ListAfter(path, after, count) => self.list(alloc, memory, path, after, *count),
             Call::Read(path, off, count) => self.read(alloc, memory, path, *off, *count),
             Call::Mkdir(_) | Call::Mknod(_) | Call::Unlink(_) | Call::Rmdir(_) => unreachable!(),
             Call::Rename(_, _) | Call::Exchange(_, _) => unreachable!(),
@@ -279,6 +280,22 @@ impl SeqTree {
         queries::readdir(alloc, memory, &self.nodes, path)
     }
 
+    fn list(
+        &self,
+        alloc: Global,
+        memory: &mut Memory,
+        path: &Path,
+        after: &Path,
+        count: u64,
+    ) -> Result<Reply, AllocError>
+        ensures reply { IfOk result (λ r. r ≡ reply_at self.now (Call.ListAfter path.now after.now count)) }
+        ensures memory { OnErr result (IsTrue (needs_memory self.now.limits self.now.tree (Call.ListAfter path.now after.now count))) }
+        ensures granted { OnOk result (memory.new ≡ memory.old) }
+        ensures refused { OnErr result (memory.new ≢ memory.old) }
+    {
+        queries::list(alloc, memory, &self.nodes, path, after, count)
+    }
+
     fn read(
         &self,
         alloc: Global,
@@ -292,7 +309,7 @@ impl SeqTree {
         ensures granted { OnOk result (memory.new ≡ memory.old) }
         ensures refused { OnErr result (memory.new ≢ memory.old) }
     {
-        queries::read(alloc, memory, &self.nodes, path, off, count)
+        queries::read(alloc, memory, &self.nodes, path, off, count, self.limits)
     }
 
     fn write(

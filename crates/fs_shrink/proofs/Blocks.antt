@@ -1,25 +1,24 @@
 -- A script with some of its calls and words is read again.
-use Rattle.std.proofs.Common.{◌≡◌, ℕ, ◌+◌, ◌<◌, ◌≤◌, Bool, true, false, cond, ltb, not, List, [], ◌∷◌, ◌++◌, length, drop, get_or, Result, Ok, Err, refl, sym, ap, subst, ◌∙◌, codes, arith}
-use Rattle.std.specs.Prelude.{nat_le, nat_lt, ◌==◌}
+use Rattle.std.proofs.Common.{◌≡◌, ℕ, ◌+◌, ◌<◌, ◌≤◌, Bool, true, false, cond, not, List, [], ◌∷◌, ◌++◌, length, drop, get_or, Ok, Err, refl, sym, ap, subst, ◌∙◌, codes, arith}
+use Rattle.std.specs.Prelude.{nat_le, ◌==◌}
 use Rattle.std.specs.List.{list_any}
 use Rattle.std.specs.Str.{bytes_eq}
 use Rattle.std.proofs.lemmas.Bool.{cond-true, cond-false}
 use Rattle.std.proofs.lemmas.Bool.Decides.{nat_tests}
 use Rattle.std.proofs.lemmas.List.{drop-drop}
 use Rattle.fs_names.specs.declared.limits.Limits.{Limits}
-use Rattle.fs_names.specs.declared.limits.Limits.TheVariants.{V1, V2}
 use Rattle.fs_calls.specs.declared.call.Call.{Call}
 use Rattle.fs_words.specs.Lines.{is_passed_over, lines_of}
 use Rattle.fs_words.specs.Words as words
-use Rattle.fs_words.specs.Reading.{◌>>=◌, words_of, fault_at, at_line, first_is, behind_first}
-use Rattle.fs_words.specs.declared.fault.ScriptFault.{ScriptFault}
+use Rattle.fs_words.specs.Reading.{◌>>=◌, words_of, fault_at, at_line}
 use Rattle.fs_words.specs.declared.fault.FaultKind.TheVariants as kind
 use Rattle.fs_text.specs.Calls.{call_of}
 use Rattle.fs_script.specs.Limits.{calls_in}
-use Rattle.fs_script.specs.Script.{is_thread, with_call, with_thread, new_thread, thread_line, new_call, call_line, block_line, schedule_from, blocks_from, nothing_yet, script_header, script_of}
+use Rattle.fs_script.specs.Script.{is_thread, with_call, with_thread, new_thread, thread_line, new_call, call_line, block_line, schedule_from, blocks_from, nothing_yet, script_of}
 use Rattle.fs_script.specs.declared.limits.TheConstants.{THREAD_LIMIT, CALL_LIMIT}
 use Rattle.fs_script.specs.declared.script.Script.{Script}
 use Rattle.fs_script.specs.declared.script.Word.{Word}
+use Rattle.fs_script.proofs.HeaderLemmas.{script_in, short_script, lines_read, headed_script, again}
 use Rattle.fs_script.proofs.LimitLemmas.{calls_thread, calls_more}
 use Rattle.fs_shrink.specs.Kept.{picked, kept_lists, kept_script}
 use Rattle.fs_shrink.specs.code.Thinning.{read_words, begins_block, call_kept, words_thinned, blocks_thinned, thinned}
@@ -275,48 +274,13 @@ blocks_again ks n k s script (line ∷ more) are none e = blocks_step ks n k s s
 
 -- ---- the whole text
 
--- what is read of a text by limits, by its lines
-abbrev read_by : Limits → Bool → List (List ℕ) → Result Script ScriptFault
-read_by limits long lines = cond {A = Result (List (List ℕ)) ScriptFault} long (Err (fault_at 1 kind.TooLarge)) (cond {A = Result (List (List ℕ)) ScriptFault} (first_is (script_header limits) lines) (Ok (behind_first lines)) (Err (fault_at 1 kind.BadHeader))) >>= blocks_from 2 (nothing_yet limits)
-
-abbrev read_lines : Bool → List (List ℕ) → Result Script ScriptFault
-read_lines long lines = cond (first_is (script_header V2) lines) (read_by V2 long lines) (read_by V1 long lines)
-
-by_lines : (text : List ℕ) → script_of text ≡ read_lines (nat_lt 16777216 (length text)) (lines_of text)
-unfolding script_of
-by_lines text = refl
-
-long_fails : (lines : List (List ℕ)) (script : Script) → read_lines true lines ≡ Ok script → ⊥
-long_fails lines script e = go (first_is (script_header V2) lines) refl
-  where
-    go : (b : Bool) → first_is (script_header V2) lines ≡ b → ⊥
-    go true t = no_ok (fault_at 1 kind.TooLarge) script (sym (cond-true _ _ _ t) ∙ e)
-    go false f = no_ok (fault_at 1 kind.TooLarge) script (sym (cond-false _ _ _ f) ∙ e)
-
-lines_read : (text : List ℕ) (script : Script) → script_of text ≡ Ok script → read_lines false (lines_of text) ≡ Ok script
-lines_read text script is = go (nat_lt 16777216 (length text)) (sym (by_lines text) ∙ is)
-  where
-    go : (long : Bool) → read_lines long (lines_of text) ≡ Ok script → read_lines false (lines_of text) ≡ Ok script
-    go true e = absurd (long_fails (lines_of text) script e)
-    go false e = e
-
-headed : (ks : List Bool) (lines : List (List ℕ)) (script : Script) → read_lines false lines ≡ Ok script → read_lines false (thinned ks lines) ≡ Ok (kept_script ks script)
+headed : (ks : List Bool) (lines : List (List ℕ)) (script : Script) → script_in lines ≡ Ok script → script_in (thinned ks lines) ≡ Ok (kept_script ks script)
 headed ks [] script is = absurd (no_ok (fault_at 1 kind.BadHeader) script is)
-headed ks (first ∷ rest) script is = go (bytes_eq first (script_header V2)) (bytes_eq first (script_header V1)) refl refl
-  where
-    go : (second one : Bool) → bytes_eq first (script_header V2) ≡ second → bytes_eq first (script_header V1) ≡ one → read_lines false (first ∷ blocks_thinned ks rest) ≡ Ok (kept_script ks script)
-    go true one t o =
-        let again : (more : List (List ℕ)) → read_lines false (first ∷ more) ≡ blocks_from 2 (nothing_yet V2) more = λ more. cond-true _ _ _ t ∙ ap (λ r. r >>= blocks_from 2 (nothing_yet V2)) (cond-true _ _ _ t) in
-        again (blocks_thinned ks rest) ∙ blocks_again ks 2 2 (nothing_yet V2) script rest tt refl (sym (again rest) ∙ is)
-    go false true t o =
-        let again : (more : List (List ℕ)) → read_lines false (first ∷ more) ≡ blocks_from 2 (nothing_yet V1) more = λ more. cond-false _ _ _ t ∙ ap (λ r. r >>= blocks_from 2 (nothing_yet V1)) (cond-true _ _ _ o) in
-        again (blocks_thinned ks rest) ∙ blocks_again ks 2 2 (nothing_yet V1) script rest tt refl (sym (again rest) ∙ is)
-    go false false t o = absurd (no_ok (fault_at 1 kind.BadHeader) script (sym (cond-false _ _ _ t ∙ ap (λ r. r >>= blocks_from 2 (nothing_yet V1)) (cond-false _ _ _ o)) ∙ is))
-
-not_long : (n : ℕ) → n ≤ 16777216 → ltb 16777216 n ≡ false
-not_long n h = grind (arith, nat_tests)
+headed ks (first ∷ rest) script is =
+    let h = headed_script first rest script is in
+    again h.limits first h.announces (blocks_thinned ks rest) ∙ blocks_again ks 2 2 (nothing_yet h.limits) script rest tt refl h.read
 
 -- a text with some lines of a script is read as the script with the calls and words of these
 pub thinned_again : (input made : List ℕ) (script : Script) (ks : List Bool) → script_of input ≡ Ok script → lines_of made ≡ thinned ks (lines_of input) → length made ≤ 16777216 → script_of made ≡ Ok (kept_script ks script)
 thinned_again input made script ks is lines short =
-    by_lines made ∙ ap (λ b. read_lines b (lines_of made)) (not_long (length made) short) ∙ ap (read_lines false) lines ∙ headed ks (lines_of input) script (lines_read input script is)
+    short_script made short ∙ ap script_in lines ∙ headed ks (lines_of input) script (lines_read input script is)

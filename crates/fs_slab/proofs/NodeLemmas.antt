@@ -1,12 +1,10 @@
 -- The nodes of a slab, and the graph that they are.
-use Rattle.std.proofs.Common.{◌≡◌, ℕ, zero, suc, ◌+◌, ◌<◌, ◌≢◌, true, false, nat_eq, List, [], ◌∷◌, ◌++◌, length, map, take, drop, get_or, slice_get, Some, None, Option, is_some, IsSome, IsTrue, refl, sym, ap, subst, ◌∙◌, arith}
+use Rattle.std.proofs.Common.{◌≡◌, ℕ, zero, suc, ◌+◌, ◌<◌, true, List, [], ◌∷◌, ◌++◌, length, map, take, drop, get_or, slice_get, Some, None, Option, is_some, IsSome, IsTrue, refl, sym, ap, subst, ◌∙◌, arith}
 use Rattle.std.specs.FinMap.{find, is_sorted}
-use Rattle.std.proofs.lemmas.Bool.Decides.{nat_tests}
 use Rattle.slab.specs.Slab.{Slab, get}
 use Rattle.fs_blocks.specs.Files.{FileValue}
 use Rattle.fs_names.specs.Names.{Name, name_cmp}
 use Rattle.fs_names.specs.Keys.{Key, parent_of, last_of}
-use Rattle.fs_names.specs.Shapes.{has_any}
 use Rattle.fs_calls.specs.declared.errno.Errno.TheVariants.{Enoent, Enotdir}
 use Rattle.fs_slab.specs.declared.nodes.Link.{Link}
 use Rattle.fs_slab.specs.declared.nodes.Node.{Node}
@@ -127,13 +125,3 @@ pub parent_and_last : (p : Key) → 0 < length p → p ≡ parent_of p ++ last_o
 parent_and_last [] h = absurd (omega arith)
 parent_and_last (x ∷ []) h = refl
 parent_and_last (x ∷ y ∷ p) h = ap (λ z. x ∷ z) (parent_and_last (y ∷ p) (omega arith))
-
--- links of which there are none
-pub no_links : (links : List Link) (n : ℕ) → n ≡ length links → nat_eq n 0 ≡ true → links ≡ []
-no_links [] n e h = refl
-no_links (l ∷ links) n e h = absurd (let none : n ≡ 0 = grind (arith, nat_tests) in omega arith)
-
--- links of which there are some
-pub some_links : (links : List Link) (n : ℕ) → n ≡ length links → nat_eq n 0 ≡ false → has_any (map (λ l. l.0) (pairs links)) ≡ true
-some_links [] n e h = absurd (let some : n ≢ 0 = grind (arith, nat_tests) in some e)
-some_links (l ∷ links) n e h = refl

@@ -1,10 +1,12 @@
 -- What a binary search finds among links whose names rise.
-use Rattle.std.proofs.Common.{◌≡◌, ℕ, zero, suc, ◌<◌, ◌≤◌, Bool, true, false, cond, not, ◌&&◌, List, [], ◌∷◌, length, get_or, Some, Option, Result, Ok, Err, refl, sym, ap, subst, ◌∙◌, arith, T, Ordering, Less, Equal, Greater}
+use Rattle.std.proofs.Common.{◌≡◌, ℕ, zero, suc, ◌<◌, ◌≤◌, Bool, true, false, cond, not, ◌&&◌, List, [], ◌∷◌, length, map, drop, leb, get_or, Some, Option, Result, Ok, Err, refl, sym, ap, subst, ◌∙◌, arith, T, Ordering, Less, Equal, Greater}
 use Rattle.std.specs.Ordering.{is_eq, is_lt, ordering_index, ordering_reverse}
-use Rattle.std.specs.List.Sorted.{IsNonDecreasingBy, IsBinarySearchResult, IsSearchInRange}
+use Rattle.std.specs.List.{AllWithin}
+use Rattle.std.specs.List.Sorted.{IsNonDecreasingBy, IsPartitionedBy, IsBinarySearchResult, IsSearchInRange}
+use Rattle.std.proofs.lemmas.List.Sorted.{IsPartitionedBy-leb}
 use Rattle.std.specs.FinMap.{find, put, is_sorted}
 use Rattle.std.specs.FinMap.Entries.{by_order, below_all}
-use Rattle.fs_names.specs.Names.{Name, name_cmp, same_name}
+use Rattle.fs_names.specs.Names.{Name, name_cmp, same_name, names_above}
 use Rattle.fs_names.proofs.Lemmas.{name_total, name_exact, same_name_refl}
 use Rattle.fs_slab.specs.declared.nodes.Link.{Link}
 use Rattle.fs_slab.specs.code.Nodes.{pair, pairs, without, IsNameAt, BelongsAt, Searches}
@@ -153,3 +155,47 @@ searched x links (Ok i) sorted range at = in_place x links i (true_T _ sorted) r
 searched x links (Err i) sorted range at =
     let cut = at (searchable x links (true_T _ sorted)) in
     parted x links i (record { lower = λ k d h. cut.0 k d (omega arith) h; higher = λ k d h g. cut.1 k d h g; within = range })
+
+-- ---- names above a name
+
+-- whether a link's name is not above one
+abbrev pub is_within : Name → Link → Bool
+is_within x l = not (is_lt (name_cmp x l.name))
+
+-- an order is not less the other way round where its number is at most one
+up_to_one : (o : Ordering) → not (is_lt (ordering_reverse o)) ≡ leb (ordering_index o) 1
+up_to_one Less = refl
+up_to_one Equal = refl
+up_to_one Greater = refl
+
+within_index : (x y : Name) → not (is_lt (name_cmp x y)) ≡ leb (ordering_index (name_cmp y x)) 1
+within_index x y = ap (λ o. not (is_lt o)) (turned x y _ refl) ∙ up_to_one (name_cmp y x)
+
+-- of rising names those that are not above one come first
+pub parts : (x : Name) (links : List Link) → is_sorted name_cmp (pairs links) ≡ true → IsPartitionedBy (is_within x) links
+parts x links sorted i j d le h within =
+    within_index x (get_or links i d).name
+    ∙ IsPartitionedBy-leb (λ (l : Link). ordering_index (name_cmp l.name x)) links 1 (searchable x links (true_T _ sorted)) i j d le h (sym (within_index x (get_or links j d).name) ∙ within)
+
+-- a name that is not above another, and one that is
+abbrev Kept : Name → Name → List Name → Bool → List Name
+Kept x y names within = cond {A = List Name} within names (y ∷ names)
+
+kept : (x y : Name) (names : List Name) (b : Bool) → not (is_lt (name_cmp x y)) ≡ b → names_above x (y ∷ names) ≡ Kept x y (names_above x names) b
+kept x y names b e = go (is_lt (name_cmp x y)) b e
+  where
+    go : (a b : Bool) → not a ≡ b → cond {A = List Name} a (y ∷ names_above x names) (names_above x names) ≡ Kept x y (names_above x names) b
+    go true b e = ap (Kept x y (names_above x names)) e
+    go false b e = ap (Kept x y (names_above x names)) e
+
+-- the names behind the place up to which none is above a name are those above it
+pub past : (x : Name) (links : List Link) (i : ℕ) → AllWithin (λ l. is_within x l ≡ true) links 0 i → AllWithin (λ l. is_within x l ≡ false) links i (length links)
+    → map (λ l. l.0) (pairs (drop i links)) ≡ names_above x (map (λ l. l.0) (pairs links))
+past x [] zero before behind = refl
+past x [] (suc i) before behind = refl
+past x (l ∷ links) zero before behind =
+    ap (λ z. l.name ∷ z) (past x links zero (λ k d h g. absurd (omega arith)) (λ k d h g. behind (suc k) d (omega arith) (omega arith)))
+    ∙ sym (kept x l.name (map (λ k. k.0) (pairs links)) false (behind 0 l (omega arith) (omega arith)))
+past x (l ∷ links) (suc i) before behind =
+    past x links i (λ k d h g. before (suc k) d (omega arith) (omega arith)) (λ k d h g. behind (suc k) d (omega arith) (omega arith))
+    ∙ sym (kept x l.name (map (λ k. k.0) (pairs links)) true (before 0 l (omega arith) (omega arith)))

@@ -1,6 +1,7 @@
 //! Names of entries, apart from the entries.
 
 ghost use Rattle.std.specs.Prelude.{◌≡◌, ◌≢◌, IfOk, OnOk, OnErr};
+ghost use Rattle.std.specs.Ordering.{is_lt};
 ghost use Rattle.fs_names.specs.Names.{name_cmp};
 
 use fs_memory::Memory;
@@ -54,6 +55,13 @@ impl HeldName {
         ensures { result ≡ name_cmp self.now name.now }
     {
         self.name().cmp(name)
+    }
+
+    /// Whether it is above these bytes in byte order, as each name is above no bytes.
+    pub fn is_above(&self, bytes: &[u8]) -> bool
+        ensures { result ≡ is_lt (name_cmp bytes.now self.now) }
+    {
+        self.name().is_above(bytes)
     }
 }
 

@@ -1,9 +1,10 @@
 //! Nodes in a slab, walks along names, and the entries of directories.
 
-ghost use Rattle.std.specs.Prelude.{◌≡◌, ◌≢◌, ◌<◌, ◌≤◌, ◌+◌, ◌++◌, Some, IfSome, IsTrue, OnOk, OnErr, length, take, drop, insert, remove, vec_len, vec_capacity};
+ghost use Rattle.std.specs.Prelude.{◌≡◌, ◌≢◌, ◌<◌, ◌≤◌, ◌+◌, ◌++◌, List, Some, IfSome, IsTrue, OnOk, OnErr, length, map, take, drop, insert, remove, vec_len, vec_capacity};
 ghost use Rattle.std.specs.FinMap.{is_sorted};
 ghost use Rattle.slab.specs.Slab.{ContainsKey, HasRoomFor};
-ghost use Rattle.fs_names.specs.Names.{name_cmp};
+ghost use Rattle.fs_names.specs.Names.{Name, name_cmp, names_above};
+ghost use Rattle.fs_names.specs.Shapes as shapes;
 ghost use Rattle.fs_calls.specs.Sights.{bytes_of};
 ghost use Rattle.fs_calls.specs.code.Seen.{sight};
 ghost use Rattle.fs_slab.specs.code.Nodes.{pair, pairs, place, graph, Searches, Steps, Resolves, LooksUp, number_there, shape_there, place_there, entry_there, full_there};
@@ -15,7 +16,7 @@ use fs_calls::ranges::is_full;
 use fs_calls::rows::step_error;
 use fs_calls::{Errno, Sight};
 use fs_memory::Memory;
-use fs_names::{Name, Path};
+use fs_names::{LIST_LIMIT, Name, Path};
 use slab::Slab;
 use std::alloc::AllocError;
 
@@ -49,6 +50,19 @@ pub enum Spot {
     Free(usize, usize, usize),
 }
 
+/// What the rows of errors see of a directory with so many entries.
+fn sight_of_dir(entries: usize) -> Sight
+    ensures { (names : List Name) → entries ≡ length names → result ≡ sight (Some (shapes.Dir names)) }
+{
+    if entries == 0 {
+        Sight::EmptyDir
+    } else if entries <= LIST_LIMIT {
+        Sight::Dir
+    } else {
+        Sight::CrowdedDir
+    }
+}
+
 impl Node {
     /// What the rows of errors see of it.
     pub fn sight(&self) -> Sight
@@ -56,13 +70,7 @@ impl Node {
     {
         match self {
             Node::File(_) => Sight::File,
-            Node::Dir(links) => {
-                if links.is_empty() {
-                    Sight::EmptyDir
-                } else {
-                    Sight::Dir
-                }
-            }
+            Node::Dir(links) => sight_of_dir(links.len()),
         }
     }
 
@@ -152,11 +160,21 @@ impl Spot {
 }
 
 /// Where a name stands among the links, or where it belongs.
+#[inline]
 pub fn search(links: &[Link], name: &Name) -> Result<usize, usize>
     requires { IsTrue (is_sorted name_cmp (pairs links.now)) }
     ensures { Searches (pairs links.now) name.now result }
 {
     links.binary_search_by(|link| link.name.cmp(name))
+}
+
+/// The links whose names are above these bytes, which are all links where there are no bytes.
+pub fn above<'a>(links: &'a [Link], bytes: &[u8]) -> &'a [Link]
+    requires { IsTrue (is_sorted name_cmp (pairs links.now)) }
+    ensures { map (λ l. l.0) (pairs result.now) ≡ names_above bytes.now (map (λ l. l.0) (pairs links.now)) }
+{
+    let from = links.partition_point(|link| !link.name.is_above(bytes));
+    &links[from..]
 }
 
 /// The number to which a name leads from a node.

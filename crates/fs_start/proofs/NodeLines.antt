@@ -7,25 +7,27 @@ use Rattle.std.proofs.lemmas.List.Splits.{slice_split-cons_yes, slice_split-cons
 use Rattle.std.proofs.lemmas.Option.{slice_get-get_or}
 use Rattle.std.proofs.lemmas.Slice.Eq.{bytes_eq-Decides}
 use Rattle.std.proofs.Math.Seq.{get_or-append_seam}
-use Rattle.std.specs.Prelude.{take, drop, ◌==◌}
+use Rattle.std.specs.Prelude.{nat_lt, take, drop, ◌==◌, Option, Some, None}
 use Rattle.std.specs.List.{slice_split, onto_first}
 use Rattle.std.specs.Str.{bytes_eq}
 use Rattle.fs_names.specs.Limits.{same_limits, node_limit}
 use Rattle.fs_names.specs.declared.limits.Limits.{Limits}
-use Rattle.fs_names.specs.declared.limits.Limits.TheVariants.{V1, V2}
+use Rattle.fs_names.specs.declared.limits.Limits.TheVariants.{V1, V2, V3}
 use Rattle.fs_names.proofs.LimitLemmas.{some_nodes}
 use Rattle.fs_calls.specs.Tree.{Tree, root_tree}
 use Rattle.fs_calls.specs.Starts.{Start, root_start}
 use Rattle.fs_timeline.specs.declared.entry.Entry.{Entry}
 use Rattle.fs_seq.specs.Rows.{node_of_kind, fits_at}
 use Rattle.fs_words.specs.Lines.{is_line_feed, without_last_empty, lines_of, is_passed_over}
-use Rattle.fs_words.specs.Reading.{◌>>=◌, fault_at, first_is, behind_first, behind_header}
+use Rattle.fs_words.specs.Reading.{◌>>=◌, fault_at, first_line}
 use Rattle.fs_words.specs.declared.fault.FaultKind.TheVariants as kind
 use Rattle.fs_words.specs.declared.fault.ScriptFault.{ScriptFault}
 use Rattle.fs_text.specs.Journal.{entries_from, entries_of}
 use Rattle.fs_text.proofs.ReadNames.{Given, given_then, given_is}
-use Rattle.fs_script.specs.Journals.{Read, node_in_line, grown, in_start, with_start, started_from, behind_line, started_header, started_or, journal_of, ends_line, line_end, nodes_journal, start_read, by_limits, start_of}
+use Rattle.fs_script.specs.Headers.{started_header, announced}
+use Rattle.fs_script.specs.Journals.{Read, node_in_line, grown, in_start, with_start, started_from, behind_line, announced_journal, journal_behind, journal_of, ends_line, line_end, nodes_journal, start_read, by_limits, start_of}
 use Rattle.fs_start.specs.Faults.{told_lines, lines_before, IsNodeTooMany}
+use Rattle.fs_script.proofs.HeaderLemmas.{announced_is}
 use Rattle.fs_script.proofs.StartNames.{any_then, placed, cut}
 
 -- ---- lines that tell something
@@ -128,35 +130,32 @@ lines_most limits = behind_most (codes "start") _ 2 refl (behind_most (codes "di
 told_header : (limits : Limits) → is_passed_over (started_header limits) ≡ false
 told_header V1 = refl
 told_header V2 = refl
-
-first_told : (limits : Limits) (lines : List (List ℕ)) → first_is (started_header limits) lines ≡ true → told lines ≡ 1 + told (behind_first lines)
-first_told limits [] e = absurd (let z : ◌≡◌ {A = Bool} false true = e in cc)
-first_told limits (line ∷ more) e = told_one line more (is_other line (started_header limits) (told_header limits) e)
-
-started_most : (limits : Limits) (text : List ℕ) → first_is (started_header limits) (lines_of text) ≡ true → Given (Bounds 3 (told (lines_of text))) (behind_header (started_header limits) text >>= behind_line (codes "start") (behind_line (codes "dir /") (started_from limits root_tree)) 2)
-started_most limits text first = by _ _ _ _ (lines_most limits 2 (behind_first (lines_of text)))
-  where
-    by : (b c : Bool) (f g : ScriptFault) → Given (Bounds 3 (1 + told (behind_first (lines_of text)))) (behind_line (codes "start") (behind_line (codes "dir /") (started_from limits root_tree)) 2 (behind_first (lines_of text)))
-        → Given (Bounds 3 (told (lines_of text))) (cond b (Err f) (cond c (Ok (behind_first (lines_of text))) (Err g)) >>= behind_line (codes "start") (behind_line (codes "dir /") (started_from limits root_tree)) 2)
-    by true c f g h = tt
-    by false true f g h = let one : told (lines_of text) ≡ 1 + told (behind_first (lines_of text)) = first_told limits (lines_of text) first in weaker (Bounds 3 (1 + told (behind_first (lines_of text)))) (Bounds 3 (told (lines_of text))) _ (λ read few. omega (arith, few, one)) h
-    by false false f g h = tt
+told_header V3 = refl
 
 -- more nodes than the root are read only of a text that has so many lines
 abbrev Many : List ℕ → Start × List Entry → Type 0
 Many text read = 1 < length read.0.tree → Bounds 3 (told (lines_of text)) read
 
-started_many : (limits : Limits) (text : List ℕ) (other : Read) → Given (Many text) other → Given (Many text) (started_or limits text other)
-started_many limits text other h =
-    either_by (Many text) (first_is (started_header limits) (lines_of text)) _ _ (λ first. weaker (Bounds 3 (told (lines_of text))) (Many text) _ (λ read few many. few) (started_most limits text first)) (λ first. h)
-
 root_many : (text : List ℕ) (entries : Result (List Entry) ScriptFault) → Given (Many text) (with_start (root_start V1) entries)
 root_many text (Ok es) = λ many. absurd (let h : 1 < 1 = many in omega (arith, h))
 root_many text (Err f) = tt
 
+announced_many : (text first : List ℕ) (more : List (List ℕ)) (limits : Option Limits) → lines_of text ≡ first ∷ more → announced started_header first ≡ limits → Given (Many text) (announced_journal text limits more)
+announced_many text first more None are is = root_many text (entries_of text)
+announced_many text first more (Some limits) are is =
+    let other : is_passed_over first ≡ false = ap is_passed_over (announced_is started_header first limits is) ∙ told_header limits in
+    let one : told (lines_of text) ≡ 1 + told more = ap told are ∙ told_one first more other in
+    weaker (Bounds 3 (1 + told more)) (Many text) _ (λ read few many. omega (arith, few, one)) (lines_most limits 2 more)
+
 journal_many : (text : List ℕ) → Given (Many text) (journal_of text)
 unfolding journal_of
-journal_many text = started_many V2 text _ (started_many V1 text _ (root_many text (entries_of text)))
+journal_many text = by (nat_lt 16777216 (length text)) (lines_of text) refl
+  where
+    by : (long : Bool) (lines : List (List ℕ)) → lines_of text ≡ lines
+        → Given (Many text) (cond {A = Result (List ℕ × List (List ℕ)) ScriptFault} long (Err (fault_at 1 kind.TooLarge)) (first_line lines) >>= journal_behind text)
+    by true lines are = tt
+    by false [] are = tt
+    by false (first ∷ more) are = announced_many text first more (announced started_header first) are refl
 
 -- ---- the text of a tree alone
 

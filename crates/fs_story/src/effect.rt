@@ -70,7 +70,9 @@ fn of_done(call: &Call, before: &Reply) -> Effect {
         Call::Exchange(_, _) => of_exchange(call),
         Call::Truncate(_, size) => of_truncate(*size, before),
         Call::Write(_, _, _) => Effect::Changes,
-        Call::Stat(_) | Call::Readdir(_) | Call::Read(_, _, _) => Effect::Answers,
+        Call::Stat(_) | Call::Readdir(_) | Call::ListAfter(_, _, _) | Call::Read(_, _, _) => {
+            Effect::Answers
+        }
     }
 }
 

@@ -81,7 +81,7 @@ pub(crate) fn add_names(
     Ok(longer.kept())
 }
 
-/// The paths of a call: of one that has one path, that path twice.
+/// The paths of the nodes of a call: of one that has one, that path twice.
 pub(crate) fn paths_of(call: &Call) -> (&Path, &Path) {
     match call {
         Call::Rename(from, to) => (from, to),
@@ -92,6 +92,7 @@ pub(crate) fn paths_of(call: &Call) -> (&Path, &Path) {
         | Call::Rmdir(path)
         | Call::Stat(path)
         | Call::Readdir(path)
+        | Call::ListAfter(path, _, _)
         | Call::Read(path, _, _)
         | Call::Write(path, _, _)
         | Call::Truncate(path, _) => (path, path),

@@ -1,6 +1,7 @@
 -- Entries that were written behind the header are read again.
 use Rattle.std.proofs.Common.{◌≡◌, ℕ, ◌+◌, ◌<◌, ◌≤◌, true, false, ltb, List, [], ◌∷◌, ◌++◌, length, map, refl, ap, ◌∙◌, arith, rules, codes, Ok, Err, decimal}
-use Rattle.std.specs.Prelude.{zero, suc, if◌then◌else◌}
+use Rattle.std.specs.Prelude.{zero, suc, if◌then◌else◌, IsTrue, Some}
+use Rattle.std.specs.Str.{bytes_eq}
 use Rattle.std.specs.List.{flat_map, AllByRecursion, join_with_byte}
 use Rattle.std.proofs.lemmas.List.Elements.{All-from_recursion}
 use Rattle.std.proofs.lemmas.Bool.{cond-true, cond-false, le-leb}
@@ -10,6 +11,7 @@ use Rattle.percent_encoding.specs.Percent.{percent_decode}
 use Rattle.hex.specs.Hex.{IsBytes}
 use Rattle.fs_names.specs.Names.{AreBytes, IsName}
 use Rattle.fs_names.specs.Keys.{Key}
+use Rattle.fs_names.specs.Limits.{has_list}
 use Rattle.fs_names.specs.declared.limits.Limits.TheVariants.{V1}
 use Rattle.fs_names.specs.declared.kind.Kind.{Kind}
 use Rattle.fs_names.specs.declared.kind.Kind.TheVariants.{Dir, File}
@@ -24,8 +26,8 @@ use Rattle.fs_timeline.specs.declared.entry.Entry.{Entry}
 use Rattle.fs_timeline.specs.declared.entry.Entry.TheVariants.{Begin, Commit, Return}
 use Rattle.fs_words.specs.Lines.{lines_of, pieces_of, has_empty, is_passed_over}
 use Rattle.fs_words.specs.Words.{hex_word, escaped, path_word}
-use Rattle.fs_words.specs.Reading.{◌>>=◌, or_fault, or_bad_path, path_at, number_at, hex_at, name_at, read_name, words_of, fault_at, at_line, first_is, behind_first}
-use Rattle.fs_text.specs.Calls.{call_words, call_of, has_call_form}
+use Rattle.fs_words.specs.Reading.{◌>>=◌, or_fault, or_bad_path, path_at, number_at, hex_at, name_at, read_name, words_of, fault_at, at_line, first_line}
+use Rattle.fs_text.specs.Calls.{call_words, call_of, paths_and_number, list_form, formed_call, is_formed, has_call_form}
 use Rattle.fs_text.specs.Journal.{kind_word, errno_word, reply_words, entry_words, entry_line, journal_header, journal_text, names_at, reply_of, entry_of, return_of, is_tree_line, entries_from, entries_of}
 use Rattle.fs_words.specs.declared.fault.FaultKind.TheVariants as kind
 use Rattle.fs_text.specs.Fits.{FitsName, FitsPath, IsU64, FitsCall, FitsReply, FitsEntry, AllFit}
@@ -60,6 +62,9 @@ hex_read bs h = ap (or_fault kind.BadHex) (hex_again bs (byte_at bs h))
 
 -- ---- a call
 
+list_formed : (limits : Limits) → IsTrue (has_list limits) → list_form limits ≡ Some (paths_and_number call.ListAfter)
+list_formed limits has = cond-true _ _ _ has
+
 call_again : (limits : Limits) (c : Call) → FitsCall limits c → call_of limits (call_words c) ≡ Ok c
 unfolding call_of
 call_again limits (call.Mkdir p) h = ap (λ r. r >>= λ key. Ok (call.Mkdir key)) (path_read limits p h)
@@ -70,6 +75,9 @@ call_again limits (call.Rename p q) h = rw (path_read limits p h.0, path_read li
 call_again limits (call.Exchange p q) h = rw (path_read limits p h.0, path_read limits q h.1) refl
 call_again limits (call.Stat p) h = ap (λ r. r >>= λ key. Ok (call.Stat key)) (path_read limits p h)
 call_again limits (call.Readdir p) h = ap (λ r. r >>= λ key. Ok (call.Readdir key)) (path_read limits p h)
+call_again limits (call.ListAfter p after count) h =
+    ap (λ o. formed_call limits o (path_word p ∷ path_word after ∷ decimal count ∷ [])) (list_formed limits h.3)
+    ∙ rw (path_read limits p h.0, path_read limits after h.1, number_read count h.2) refl
 call_again limits (call.Read p off count) h = rw (path_read limits p h.0, number_read off h.1, number_read count h.2) refl
 call_again limits (call.Write p off file) h = rw (path_read limits p h.0, number_read off h.1, hex_read file h.2) refl
 call_again limits (call.Truncate p size) h = rw (path_read limits p h.0, number_read size h.1) refl
@@ -106,6 +114,7 @@ failed_again limits errno.Ebusy = refl
 failed_again limits errno.Eperm = refl
 failed_again limits errno.Enospc = refl
 failed_again limits errno.Efbig = refl
+failed_again limits errno.Eoverflow = refl
 
 reply_again : (limits : Limits) (r : Reply) → FitsReply limits r → reply_of limits (reply_words r) ≡ Ok r
 unfolding reply_of
@@ -118,7 +127,7 @@ reply_again limits (reply.Failed e) h = failed_again limits e
 
 -- ---- an entry
 
-begun_again : (limits : Limits) (c s : ℕ) (x : Call) → IsU64 c → IsU64 s → FitsCall limits x → has_call_form (call_words x) ≡ true → entry_of limits (entry_words (Begin c s x)) ≡ Ok (Begin c s x)
+begun_again : (limits : Limits) (c s : ℕ) (x : Call) → IsU64 c → IsU64 s → FitsCall limits x → has_call_form limits (call_words x) ≡ true → entry_of limits (entry_words (Begin c s x)) ≡ Ok (Begin c s x)
 unfolding entry_of
 begun_again limits c s x hc hs h form =
     cond-true _ _ _ form
@@ -126,18 +135,19 @@ begun_again limits c s x hc hs h form =
     ∙ ap (λ r. r >>= λ seat. call_of limits (call_words x) >>= λ found. Ok (Begin c seat found)) (number_read s hs)
     ∙ ap (λ r. r >>= λ found. Ok (Begin c s found)) (call_again limits x h)
 
-form_again : (x : Call) → has_call_form (call_words x) ≡ true
-form_again (call.Mkdir p) = refl
-form_again (call.Mknod p) = refl
-form_again (call.Unlink p) = refl
-form_again (call.Rmdir p) = refl
-form_again (call.Rename p q) = refl
-form_again (call.Exchange p q) = refl
-form_again (call.Stat p) = refl
-form_again (call.Readdir p) = refl
-form_again (call.Read p off count) = refl
-form_again (call.Write p off file) = refl
-form_again (call.Truncate p size) = refl
+form_again : (limits : Limits) (x : Call) → FitsCall limits x → has_call_form limits (call_words x) ≡ true
+form_again limits (call.Mkdir p) h = refl
+form_again limits (call.Mknod p) h = refl
+form_again limits (call.Unlink p) h = refl
+form_again limits (call.Rmdir p) h = refl
+form_again limits (call.Rename p q) h = refl
+form_again limits (call.Exchange p q) h = refl
+form_again limits (call.Stat p) h = refl
+form_again limits (call.Readdir p) h = refl
+form_again limits (call.ListAfter p after count) h = ap (λ o. is_formed o (path_word p ∷ path_word after ∷ decimal count ∷ [])) (list_formed limits h.3)
+form_again limits (call.Read p off count) h = refl
+form_again limits (call.Write p off file) h = refl
+form_again limits (call.Truncate p size) h = refl
 
 returned_again : (limits : Limits) (c : ℕ) (first : List ℕ) (more : List (List ℕ)) (r : Reply) → IsU64 c → reply_of limits (first ∷ more) ≡ Ok r → return_of limits (decimal c ∷ first ∷ more) ≡ Ok (Return c r)
 returned_again limits c first more r hc e =
@@ -155,7 +165,7 @@ return_again limits c (reply.Failed x) hc e = returned_again limits c (codes "fa
 
 pub entry_again : (limits : Limits) (e : Entry) → FitsEntry limits e → entry_of limits (entry_words e) ≡ Ok e
 unfolding entry_of
-entry_again limits (Begin c s x) h = begun_again limits c s x h.0 h.1 h.2 (form_again x)
+entry_again limits (Begin c s x) h = begun_again limits c s x h.0 h.1 h.2 (form_again limits x h.2)
 entry_again limits (Commit c) h = ap (λ r. r >>= λ n. Ok (Commit n)) (number_read c h)
 entry_again limits (Return c r) h = return_again limits c r h.0 (reply_again limits r h.1)
 
@@ -176,6 +186,7 @@ call_good limits (call.Rename p q) h = (literal (codes "rename") (search rules) 
 call_good limits (call.Exchange p q) h = (literal (codes "exchange") (search rules) (search rules), (IsWord_path p, (IsWord_path q, tt)))
 call_good limits (call.Stat p) h = (literal (codes "stat") (search rules) (search rules), (IsWord_path p, tt))
 call_good limits (call.Readdir p) h = (literal (codes "readdir") (search rules) (search rules), (IsWord_path p, tt))
+call_good limits (call.ListAfter p after count) h = (literal (codes "list") (search rules) (search rules), (IsWord_path p, (IsWord_path after, (IsWord_decimal count h.2, tt))))
 call_good limits (call.Read p off count) h = (literal (codes "read") (search rules) (search rules), (IsWord_path p, (IsWord_decimal off h.1, (IsWord_decimal count h.2, tt))))
 call_good limits (call.Write p off file) h = (literal (codes "write") (search rules) (search rules), (IsWord_path p, (IsWord_decimal off h.1, (IsWord_hex file h.2, tt))))
 call_good limits (call.Truncate p size) h = (literal (codes "truncate") (search rules) (search rules), (IsWord_path p, (IsWord_decimal size h.1, tt)))
@@ -195,6 +206,7 @@ errno_good errno.Ebusy = literal (codes "EBUSY") (search rules) (search rules)
 errno_good errno.Eperm = literal (codes "EPERM") (search rules) (search rules)
 errno_good errno.Enospc = literal (codes "ENOSPC") (search rules) (search rules)
 errno_good errno.Efbig = literal (codes "EFBIG") (search rules) (search rules)
+errno_good errno.Eoverflow = literal (codes "EOVERFLOW") (search rules) (search rules)
 
 names_good : (limits : Limits) (ns : List (List ℕ)) → AllByRecursion (FitsName limits) ns → Words (map escaped ns)
 names_good limits [] h = tt
@@ -275,8 +287,8 @@ pub journal_again : (es : List Entry) → AllFit V1 es → length (journal_text 
 unfolding entries_of
 journal_again es h short =
     ap (λ r. r >>= entries_from V1 2)
-    (cond-false _ _ _ (not_above (length (journal_text es)) short)
-    ∙ ap (λ ls. if first_is journal_header ls then Ok (behind_first ls) else Err (fault_at 1 kind.BadHeader)) (journal_lines V1 es h))
+    (ap (λ r. r >>= λ f. if bytes_eq f.0 journal_header then Ok (f.1) else Err (fault_at 1 kind.BadHeader))
+    (cond-false _ _ _ (not_above (length (journal_text es)) short) ∙ ap first_line (journal_lines V1 es h)))
     ∙ lines_again V1 2 es h
 
 pub reads_back : ReadsBack

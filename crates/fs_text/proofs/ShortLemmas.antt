@@ -1,7 +1,9 @@
 -- What fits, and has few and short names, fits smaller limits.
 use Rattle.std.proofs.Common.{List, [], ◌∷◌}
+use Rattle.std.specs.Prelude.{IsTrue}
 use Rattle.std.specs.List.{AllByRecursion}
 use Rattle.fs_names.specs.Keys.{Key}
+use Rattle.fs_names.specs.Limits.{has_list}
 use Rattle.fs_names.specs.declared.limits.Limits.{Limits}
 use Rattle.fs_names.proofs.ReadingLemmas.{KeepsLimits}
 use Rattle.fs_calls.specs.declared.call.Call.{Call}
@@ -22,7 +24,7 @@ module _ (more limits : Limits) where
   short_path : (p : Key) → FitsPath more p → KeepsLimits limits p → FitsPath limits p
   short_path p h s = record { few = s.few; names = short_names p h.names s.short }
 
-  short_call : (c : Call) → FitsCall more c → NamesCall (KeepsLimits limits) c → FitsCall limits c
+  short_call : (c : Call) → FitsCall more c → NamesCall (KeepsLimits limits) (IsTrue (has_list limits)) c → FitsCall limits c
   short_call (call.Mkdir p) h s = short_path p h s
   short_call (call.Mknod p) h s = short_path p h s
   short_call (call.Unlink p) h s = short_path p h s
@@ -31,6 +33,7 @@ module _ (more limits : Limits) where
   short_call (call.Exchange p q) h s = (short_path p h.0 s.0, short_path q h.1 s.1)
   short_call (call.Stat p) h s = short_path p h s
   short_call (call.Readdir p) h s = short_path p h s
+  short_call (call.ListAfter p after count) h s = (short_path p h.0 s.0, short_path after h.1 s.1, h.2, s.2)
   short_call (call.Read p off count) h s = (short_path p h.0 s, h.1, h.2)
   short_call (call.Write p off bytes) h s = (short_path p h.0 s, h.1, h.2)
   short_call (call.Truncate p size) h s = (short_path p h.0 s, h.1)
@@ -43,12 +46,12 @@ module _ (more limits : Limits) where
   short_reply (reply.Wrote size) h s = h
   short_reply (reply.Failed e) h s = h
 
-  short_entry : (e : Entry) → FitsEntry more e → NamesEntry (IsShort limits) (KeepsLimits limits) e → FitsEntry limits e
+  short_entry : (e : Entry) → FitsEntry more e → NamesEntry (IsShort limits) (KeepsLimits limits) (IsTrue (has_list limits)) e → FitsEntry limits e
   short_entry (Begin c s x) h g = (h.0, h.1, short_call x h.2 g)
   short_entry (Commit c) h g = h
   short_entry (Return c r) h g = (h.0, short_reply r h.1 g)
 
   -- entries that fit, and whose names are few and short
-  pub all_short : (es : List Entry) → AllFit more es → AllByRecursion (NamesEntry (IsShort limits) (KeepsLimits limits)) es → AllFit limits es
+  pub all_short : (es : List Entry) → AllFit more es → AllByRecursion (NamesEntry (IsShort limits) (KeepsLimits limits) (IsTrue (has_list limits))) es → AllFit limits es
   all_short [] h s = tt
   all_short (e ∷ es) h s = (short_entry e h.0 s.0, all_short es h.1 s.1)

@@ -2,9 +2,10 @@
 use Rattle.std.specs.Prelude.{ℕ, Bool, false, ◌==◌, List, [], ◌∷◌, length, Result, Ok, Err, Option, Some, None, if◌then◌else◌, codes, decimal}
 use Rattle.std.specs.Str.{bytes_eq}
 use Rattle.fs_names.specs.Keys.{Key}
+use Rattle.fs_names.specs.Limits.{has_list}
 use Rattle.fs_names.specs.declared.limits.Limits.{Limits}
 use Rattle.fs_calls.specs.declared.call.Call.{Call}
-use Rattle.fs_calls.specs.declared.call.Call.TheVariants.{Mkdir, Mknod, Unlink, Rmdir, Rename, Exchange, Stat, Readdir, Read, Write, Truncate}
+use Rattle.fs_calls.specs.declared.call.Call.TheVariants.{Mkdir, Mknod, Unlink, Rmdir, Rename, Exchange, Stat, Readdir, ListAfter, Read, Write, Truncate}
 use Rattle.fs_words.specs.Words.{Word, hex_word, path_word}
 use Rattle.fs_words.specs.Reading.{◌>>=◌, path_at, number_at, hex_at}
 use Rattle.fs_words.specs.declared.fault.FaultKind.{FaultKind}
@@ -22,6 +23,7 @@ call_words (Rename p q) = codes "rename" ∷ path_word p ∷ path_word q ∷ []
 call_words (Exchange p q) = codes "exchange" ∷ path_word p ∷ path_word q ∷ []
 call_words (Stat p) = codes "stat" ∷ path_word p ∷ []
 call_words (Readdir p) = codes "readdir" ∷ path_word p ∷ []
+call_words (ListAfter p after count) = codes "list" ∷ path_word p ∷ path_word after ∷ decimal count ∷ []
 call_words (Read p off count) = codes "read" ∷ path_word p ∷ decimal off ∷ decimal count ∷ []
 call_words (Write p off bytes) = codes "write" ∷ path_word p ∷ decimal off ∷ hex_word bytes ∷ []
 call_words (Truncate p size) = codes "truncate" ∷ path_word p ∷ decimal size ∷ []
@@ -32,30 +34,36 @@ call_words (Truncate p size) = codes "truncate" ∷ path_word p ∷ decimal size
 pub data CallForm : Type 0 where
   one_path : (Key → Call) → CallForm
   two_paths : (Key → Key → Call) → CallForm
+  paths_and_number : (Key → Key → ℕ → Call) → CallForm
   a_number : (Key → ℕ → Call) → CallForm
   two_numbers : (Key → ℕ → ℕ → Call) → CallForm
   number_and_bytes : (Key → ℕ → List ℕ → Call) → CallForm
 
+-- the form of the call that lists a directory in pieces, where texts by these limits have it
+abbrev pub list_form : Limits → Option CallForm
+list_form limits = if has_list limits then Some (paths_and_number ListAfter) else None
+
 -- the form of a call by its first word, where more than one path stands behind that
-abbrev pub longer_form_of : Word → Option CallForm
-longer_form_of word =
+abbrev pub longer_form_of : Limits → Word → Option CallForm
+longer_form_of limits word =
     if bytes_eq word (codes "rename") then Some (two_paths Rename)
     else (if bytes_eq word (codes "exchange") then Some (two_paths Exchange)
     else (if bytes_eq word (codes "read") then Some (two_numbers Read)
     else (if bytes_eq word (codes "write") then Some (number_and_bytes Write)
     else (if bytes_eq word (codes "truncate") then Some (a_number Truncate)
-    else None))))
+    else (if bytes_eq word (codes "list") then list_form limits
+    else None)))))
 
--- the form of a call by its first word
-abbrev pub form_of : Word → Option CallForm
-form_of word =
+-- the form of a call by its first word, by these limits
+abbrev pub form_of : Limits → Word → Option CallForm
+form_of limits word =
     if bytes_eq word (codes "mkdir") then Some (one_path Mkdir)
     else (if bytes_eq word (codes "mknod") then Some (one_path Mknod)
     else (if bytes_eq word (codes "unlink") then Some (one_path Unlink)
     else (if bytes_eq word (codes "rmdir") then Some (one_path Rmdir)
     else (if bytes_eq word (codes "stat") then Some (one_path Stat)
     else (if bytes_eq word (codes "readdir") then Some (one_path Readdir)
-    else longer_form_of word)))))
+    else longer_form_of limits word)))))
 
 -- the words behind the first, read from left to right, by these limits
 abbrev pub one_path_of : Limits → List Word → Result Key FaultKind
@@ -80,6 +88,15 @@ abbrev pub a_number_of : Limits → List Word → Result (Key × ℕ) FaultKind
 a_number_of limits (p ∷ n ∷ []) = a_number_at limits p n
 a_number_of limits _ = Err kind.BadLine
 
+-- three words as two paths and a number
+abbrev pub paths_and_number_at : Limits → Word → Word → Word → Result (Key × Key × ℕ) FaultKind
+paths_and_number_at limits p q n = path_at limits p >>= λ key. a_number_at limits q n >>= λ found. Ok (key, found.0, found.1)
+
+-- the words of two paths and a number; another number of words is a bad line
+abbrev pub paths_and_number_of : Limits → List Word → Result (Key × Key × ℕ) FaultKind
+paths_and_number_of limits (p ∷ q ∷ n ∷ []) = paths_and_number_at limits p q n
+paths_and_number_of limits _ = Err kind.BadLine
+
 -- three words as a path and two numbers
 abbrev pub two_numbers_at : Limits → Word → Word → Word → Result (Key × ℕ × ℕ) FaultKind
 two_numbers_at limits p m n = path_at limits p >>= λ key. number_at m >>= λ off. number_at n >>= λ count. Ok (key, off, count)
@@ -102,6 +119,7 @@ number_and_bytes_of limits _ = Err kind.BadLine
 abbrev pub arguments_at : Limits → CallForm → List Word → Result Call FaultKind
 arguments_at limits (one_path make) words = one_path_of limits words >>= λ key. Ok (make key)
 arguments_at limits (two_paths make) words = two_paths_of limits words >>= λ both. Ok (make both.0 both.1)
+arguments_at limits (paths_and_number make) words = paths_and_number_of limits words >>= λ found. Ok (make found.0 found.1 found.2)
 arguments_at limits (a_number make) words = a_number_of limits words >>= λ found. Ok (make found.0 found.1)
 arguments_at limits (two_numbers make) words = two_numbers_of limits words >>= λ found. Ok (make found.0 found.1 found.2)
 arguments_at limits (number_and_bytes make) words = number_and_bytes_of limits words >>= λ found. Ok (make found.0 found.1 found.2)
@@ -110,6 +128,7 @@ arguments_at limits (number_and_bytes make) words = number_and_bytes_of limits w
 abbrev pub argument_count : CallForm → ℕ
 argument_count (one_path make) = 1
 argument_count (two_paths make) = 2
+argument_count (paths_and_number make) = 3
 argument_count (a_number make) = 2
 argument_count (two_numbers make) = 3
 argument_count (number_and_bytes make) = 3
@@ -122,14 +141,14 @@ formed_call limits (Some form) words = arguments_at limits form words
 -- the call that words spell, by these limits: a first word that is none, and a wrong number of words, are a bad line
 unfoldable pub call_of : Limits → List Word → Result Call FaultKind
 call_of limits [] = Err kind.BadLine
-call_of limits (first ∷ more) = formed_call limits (form_of first) more
+call_of limits (first ∷ more) = formed_call limits (form_of limits first) more
 
 -- whether a call has this first word, and so many words behind it
 abbrev pub is_formed : Option CallForm → List Word → Bool
 is_formed None words = false
 is_formed (Some form) words = length words == argument_count form
 
--- whether the first word is a call's, with the right number of words behind it
-abbrev pub has_call_form : List Word → Bool
-has_call_form [] = false
-has_call_form (first ∷ more) = is_formed (form_of first) more
+-- whether the first word is a call's by these limits, with the right number of words behind it
+abbrev pub has_call_form : Limits → List Word → Bool
+has_call_form limits [] = false
+has_call_form limits (first ∷ more) = is_formed (form_of limits first) more

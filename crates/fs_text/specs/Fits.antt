@@ -1,9 +1,9 @@
 -- What an entry must be to be read back: all that an entry of the code always is, with names that keep the limit.
-use Rattle.std.specs.Prelude.{ℕ, ◌<◌, ◌≤◌, ◌^◌, List, length}
+use Rattle.std.specs.Prelude.{ℕ, IsTrue, ◌<◌, ◌≤◌, ◌^◌, List, length}
 use Rattle.std.specs.List.{AllByRecursion}
 use Rattle.fs_names.specs.Names.{Name, AreBytes, IsName}
 use Rattle.fs_names.specs.Keys.{Key}
-use Rattle.fs_names.specs.Limits.{name_limit, path_limit}
+use Rattle.fs_names.specs.Limits.{name_limit, path_limit, has_list}
 use Rattle.fs_names.specs.declared.limits.Limits.{Limits}
 use Rattle.fs_calls.specs.declared.call.Call.{Call}
 use Rattle.fs_calls.specs.declared.call.Call.TheVariants as call
@@ -26,7 +26,7 @@ pub record FitsPath (limits : Limits) (key : Key) : Type 0 where
 abbrev pub IsU64 : ℕ → Type 0
 IsU64 n = n < 2 ^ 64
 
--- the paths, numbers and bytes of a call
+-- the paths, numbers and bytes of a call, which these limits have
 abbrev pub FitsCall : Limits → Call → Type 0
 FitsCall limits (call.Mkdir p) = FitsPath limits p
 FitsCall limits (call.Mknod p) = FitsPath limits p
@@ -36,6 +36,7 @@ FitsCall limits (call.Rename p q) = FitsPath limits p × FitsPath limits q
 FitsCall limits (call.Exchange p q) = FitsPath limits p × FitsPath limits q
 FitsCall limits (call.Stat p) = FitsPath limits p
 FitsCall limits (call.Readdir p) = FitsPath limits p
+FitsCall limits (call.ListAfter p after count) = FitsPath limits p × FitsPath limits after × IsU64 count × IsTrue (has_list limits)
 FitsCall limits (call.Read p off count) = FitsPath limits p × IsU64 off × IsU64 count
 FitsCall limits (call.Write p off bytes) = FitsPath limits p × IsU64 off × AreBytes bytes
 FitsCall limits (call.Truncate p size) = FitsPath limits p × IsU64 size

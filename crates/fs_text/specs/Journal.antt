@@ -40,6 +40,7 @@ errno_word errno.Ebusy = codes "EBUSY"
 errno_word errno.Eperm = codes "EPERM"
 errno_word errno.Enospc = codes "ENOSPC"
 errno_word errno.Efbig = codes "EFBIG"
+errno_word errno.Eoverflow = codes "EOVERFLOW"
 
 -- the words of a reply
 abbrev pub reply_words : Reply → List Word
@@ -87,7 +88,8 @@ errno_of word =
     else (if bytes_eq word (codes "EPERM") then Some errno.Eperm
     else (if bytes_eq word (codes "ENOSPC") then Some errno.Enospc
     else (if bytes_eq word (codes "EFBIG") then Some errno.Efbig
-    else None)))))))))
+    else (if bytes_eq word (codes "EOVERFLOW") then Some errno.Eoverflow
+    else None))))))))))
 
 -- words as names, by these limits; the first that is none is the answer
 abbrev pub names_at : Limits → List Word → Result (List Name) FaultKind
@@ -147,7 +149,7 @@ begin_at limits c s call = number_at c >>= λ call_no. number_at s >>= λ seat. 
 
 -- what stands behind `begin`; a call of another form is a bad line
 abbrev pub begin_of : Limits → List Word → Result Entry FaultKind
-begin_of limits (c ∷ s ∷ call) = if has_call_form call then begin_at limits c s call else Err kind.BadLine
+begin_of limits (c ∷ s ∷ call) = if has_call_form limits call then begin_at limits c s call else Err kind.BadLine
 begin_of limits _ = Err kind.BadLine
 
 -- what stands behind `commit`: one number

@@ -1,8 +1,8 @@
 //! Calls that are read from words.
 
 ghost use Rattle.std.specs.Prelude.{◌≡◌, ◌∷◌, [], map, option_map};
-ghost use Rattle.fs_calls.specs.declared.call.Call.TheVariants.{Read, Write, Truncate};
-ghost use Rattle.fs_text.specs.Calls.{one_path, two_paths, a_number, two_numbers, number_and_bytes, a_number_at, arguments_at, call_of, form_of, argument_count, has_call_form};
+ghost use Rattle.fs_calls.specs.declared.call.Call.TheVariants.{ListAfter, Read, Write, Truncate};
+ghost use Rattle.fs_text.specs.Calls.{one_path, two_paths, paths_and_number, a_number, two_numbers, number_and_bytes, a_number_at, arguments_at, call_of, form_of, list_form, argument_count, has_call_form};
 ghost use Rattle.fs_words.specs.Reading.{hex_at};
 ghost use Rattle.fs_words.specs.code.Answers.{Gives};
 ghost use Rattle.fs_text.specs.code.Forms.{call_on, call_on_both, form_meant};
@@ -30,13 +30,24 @@ enum OnPath {
 enum Form {
     OnPath(OnPath),
     OnBoth(PairCall),
+    List,
     Truncate,
     Read,
     Write,
 }
 
-fn form_of(word: &[u8]) -> Option<Form>
-    ensures { form_of word.now ≡ option_map form_meant result }
+fn list_form(limits: Limits) -> Option<Form>
+    ensures { list_form limits ≡ option_map form_meant result }
+{
+    if limits.has_list() {
+        Some(Form::List)
+    } else {
+        None
+    }
+}
+
+fn form_of(limits: Limits, word: &[u8]) -> Option<Form>
+    ensures { form_of limits word.now ≡ option_map form_meant result }
 {
     match word {
         b"mkdir" => Some(Form::OnPath(OnPath::Mkdir)),
@@ -50,6 +61,7 @@ fn form_of(word: &[u8]) -> Option<Form>
         b"read" => Some(Form::Read),
         b"write" => Some(Form::Write),
         b"truncate" => Some(Form::Truncate),
+        b"list" => list_form(limits),
         _ => None,
     }
 }
@@ -127,6 +139,27 @@ fn a_number_at<'a>(
     };
     match number_at(size) {
         Ok(size) => Ok((path, size)),
+        Err(kind) => Err(kind),
+    }
+}
+
+#[tactic(auto, using(fs_words::proofs::ReadLemmas::fails_bind))]
+fn list_at<'a>(
+    alloc: Global,
+    recent: &mut Recent<'a>,
+    limits: Limits,
+    path: &'a [u8],
+    after: &'a [u8],
+    count: &[u8],
+) -> Result<Call, FaultKind>
+    ensures { Gives (λ call. call) result (arguments_at limits (paths_and_number ListAfter) (path.now ∷ after.now ∷ count.now ∷ [])) }
+{
+    let path = match path_with(alloc, recent, limits, path) {
+        Ok(path) => path,
+        Err(kind) => return Err(kind),
+    };
+    match a_number_at(alloc, recent, limits, after, count) {
+        Ok((after, count)) => Ok(Call::ListAfter(path, after, count)),
         Err(kind) => Err(kind),
     }
 }
@@ -213,6 +246,7 @@ fn arguments_at<'a>(
         (Form::OnBoth(call), [path, other]) => call_on_both_at(
             alloc, recent, limits, call, path, other,
         ),
+        (Form::List, [path, after, count]) => list_at(alloc, recent, limits, path, after, count),
         (Form::Truncate, [path, size]) => truncate_at(alloc, recent, limits, path, size),
         (Form::Read, [path, off, count]) => read_at(alloc, recent, limits, path, off, count),
         (Form::Write, [path, off, bytes]) => write_at(alloc, recent, limits, path, off, bytes),
@@ -240,7 +274,7 @@ pub fn call_with<'a>(
     let [first, more @ ..] = words else {
         return Err(FaultKind::BadLine);
     };
-    match form_of(first) {
+    match form_of(limits, first) {
         Some(form) => arguments_at(alloc, recent, limits, form, more),
         None => Err(FaultKind::BadLine),
     }
@@ -253,17 +287,17 @@ fn argument_count(form: Form) -> usize
     match form {
         Form::OnPath(_) => 1,
         Form::OnBoth(_) | Form::Truncate => 2,
-        Form::Read | Form::Write => 3,
+        Form::List | Form::Read | Form::Write => 3,
     }
 }
 
-/// Whether the first word is a call's, with the right number of words behind it.
-pub(crate) fn has_call_form(words: &[&[u8]]) -> bool
-    ensures { result ≡ has_call_form (map (λ w. w.now) words.now) }
+/// Whether the first word is a call's by these limits, with the right number of words behind it.
+pub(crate) fn has_call_form(limits: Limits, words: &[&[u8]]) -> bool
+    ensures { result ≡ has_call_form limits (map (λ w. w.now) words.now) }
 {
     match words {
         [] => false,
-        [first, more @ ..] => match form_of(first) {
+        [first, more @ ..] => match form_of(limits, first) {
             Some(form) => more.len() == argument_count(form),
             None => false,
         },

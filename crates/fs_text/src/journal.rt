@@ -39,7 +39,7 @@ fn begin_of<'a>(
     ensures { Gives (λ entry. entry) result (begin_of limits (map (λ w. w.now) words.now)) }
 {
     match words {
-        [call_no, seat, call @ ..] if has_call_form(call) => begin_at(
+        [call_no, seat, call @ ..] if has_call_form(limits, call) => begin_at(
             alloc, recent, limits, call_no, seat, call,
         ),
         _ => Err(FaultKind::BadLine),

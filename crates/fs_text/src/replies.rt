@@ -56,6 +56,9 @@ fn errno_of(word: &[u8]) -> Option<Errno>
     if is_word(word, b"EFBIG") {
         return Some(Errno::Efbig);
     }
+    if is_word(word, b"EOVERFLOW") {
+        return Some(Errno::Eoverflow);
+    }
     None
 }
 

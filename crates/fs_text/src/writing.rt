@@ -6,7 +6,7 @@ ghost use Rattle.fs_names.specs.Limits.{largest};
 ghost use Rattle.fs_words.specs.Words.{escaped, path_word};
 ghost use Rattle.fs_text.specs.Calls.{call_words};
 ghost use Rattle.fs_text.specs.Fits.{FitsName, FitsPath, FitsCall, FitsReply, FitsEntry};
-ghost use Rattle.fs_calls.specs.declared.call.Call.TheVariants.{Read, Write};
+ghost use Rattle.fs_calls.specs.declared.call.Call.TheVariants.{ListAfter, Read, Write};
 ghost use Rattle.fs_text.specs.Journal.{reply_words, entry_words, entry_line, kind_word, errno_word};
 
 use fs_calls::{Call, Errno, Reply};
@@ -63,6 +63,7 @@ fn push_call(alloc: Global, call: &Call, line: &mut Addition) -> Result<(), Allo
         Call::Exchange(path, other) => push_with_paths(alloc, b"exchange ", path, other, line),
         Call::Stat(path) => push_with_path(alloc, b"stat ", path, line),
         Call::Readdir(path) => push_with_path(alloc, b"readdir ", path, line),
+        Call::ListAfter(path, after, count) => push_list(alloc, path, after, *count, line),
         Call::Read(path, off, count) => push_read(alloc, path, *off, *count, line),
         Call::Write(path, off, bytes) => push_write(alloc, path, *off, bytes.as_slice(), line),
         Call::Truncate(path, size) => {
@@ -70,6 +71,21 @@ fn push_call(alloc: Global, call: &Call, line: &mut Addition) -> Result<(), Allo
             line.push_with_number(b" ", *size)
         }
     }
+}
+
+fn push_list(
+    alloc: Global,
+    path: &Path,
+    after: &Path,
+    count: u64,
+    line: &mut Addition,
+) -> Result<(), AllocError>
+    ensures ok { OnOk result (line.new.added ≡ line.old.added ++ join_with_byte 32 (call_words (ListAfter path.now after.now count))) }
+    ensures fits { OnOk result (FitsCall largest (ListAfter path.now after.now count)) }
+    ensures before { line.new.before ≡ line.old.before }
+{
+    push_with_paths(alloc, b"list ", path, after, line)?;
+    line.push_with_number(b" ", count)
 }
 
 fn push_read(
@@ -129,6 +145,7 @@ pub fn errno_text(errno: Errno) -> &'static [u8]
         Errno::Eperm => b"EPERM",
         Errno::Enospc => b"ENOSPC",
         Errno::Efbig => b"EFBIG",
+        Errno::Eoverflow => b"EOVERFLOW",
     }
 }
 
@@ -198,8 +215,8 @@ fn push_entry(alloc: Global, entry: &Entry, line: &mut Addition) -> Result<(), A
     line.push(b"\n")
 }
 
-/// Appends the line of an entry, which fits the limits of the second version: it is read back as the same entry by
-/// these, and where its names keep those of the first, by them too. An `Err`, which is out of memory, leaves the text as it was.
+/// Appends the line of an entry, which fits the limits of the third version: it is read back as the same entry by
+/// these, and where it fits those of an earlier one, by them too. An `Err`, which is out of memory, leaves the text as it was.
 pub fn write_entry(alloc: Global, entry: &Entry, text: &mut Vec<u8>) -> Result<(), AllocError>
     ensures ok { OnOk result (text.new.items ≡ text.old.items ++ entry_line entry.now) }
     ensures err { OnErr result (text.new.items ≡ text.old.items) }

@@ -1,11 +1,12 @@
 -- Names of a kind, and keys of another that have only such names: where the start tree has only such names, and the calls that began only such
 -- keys, the replies of a lawful timeline tell only such names.
-use Rattle.std.proofs.Common.{◌≡◌, ℕ, ◌==◌, Bool, true, false, cond, List, [], ◌∷◌, ◌++◌, map, filter, Option, Some, None, refl, subst}
+use Rattle.std.proofs.Common.{◌≡◌, ℕ, ◌==◌, Bool, true, false, cond, List, [], ◌∷◌, ◌++◌, map, filter, take, zero, suc, Option, Some, None, refl, subst}
 use Rattle.std.specs.List.{AllByRecursion}
+use Rattle.std.specs.Ordering.{is_lt}
 use Rattle.std.specs.FinMap.{put}
 use Rattle.std.specs.FinMap.Entries.{by_order}
 use Rattle.std.specs.declared.cmp.Ordering.TheVariants.{Less, Equal, Greater}
-use Rattle.fs_names.specs.Names.{Name, same_name}
+use Rattle.fs_names.specs.Names.{Name, same_name, name_cmp, names_above}
 use Rattle.fs_names.specs.Keys.{Key, key_cmp, after_prefix}
 use Rattle.fs_names.specs.Failures.{or_else}
 use Rattle.fs_names.specs.declared.limits.Limits.{Limits}
@@ -16,7 +17,7 @@ use Rattle.fs_calls.specs.Rows.{status, written}
 use Rattle.fs_calls.specs.Starts.{Start}
 use Rattle.fs_calls.specs.Outcomes.{fault, after, change, if_sound, filled, success, replied, reply, reply_at, called, play, next_start}
 use Rattle.fs_calls.specs.declared.call.Call.{Call}
-use Rattle.fs_calls.specs.declared.call.Call.TheVariants.{Mkdir, Mknod, Unlink, Rmdir, Rename, Exchange, Stat, Readdir, Read, Write, Truncate}
+use Rattle.fs_calls.specs.declared.call.Call.TheVariants.{Mkdir, Mknod, Unlink, Rmdir, Rename, Exchange, Stat, Readdir, ListAfter, Read, Write, Truncate}
 use Rattle.fs_calls.specs.declared.reply.Reply.{Reply}
 use Rattle.fs_calls.specs.declared.reply.Reply.TheVariants as answer
 use Rattle.fs_calls.specs.declared.errno.Errno.{Errno}
@@ -24,19 +25,20 @@ use Rattle.fs_timeline.specs.Timeline.{is_commit, call_of, with_call, commits_of
 use Rattle.fs_timeline.specs.declared.entry.Entry.{Entry}
 use Rattle.fs_timeline.specs.declared.entry.Entry.TheVariants.{Begin, Commit, Return}
 
--- what a call, a reply and an entry name: a call whole keys
-abbrev pub NamesCall : (Key → Type 0) → Call → Type 0
-NamesCall Q (Mkdir p) = Q p
-NamesCall Q (Mknod p) = Q p
-NamesCall Q (Unlink p) = Q p
-NamesCall Q (Rmdir p) = Q p
-NamesCall Q (Rename p q) = Q p × Q q
-NamesCall Q (Exchange p q) = Q p × Q q
-NamesCall Q (Stat p) = Q p
-NamesCall Q (Readdir p) = Q p
-NamesCall Q (Read p off count) = Q p
-NamesCall Q (Write p off bytes) = Q p
-NamesCall Q (Truncate p size) = Q p
+-- what a call, a reply and an entry name: a call whole keys, and for a list what it needs besides
+abbrev pub NamesCall : (Key → Type 0) → Type 0 → Call → Type 0
+NamesCall Q L (Mkdir p) = Q p
+NamesCall Q L (Mknod p) = Q p
+NamesCall Q L (Unlink p) = Q p
+NamesCall Q L (Rmdir p) = Q p
+NamesCall Q L (Rename p q) = Q p × Q q
+NamesCall Q L (Exchange p q) = Q p × Q q
+NamesCall Q L (Stat p) = Q p
+NamesCall Q L (Readdir p) = Q p
+NamesCall Q L (ListAfter p after count) = Q p × Q after × L
+NamesCall Q L (Read p off count) = Q p
+NamesCall Q L (Write p off bytes) = Q p
+NamesCall Q L (Truncate p size) = Q p
 
 abbrev pub NamesReply : (Name → Type 0) → Reply → Type 0
 NamesReply P answer.Done = Unit {0}
@@ -46,16 +48,16 @@ NamesReply P (answer.Bytes bytes) = Unit {0}
 NamesReply P (answer.Wrote size) = Unit {0}
 NamesReply P (answer.Failed e) = Unit {0}
 
-abbrev pub NamesEntry : (Name → Type 0) → (Key → Type 0) → Entry → Type 0
-NamesEntry P Q (Begin c s call) = NamesCall Q call
-NamesEntry P Q (Commit c) = Unit {0}
-NamesEntry P Q (Return c r) = NamesReply P r
+abbrev pub NamesEntry : (Name → Type 0) → (Key → Type 0) → Type 0 → Entry → Type 0
+NamesEntry P Q L (Begin c s call) = NamesCall Q L call
+NamesEntry P Q L (Commit c) = Unit {0}
+NamesEntry P Q L (Return c r) = NamesReply P r
 
 -- what an entry names, if it begins a call
-abbrev pub NamesBegun : (Key → Type 0) → Entry → Type 0
-NamesBegun Q (Begin c s call) = NamesCall Q call
-NamesBegun Q (Commit c) = Unit {0}
-NamesBegun Q (Return c r) = Unit {0}
+abbrev pub NamesBegun : (Key → Type 0) → Type 0 → Entry → Type 0
+NamesBegun Q L (Begin c s call) = NamesCall Q L call
+NamesBegun Q L (Commit c) = Unit {0}
+NamesBegun Q L (Return c r) = Unit {0}
 
 -- what a tree names
 abbrev pub NamesNode : (Name → Type 0) → Key × Node → Type 0
@@ -64,7 +66,7 @@ NamesNode P e = AllByRecursion P e.0
 abbrev pub NamesTree : (Name → Type 0) → Tree → Type 0
 NamesTree P t = AllByRecursion (NamesNode P) t
 
-module _ (P : Name → Type 0) (Q : Key → Type 0) (named : (k : Key) → Q k → AllByRecursion P k) where
+module _ (P : Name → Type 0) (Q : Key → Type 0) (L : Type 0) (named : (k : Key) → Q k → AllByRecursion P k) where
   -- ---- keys
 
   joined : (p q : Key) → AllByRecursion P p → AllByRecursion P q → AllByRecursion P (p ++ q)
@@ -139,7 +141,7 @@ module _ (P : Name → Type 0) (Q : Key → Type 0) (named : (k : Key) → Q k �
   either_kept true t new h g = h
   either_kept false t new h g = g
 
-  change_kept : (limits : Limits) (t : Tree) (call : Call) → NamesTree P t → NamesCall Q call → NamesTree P (change limits t call)
+  change_kept : (limits : Limits) (t : Tree) (call : Call) → NamesTree P t → NamesCall Q L call → NamesTree P (change limits t call)
   change_kept limits t (Mkdir p) h g = inserted_kept t p Dir h (named p g)
   change_kept limits t (Mknod p) h g = inserted_kept t p (File []) h (named p g)
   change_kept limits t (Unlink p) h g = removed_kept t p h
@@ -148,6 +150,7 @@ module _ (P : Name → Type 0) (Q : Key → Type 0) (named : (k : Key) → Q k �
   change_kept limits t (Exchange p q) h g = either_kept (is_same p q) t (exchanged t p q) h (exchanged_kept t p q h (named p g.0) (named q g.1))
   change_kept limits t (Stat p) h g = h
   change_kept limits t (Readdir p) h g = h
+  change_kept limits t (ListAfter p after count) h g = h
   change_kept limits t (Read p off count) h g = h
   change_kept limits t (Write p off bytes) h g =
       elim (has_any bytes) as (λ b. NamesTree P (filled t p (cond {A = Option (List ℕ)} b (Some (written (bytes_of (tree_shapes t p)) off bytes)) None))) [
@@ -160,11 +163,11 @@ module _ (P : Name → Type 0) (Q : Key → Type 0) (named : (k : Key) → Q k �
   sound_kept None old new h g = g
   sound_kept (Some e) old new h g = h
 
-  after_kept : (limits : Limits) (t : Tree) (call : Call) → NamesTree P t → NamesCall Q call → NamesTree P (after limits t call)
+  after_kept : (limits : Limits) (t : Tree) (call : Call) → NamesTree P t → NamesCall Q L call → NamesTree P (after limits t call)
   unfolding after
   after_kept limits t call h g = sound_kept (fault limits t call) t (change limits t call) h (change_kept limits t call h g)
 
-  pub play_kept : (start : Start) (calls : List Call) → NamesTree P start.tree → AllByRecursion (NamesCall Q) calls → NamesTree P (play start calls)
+  pub play_kept : (start : Start) (calls : List Call) → NamesTree P start.tree → AllByRecursion (NamesCall Q L) calls → NamesTree P (play start calls)
   play_kept start [] h g = h
   play_kept start (call ∷ calls) h g = play_kept (called start call) calls (after_kept start.limits start.tree call h g.0) g.1
 
@@ -185,6 +188,19 @@ module _ (P : Name → Type 0) (Q : Key → Type 0) (named : (k : Key) → Q k �
   shape_kept t k (Some Dir) h = names_in_kept t k h
   shape_kept t k (Some (File bytes)) h = tt
 
+  names_kept : (x : Name) (names : List Name) → AllByRecursion P names → AllByRecursion P (names_above x names)
+  names_kept x [] h = tt
+  names_kept x (y ∷ names) h =
+      elim (is_lt (name_cmp x y)) as (λ b. AllByRecursion P (cond {A = List Name} b (y ∷ names_above x names) (names_above x names))) [
+        | true ↦ (h.0, names_kept x names h.1)
+        | false ↦ names_kept x names h.1
+      ]
+
+  take_kept : (n : ℕ) (names : List Name) → AllByRecursion P names → AllByRecursion P (take n names)
+  take_kept zero names h = tt
+  take_kept (suc n) [] h = tt
+  take_kept (suc n) (x ∷ names) h = (h.0, take_kept n names h.1)
+
   status_kept : (there : Option Shape) → NamesReply P (status there)
   status_kept None = tt
   status_kept (Some (shapes.Dir names)) = tt
@@ -199,6 +215,7 @@ module _ (P : Name → Type 0) (Q : Key → Type 0) (named : (k : Key) → Q k �
   success_kept limits t (Exchange p q) h = tt
   success_kept limits t (Stat p) h = status_kept (tree_shapes t p)
   success_kept limits t (Readdir p) h = shape_kept t p (look t p) h
+  success_kept limits t (ListAfter p after count) h = take_kept _ _ (names_kept _ _ (shape_kept t p (look t p) h))
   success_kept limits t (Read p off count) h = tt
   success_kept limits t (Write p off bytes) h = tt
   success_kept limits t (Truncate p size) h = tt
@@ -213,35 +230,35 @@ module _ (P : Name → Type 0) (Q : Key → Type 0) (named : (k : Key) → Q k �
 
   -- ---- timelines
 
-  call_kept : (c : ℕ) (es : List Entry) (call : Call) → AllByRecursion (NamesBegun Q) es → call_of c es ≡ Some call → NamesCall Q call
+  call_kept : (c : ℕ) (es : List Entry) (call : Call) → AllByRecursion (NamesBegun Q L) es → call_of c es ≡ Some call → NamesCall Q L call
   call_kept c [] call h is = absurd (cc)
   call_kept c (Begin d s x ∷ es) call h is = go (c == d) is (λ e. call_kept c es call h.1 e)
     where
-      go : (b : Bool) → or_else (cond {A = Option Call} b (Some x) None) (call_of c es) ≡ Some call → (call_of c es ≡ Some call → NamesCall Q call) → NamesCall Q call
-      go true e later = let same : x ≡ call = cc in subst (NamesCall Q) same h.0
+      go : (b : Bool) → or_else (cond {A = Option Call} b (Some x) None) (call_of c es) ≡ Some call → (call_of c es ≡ Some call → NamesCall Q L call) → NamesCall Q L call
+      go true e later = let same : x ≡ call = cc in subst (NamesCall Q L) same h.0
       go false e later = later e
   call_kept c (Commit d ∷ es) call h is = call_kept c es call h.1 is
   call_kept c (Return d r ∷ es) call h is = call_kept c es call h.1 is
 
-  commits_kept : (whole es : List Entry) → AllByRecursion (NamesBegun Q) whole → AllByRecursion (NamesCall Q) (commits_of whole es)
+  commits_kept : (whole es : List Entry) → AllByRecursion (NamesBegun Q L) whole → AllByRecursion (NamesCall Q L) (commits_of whole es)
   commits_kept whole [] h = tt
   commits_kept whole (Begin c s call ∷ es) h = commits_kept whole es h
   commits_kept whole (Commit c ∷ es) h = go (call_of c whole) refl (commits_kept whole es h)
     where
-      go : (o : Option Call) → call_of c whole ≡ o → AllByRecursion (NamesCall Q) (commits_of whole es) → AllByRecursion (NamesCall Q) (with_call o (commits_of whole es))
+      go : (o : Option Call) → call_of c whole ≡ o → AllByRecursion (NamesCall Q L) (commits_of whole es) → AllByRecursion (NamesCall Q L) (with_call o (commits_of whole es))
       go None e rest = rest
       go (Some call) e rest = (call_kept c whole call h e, rest)
   commits_kept whole (Return c r ∷ es) h = commits_kept whole es h
 
-  before_kept : (c : ℕ) (es : List Entry) → AllByRecursion (NamesBegun Q) es → AllByRecursion (NamesBegun Q) (before_commit c es)
+  before_kept : (c : ℕ) (es : List Entry) → AllByRecursion (NamesBegun Q L) es → AllByRecursion (NamesBegun Q L) (before_commit c es)
   before_kept c [] h = tt
   before_kept c (e ∷ es) h =
-      elim (is_commit c e) as (λ b. AllByRecursion (NamesBegun Q) (cond {A = List Entry} b [] (e ∷ before_commit c es))) [
+      elim (is_commit c e) as (λ b. AllByRecursion (NamesBegun Q L) (cond {A = List Entry} b [] (e ∷ before_commit c es))) [
         | true ↦ tt
         | false ↦ (h.0, before_kept c es h.1)
       ]
 
-  due_kept : (start : Start) (c : ℕ) (es : List Entry) (r : Reply) → NamesTree P start.tree → AllByRecursion (NamesBegun Q) es → due start c es ≡ Some r → NamesReply P r
+  due_kept : (start : Start) (c : ℕ) (es : List Entry) (r : Reply) → NamesTree P start.tree → AllByRecursion (NamesBegun Q L) es → due start c es ≡ Some r → NamesReply P r
   due_kept start c es r tree h is = go (call_of c es) is
     where
       calls : List Call
@@ -253,23 +270,23 @@ module _ (P : Name → Type 0) (Q : Key → Type 0) (named : (k : Key) → Q k �
           let same : reply_at (next_start start calls) call ≡ r = cc in
           subst (NamesReply P) same (reply_kept start.limits (play start calls) call (play_kept start calls tree (commits_kept (before_commit c es) (before_commit c es) (before_kept c es h))))
 
-  pub one_more : (es : List Entry) (e : Entry) → AllByRecursion (NamesBegun Q) es → NamesBegun Q e → AllByRecursion (NamesBegun Q) (es ++ e ∷ [])
+  pub one_more : (es : List Entry) (e : Entry) → AllByRecursion (NamesBegun Q L) es → NamesBegun Q L e → AllByRecursion (NamesBegun Q L) (es ++ e ∷ [])
   one_more [] e h g = (g, tt)
   one_more (x ∷ es) e h g = (h.0, one_more es e h.1 g)
 
-  entry_kept : (start : Start) (before : List Entry) (e : Entry) → NamesTree P start.tree → AllByRecursion (NamesBegun Q) before → NamesBegun Q e → IsAnswered start before e → NamesEntry P Q e
+  entry_kept : (start : Start) (before : List Entry) (e : Entry) → NamesTree P start.tree → AllByRecursion (NamesBegun Q L) before → NamesBegun Q L e → IsAnswered start before e → NamesEntry P Q L e
   entry_kept start before (Begin c s call) tree h g is = g
   entry_kept start before (Commit c) tree h g is = tt
   entry_kept start before (Return c r) tree h g is = due_kept start c before r tree h is
 
-  entries_kept : (start : Start) (before es : List Entry) → NamesTree P start.tree → AllByRecursion (NamesBegun Q) before → AllByRecursion (NamesBegun Q) es → Each (IsAnswered start) before es → AllByRecursion (NamesEntry P Q) es
+  entries_kept : (start : Start) (before es : List Entry) → NamesTree P start.tree → AllByRecursion (NamesBegun Q L) before → AllByRecursion (NamesBegun Q L) es → Each (IsAnswered start) before es → AllByRecursion (NamesEntry P Q L) es
   entries_kept start before [] tree h g each = tt
   entries_kept start before (e ∷ es) tree h g each =
       (entry_kept start before e tree h g.0 each.0, entries_kept start (before ++ e ∷ []) es tree (one_more before e h g.0) g.1 each.1)
 
-  pub lawful_kept : (start : Start) (es : List Entry) → IsLawful start es → NamesTree P start.tree → AllByRecursion (NamesBegun Q) es → AllByRecursion (NamesEntry P Q) es
+  pub lawful_kept : (start : Start) (es : List Entry) → IsLawful start es → NamesTree P start.tree → AllByRecursion (NamesBegun Q L) es → AllByRecursion (NamesEntry P Q L) es
   lawful_kept start es law tree h = entries_kept start [] es tree tt h law.replies
 
   -- the tree that its commits leave
-  pub spelled_kept : (start : Start) (es : List Entry) → NamesTree P start.tree → AllByRecursion (NamesBegun Q) es → NamesTree P (play start (commits es))
+  pub spelled_kept : (start : Start) (es : List Entry) → NamesTree P start.tree → AllByRecursion (NamesBegun Q L) es → NamesTree P (play start (commits es))
   spelled_kept start es tree h = play_kept start (commits es) tree (commits_kept es es h)

@@ -7,7 +7,7 @@ use Rattle.fs_names.specs.declared.kind.Kind.TheVariants as kind
 use Rattle.fs_names.specs.Names.{same_bytes}
 use Rattle.fs_calls.specs.Replies.{same_kind, number_of, same_reply}
 use Rattle.fs_calls.specs.declared.errno.Errno.{Errno}
-use Rattle.fs_calls.specs.declared.errno.Errno.TheVariants.{Enoent, Enotdir, Eexist, Enotempty, Eisdir, Einval, Ebusy, Eperm, Enospc, Efbig}
+use Rattle.fs_calls.specs.declared.errno.Errno.TheVariants.{Enoent, Enotdir, Eexist, Enotempty, Eisdir, Einval, Ebusy, Eperm, Enospc, Efbig, Eoverflow}
 use Rattle.fs_calls.specs.declared.reply.Reply.{Reply}
 use Rattle.fs_calls.specs.declared.reply.Reply.TheVariants.{Done, Stat, Names, Bytes, Wrote, Failed}
 
@@ -53,7 +53,8 @@ error_of n =
     if n == 6 then Einval else
     if n == 7 then Ebusy else
     if n == 8 then Eperm else
-    if n == 9 then Enospc else Efbig
+    if n == 9 then Enospc else
+    if n == 10 then Efbig else Eoverflow
 
 error_of-number_of : (e : Errno) → error_of (number_of e) ≡ e
 unfolding error_of
@@ -67,6 +68,7 @@ error_of-number_of Ebusy = refl
 error_of-number_of Eperm = refl
 error_of-number_of Enospc = refl
 error_of-number_of Efbig = refl
+error_of-number_of Eoverflow = refl
 
 number_of_exact : (e f : Errno) → number_of e ≡ number_of f → e ≡ f
 number_of_exact e f h = sym (error_of-number_of e) ∙ ap error_of h ∙ error_of-number_of f

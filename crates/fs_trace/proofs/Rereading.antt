@@ -1,26 +1,25 @@
 -- A schedule that was written is read again.
-use Rattle.std.proofs.Common.{◌≡◌, ℕ, ◌+◌, ◌<◌, ◌≤◌, Bool, true, false, cond, ltb, List, [], ◌∷◌, ◌++◌, length, map, Result, Ok, Err, refl, sym, ap, subst, ◌∙◌, codes, inl, inr, append_assoc, append-nil, arith}
-use Rattle.std.specs.Prelude.{nat_lt}
+use Rattle.std.proofs.Common.{◌≡◌, ℕ, ◌+◌, ◌<◌, ◌≤◌, Bool, true, false, List, [], ◌∷◌, ◌++◌, length, map, Result, Ok, Err, refl, sym, ap, subst, ◌∙◌, codes, inl, inr, append_assoc, append-nil, arith}
 use Rattle.std.specs.List.{AllByRecursion, join_with_byte, list_any}
-use Rattle.std.specs.Str.{bytes_eq}
-use Rattle.std.proofs.lemmas.Bool.{cond-true, cond-false}
+use Rattle.std.proofs.lemmas.Bool.{cond-false}
 use Rattle.std.proofs.lemmas.Bool.Decides.{nat_tests}
 use Rattle.std.proofs.lemmas.List.Elements.{All-weaker}
-use Rattle.std.proofs.lemmas.Slice.Eq.{bytes_eq-Decides}
 use Rattle.fs_names.specs.declared.limits.Limits.{Limits}
-use Rattle.fs_names.specs.declared.limits.Limits.TheVariants.{V1, V2}
+use Rattle.fs_names.specs.declared.limits.Limits.TheVariants.{V1, V2, V3}
 use Rattle.fs_words.specs.Lines.{is_line_feed, is_passed_over, lines_of, pieces_of, has_empty}
-use Rattle.fs_words.specs.Reading.{◌>>=◌, words_of, fault_at, at_line, first_is, behind_first}
+use Rattle.fs_words.specs.Reading.{◌>>=◌, words_of, fault_at, at_line}
 use Rattle.fs_words.specs.declared.fault.ScriptFault.{ScriptFault}
 use Rattle.fs_words.specs.declared.fault.FaultKind.{FaultKind}
 use Rattle.fs_words.specs.declared.fault.FaultKind.TheVariants as kind
 use Rattle.fs_words.proofs.WordLemmas.{IsWord, pieces_of_joined, has_no_empty, IsLine_joined}
 use Rattle.fs_script.specs.Limits.{events_in, SeatsAreThere}
-use Rattle.fs_script.specs.Script.{nothing_yet, with_word, has_finish, schedule_word, schedule_line, schedule_from, blocks_from, script_header, script_of}
+use Rattle.fs_script.specs.Script.{nothing_yet, with_word, has_finish, schedule_word, schedule_line, schedule_from, blocks_from, script_of}
 use Rattle.fs_script.specs.declared.limits.TheConstants.{EVENT_LIMIT}
 use Rattle.fs_script.specs.declared.script.Script.{Script}
 use Rattle.fs_script.specs.declared.script.Word.{Word}
 use Rattle.fs_script.specs.declared.script.Word.TheVariants.{Events, Finish, Checkpoint}
+use Rattle.fs_script.specs.Headers.{script_header}
+use Rattle.fs_script.proofs.HeaderLemmas.{script_in, short_script, lines_read, IsHeaded, headed_script, again}
 use Rattle.fs_script.proofs.LimitLemmas.{unfinished_more, unfinished_checkpoint, events_more, events_checkpoint}
 use Rattle.fs_trace.specs.Traces.{word_text, AreWordTexts}
 use Rattle.fs_trace.specs.code.WordTexts.{is_schedule, AreTimed, IsBehindLine, IsWritten}
@@ -155,66 +154,25 @@ words_again s (Finish ∷ words) are unended there timed few = absurd timed
 
 -- ---- the whole text
 
--- what is read of a text by limits, by its lines
-abbrev read_by : Limits → Bool → List (List ℕ) → Result Script ScriptFault
-read_by limits long lines = cond {A = Result (List (List ℕ)) ScriptFault} long (Err (fault_at 1 kind.TooLarge)) (cond {A = Result (List (List ℕ)) ScriptFault} (first_is (script_header limits) lines) (Ok (behind_first lines)) (Err (fault_at 1 kind.BadHeader))) >>= blocks_from 2 (nothing_yet limits)
+-- no header is a line `schedule`
+header_other : (limits : Limits) → is_schedule (script_header limits) ≡ false
+header_other V1 = refl
+header_other V2 = refl
+header_other V3 = refl
 
-abbrev read_lines : Bool → List (List ℕ) → Result Script ScriptFault
-read_lines long lines = cond (first_is (script_header V2) lines) (read_by V2 long lines) (read_by V1 long lines)
-
-by_lines : (text : List ℕ) → script_of text ≡ read_lines (nat_lt 16777216 (length text)) (lines_of text)
-unfolding script_of
-by_lines text = refl
-
-long_fails : (lines : List (List ℕ)) (script : Script) → read_lines true lines ≡ Ok script → ⊥
-long_fails lines script e = go (first_is (script_header V2) lines) refl
-  where
-    go : (b : Bool) → first_is (script_header V2) lines ≡ b → ⊥
-    go true t = let z : ◌≡◌ {A = Result Script ScriptFault} (Err (fault_at 1 kind.TooLarge)) (Ok script) = sym (cond-true _ _ _ t) ∙ e in cc
-    go false f = let z : ◌≡◌ {A = Result Script ScriptFault} (Err (fault_at 1 kind.TooLarge)) (Ok script) = sym (cond-false _ _ _ f) ∙ e in cc
-
--- the lines of a text that is read as a script
-lines_read : (text : List ℕ) (script : Script) → script_of text ≡ Ok script → read_lines false (lines_of text) ≡ Ok script
-lines_read text script is = go (nat_lt 16777216 (length text)) (sym (by_lines text) ∙ is)
-  where
-    go : (long : Bool) → read_lines long (lines_of text) ≡ Ok script → read_lines false (lines_of text) ≡ Ok script
-    go true e = absurd (long_fails (lines_of text) script e)
-    go false e = e
-
--- the first line is a header, by which the others are read
-record IsHeaded (first : List ℕ) (rest : List (List ℕ)) (script : Script) : Type 0 where
-  limits : Limits
-  again : (more : List (List ℕ)) → read_lines false (first ∷ more) ≡ blocks_from 2 (nothing_yet limits) more
-  read : blocks_from 2 (nothing_yet limits) rest ≡ Ok script
-  other : is_schedule first ≡ false
-
-header_other : (limits : Limits) (first : List ℕ) → bytes_eq first (script_header limits) ≡ true → is_schedule first ≡ false
-header_other V1 first e = ap is_schedule ((bytes_eq-Decides first (script_header V1)).0 e)
-header_other V2 first e = ap is_schedule ((bytes_eq-Decides first (script_header V2)).0 e)
-
-headed : (first : List ℕ) (rest : List (List ℕ)) (script : Script) → read_lines false (first ∷ rest) ≡ Ok script → IsHeaded first rest script
-headed first rest script is = go (bytes_eq first (script_header V2)) (bytes_eq first (script_header V1)) refl refl
-  where
-    go : (second one : Bool) → bytes_eq first (script_header V2) ≡ second → bytes_eq first (script_header V1) ≡ one → IsHeaded first rest script
-    go true one t o =
-        let again : (more : List (List ℕ)) → read_lines false (first ∷ more) ≡ blocks_from 2 (nothing_yet V2) more = λ more. cond-true _ _ _ t ∙ ap (λ r. r >>= blocks_from 2 (nothing_yet V2)) (cond-true _ _ _ t) in
-        record { limits = V2; again = again; read = sym (again rest) ∙ is; other = header_other V2 first t }
-    go false true t o =
-        let again : (more : List (List ℕ)) → read_lines false (first ∷ more) ≡ blocks_from 2 (nothing_yet V1) more = λ more. cond-false _ _ _ t ∙ ap (λ r. r >>= blocks_from 2 (nothing_yet V1)) (cond-true _ _ _ o) in
-        record { limits = V1; again = again; read = sym (again rest) ∙ is; other = header_other V1 first o }
-    go false false t o =
-        absurd (let z : ◌≡◌ {A = Result Script ScriptFault} (Err (fault_at 1 kind.BadHeader)) (Ok script) = sym (cond-false _ _ _ t ∙ ap (λ r. r >>= blocks_from 2 (nothing_yet V1)) (cond-false _ _ _ o)) ∙ is in cc)
+first_other : (first : List ℕ) (rest : List (List ℕ)) (script : Script) → IsHeaded first rest script → is_schedule first ≡ false
+first_other first rest script h = ap is_schedule h.is ∙ header_other h.limits
 
 nothing_begun : (limits : Limits) → IsBegun (nothing_yet limits)
 nothing_begun limits = record { names = tt; none = refl }
 
 -- a text that is read as a script has a line `schedule`
-any_schedule : (lines : List (List ℕ)) (script : Script) → read_lines false lines ≡ Ok script → list_any is_schedule lines ≡ true
+any_schedule : (lines : List (List ℕ)) (script : Script) → script_in lines ≡ Ok script → list_any is_schedule lines ≡ true
 any_schedule [] script is = absurd (let z : ◌≡◌ {A = Result Script ScriptFault} (Err (fault_at 1 kind.BadHeader)) (Ok script) = is in cc)
 any_schedule (first ∷ rest) script is = go (list_any is_schedule (first ∷ rest)) refl
   where
     h : IsHeaded first rest script
-    h = headed first rest script is
+    h = headed_script first rest script is
 
     go : (b : Bool) → list_any is_schedule (first ∷ rest) ≡ b → list_any is_schedule (first ∷ rest) ≡ true
     go true t = t
@@ -222,9 +180,6 @@ any_schedule (first ∷ rest) script is = go (list_any is_schedule (first ∷ re
 
 has_schedule : (text : List ℕ) (script : Script) → script_of text ≡ Ok script → list_any is_schedule (lines_of text) ≡ true
 has_schedule text script is = any_schedule (lines_of text) script (lines_read text script is)
-
-not_long : (n : ℕ) → n ≤ 16777216 → ltb 16777216 n ≡ false
-not_long n h = grind (arith, nat_tests)
 
 -- other words behind the lines of a script
 blocks_again : (n : ℕ) (s script : Script) (before after : List (List ℕ)) (words : List Word) (texts : List ℕ) (c : IsCut n s before after script) → AreWordTexts script.names words texts → IsBehindLine texts
@@ -241,21 +196,21 @@ blocks_again n s script before after words texts c are begins there timed few =
     let (more, is, lines) = lines_again t.names words c.number t (record t { words = t.words ++ words }) texts (subst (λ (ns : List (List ℕ)). AreWordTexts ns words texts) names are) begins (are_texts t.names words c.begun.names there_t timed few) read in
     (more, is, c.again (lines_of more) ∙ lines ∙ ap (λ ws. Ok (record t { words = ws ++ words })) c.begun.none ∙ ap (λ (x : Script). Ok (record x { words = words })) (sym e))
 
-first_again : (before after : List (List ℕ)) (script : Script) (words : List Word) (texts : List ℕ) → list_any is_schedule before ≡ false → read_lines false (before ++ codes "schedule" ∷ after) ≡ Ok script → AreWordTexts script.names words texts → IsBehindLine texts
+first_again : (before after : List (List ℕ)) (script : Script) (words : List Word) (texts : List ℕ) → list_any is_schedule before ≡ false → script_in (before ++ codes "schedule" ∷ after) ≡ Ok script → AreWordTexts script.names words texts → IsBehindLine texts
     → SeatsAreThere (length script.names) words → AreTimed words → events_in words ≤ EVENT_LIMIT
-    → (more : List ℕ) × (texts ++ 10 ∷ [] ≡ 10 ∷ more) × (read_lines false (before ++ codes "schedule" ∷ lines_of more) ≡ Ok (record script { words = words }))
-first_again [] after script words texts none is are begins there timed few = absurd (let h = headed (codes "schedule") after script is in let z : ◌≡◌ {A = Bool} true false = h.other in cc)
+    → (more : List ℕ) × (texts ++ 10 ∷ [] ≡ 10 ∷ more) × (script_in (before ++ codes "schedule" ∷ lines_of more) ≡ Ok (record script { words = words }))
+first_again [] after script words texts none is are begins there timed few = absurd (let z : ◌≡◌ {A = Bool} true false = first_other (codes "schedule") after script (headed_script (codes "schedule") after script is) in cc)
 first_again (first ∷ before) after script words texts none is are begins there timed few =
-    let h = headed first (before ++ codes "schedule" ∷ after) script is in
+    let h = headed_script first (before ++ codes "schedule" ∷ after) script is in
     let c = cut_at 2 (nothing_yet h.limits) before after script (nothing_begun h.limits) (other_first first before none).1 h.read in
-    let (more, e, again) = blocks_again 2 (nothing_yet h.limits) script before after words texts c are begins there timed few in
-    (more, e, h.again (before ++ codes "schedule" ∷ lines_of more) ∙ again)
+    let (more, e, read) = blocks_again 2 (nothing_yet h.limits) script before after words texts c are begins there timed few in
+    (more, e, again h.limits first h.announces (before ++ codes "schedule" ∷ lines_of more) ∙ read)
 
 -- a script's text with other words is read as the script with these words
 pub read_again : (input text : List ℕ) (script : Script) (words : List Word) → script_of input ≡ Ok script → IsWritten input script.names words text → length text ≤ 16777216 → SeatsAreThere (length script.names) words → AreTimed words → events_in words ≤ EVENT_LIMIT
     → script_of text ≡ Ok (record script { words = words })
 read_again input text script words is w short there timed few =
-    let (before, after, none, lines, again) = w.has_head (has_schedule input script is) in
-    let (more, behind, read) = first_again before after script words w.texts none (ap (read_lines false) (sym lines) ∙ lines_read input script is) w.are_texts w.behind there timed few in
-    let text_lines : lines_of text ≡ before ++ codes "schedule" ∷ lines_of more = ap lines_of (w.is ∙ ap (λ t. w.head ++ t) behind) ∙ again more in
-    by_lines text ∙ ap (λ b. read_lines b (lines_of text)) (not_long (length text) short) ∙ ap (read_lines false) text_lines ∙ read
+    let (before, after, none, lines, same) = w.has_head (has_schedule input script is) in
+    let (more, behind, read) = first_again before after script words w.texts none (ap script_in (sym lines) ∙ lines_read input script is) w.are_texts w.behind there timed few in
+    let text_lines : lines_of text ≡ before ++ codes "schedule" ∷ lines_of more = ap lines_of (w.is ∙ ap (λ t. w.head ++ t) behind) ∙ same more in
+    short_script text short ∙ ap script_in text_lines ∙ read

@@ -48,15 +48,12 @@ pub fn due_reply(
     Ok(None)
 }
 
-/// The lines of the entries of a journal.
+/// The lines of the entries of a journal, which of any version but the first stand behind its start tree.
 fn entry_lines(text: &[u8]) -> Result<Lines<'_>, ScriptFault> {
-    if let Ok(lines) = Lines::behind_header(text, b"atomfs-journal 1") {
+    let (first, mut lines) = Lines::behind_first(text)?;
+    if is_word(first, b"atomfs-journal 1") {
         return Ok(lines);
     }
-    let mut lines = match Lines::behind_header(text, b"atomfs-journal 2") {
-        Ok(lines) => lines,
-        Err(_) => Lines::behind_header(text, b"atomfs-journal 3")?,
-    };
     // A start tree has at most as many lines as the text has bytes.
     for _ in 0..text.len() {
         match lines.next() {

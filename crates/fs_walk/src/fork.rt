@@ -46,7 +46,7 @@ fn head_next(head: &Head, path: &Path, names: usize, store: &Store) -> Want
 }
 
 impl Fork {
-    /// Both heads at a common directory, to which so many first names of both paths lead, 64 at most.
+    /// Both heads at a common directory, to which so many first names of both paths lead, 2,048 at most.
     pub fn new(node: NodeNo, names: usize) -> Fork
         requires { names ≤ PATH_LIMIT }
         ensures { result ≡ new_fork node names }
@@ -67,7 +67,7 @@ impl Fork {
         self.node
     }
 
-    /// How many names lead to the common directory, 64 at most.
+    /// How many names lead to the common directory, 2,048 at most.
     pub fn names(&self) -> usize
         ensures names { result ≡ self.now.names }
         ensures most { result ≤ PATH_LIMIT }

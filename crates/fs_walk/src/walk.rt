@@ -32,7 +32,7 @@ impl Model for Walk {
 }
 
 impl Walk {
-    /// A walk along so many names of a path, 64 at most. It holds nothing.
+    /// A walk along so many names of a path, 2,048 at most. It holds nothing.
     pub fn new(names: usize) -> Walk
         requires { names ≤ PATH_LIMIT }
         ensures { result ≡ new_way names }
@@ -45,7 +45,7 @@ impl Walk {
         }
     }
 
-    /// How many names of the path it goes along, 64 at most.
+    /// How many names of the path it goes along, 2,048 at most.
     pub fn names(&self) -> usize
         ensures names { result ≡ self.now.names }
         ensures most { result ≤ PATH_LIMIT }

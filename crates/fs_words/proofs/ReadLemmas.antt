@@ -13,7 +13,7 @@ use Rattle.hex.specs.declared.error.FromHexError.{FromHexError}
 use Rattle.fs_words.specs.declared.fault.FaultKind.{FaultKind}
 use Rattle.fs_words.specs.declared.fault.FaultKind.TheVariants as kind
 use Rattle.fs_words.specs.code.Answers.{Gives, FailsAs, FailsThere, path_fault_of, pushed_word}
-use Rattle.fs_words.specs.Reading.{◌>>=◌, hex_at, or_fault, or_bad_path, words_of, fault_at, behind_header}
+use Rattle.fs_words.specs.Reading.{◌>>=◌, hex_at, or_fault, or_bad_path, words_of, fault_at, headed}
 use Rattle.fs_words.specs.declared.fault.ScriptFault.{ScriptFault}
 use Rattle.std.specs.Prelude.{suc, MatchResult, IsTrue, is_some, not, Option}
 use Rattle.memchr.specs.Find.{IsFirstByte, is_byte}
@@ -250,8 +250,8 @@ path_failed path.TrailingSlash read h = ap or_bad_path h
 -- ---- faults with a line
 
 -- a text that is too long is refused before its header is looked at
-pub too_long : (header text : List ℕ) → 16777216 < length text → behind_header header text ≡ Err (fault_at 1 kind.TooLarge)
-too_long header text h = cond-true _ _ _ (lt-ltb _ _ h)
+pub too_long : (text : List ℕ) → 16777216 < length text → headed text ≡ Err (fault_at 1 kind.TooLarge)
+too_long text h = cond-true _ _ _ (lt-ltb _ _ h)
 
 -- a fault that is exact is one of the text
 pub fails_there : {Y : Type 0} (n : ℕ) (k : FaultKind) (given : Result Y ScriptFault) → given ≡ Err (fault_at n k) → FailsThere n k given

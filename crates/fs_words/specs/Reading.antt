@@ -79,9 +79,15 @@ abbrev pub behind_first : List (List ℕ) → List (List ℕ)
 behind_first [] = []
 behind_first (line ∷ more) = more
 
--- the lines of a text behind its first one, which has to be this header; the text keeps its limit
+-- the first of these lines, and those behind it
+abbrev pub first_line : List (List ℕ) → Result (List ℕ × List (List ℕ)) ScriptFault
+first_line [] = Err (fault_at 1 kind.BadHeader)
+first_line (line ∷ more) = Ok (line, more)
+
+-- the first line of a text, and those behind it; the text keeps its limit
+abbrev pub headed : List ℕ → Result (List ℕ × List (List ℕ)) ScriptFault
+headed text = if nat_lt TEXT_LIMIT (length text) then Err (fault_at 1 kind.TooLarge) else first_line (lines_of text)
+
+-- the lines of a text behind its first one, which has to be this header
 abbrev pub behind_header : List ℕ → List ℕ → Result (List (List ℕ)) ScriptFault
-behind_header header text =
-    if nat_lt TEXT_LIMIT (length text) then Err (fault_at 1 kind.TooLarge)
-    else (if first_is header (lines_of text) then Ok (behind_first (lines_of text))
-    else Err (fault_at 1 kind.BadHeader))
+behind_header header text = headed text >>= λ h. if bytes_eq h.0 header then Ok (h.1) else Err (fault_at 1 kind.BadHeader)

@@ -1,7 +1,7 @@
 //! Lines of a text with their numbers, behind its header line.
 
 ghost use Rattle.std.specs.Prelude.{◌≡◌, ◌<◌, Ok, Err, length, OnSome, MatchOption, MatchResult};
-ghost use Rattle.fs_words.specs.Reading.{behind_header};
+ghost use Rattle.fs_words.specs.Reading.{headed, behind_header};
 ghost use Rattle.fs_words.specs.code.LinesLeft.{IsNext, AreOver};
 
 use crate::fault::{FaultKind, ScriptFault};
@@ -38,12 +38,12 @@ impl<'a> Model for Lines<'a> {
 }
 
 impl<'a> Lines<'a> {
-    /// The lines behind the first one, which has to be this header. A text above the limit is `TooLarge`, and one that
-    /// begins otherwise has a `BadHeader`, both in line 1.
-    pub fn behind_header(text: &'a [u8], header: &[u8]) -> Result<Lines<'a>, ScriptFault>
+    /// The first line, and those behind it. A text above the limit is `TooLarge`, and one without lines has a
+    /// `BadHeader`, both in line 1.
+    pub fn behind_first(text: &'a [u8]) -> Result<(&'a [u8], Lines<'a>), ScriptFault>
         ensures { MatchResult result
-            (λ lines. (lines.number ≡ 2) × (behind_header header.now text.now ≡ Ok lines.lines))
-            (λ fault. behind_header header.now text.now ≡ Err fault) }
+            (λ both. (both.1.number ≡ 2) × (headed text.now ≡ Ok (both.0.now, both.1.lines)))
+            (λ fault. headed text.now ≡ Err fault) }
     {
         if text.len() > TEXT_LIMIT {
             return Err(ScriptFault {
@@ -52,11 +52,28 @@ impl<'a> Lines<'a> {
             });
         }
         match cut_line(text) {
-            Some((first, rest)) if first == header => Ok(Lines { rest, number: 2 }),
-            _ => Err(ScriptFault {
+            Some((first, rest)) => Ok((first, Lines { rest, number: 2 })),
+            None => Err(ScriptFault {
                 line: 1,
                 kind: FaultKind::BadHeader,
             }),
+        }
+    }
+
+    /// The lines behind the first one, which has to be this header. A text above the limit is `TooLarge`, and one that
+    /// begins otherwise has a `BadHeader`, both in line 1.
+    pub fn behind_header(text: &'a [u8], header: &[u8]) -> Result<Lines<'a>, ScriptFault>
+        ensures { MatchResult result
+            (λ lines. (lines.number ≡ 2) × (behind_header header.now text.now ≡ Ok lines.lines))
+            (λ fault. behind_header header.now text.now ≡ Err fault) }
+    {
+        match Lines::behind_first(text) {
+            Ok((first, lines)) if first == header => Ok(lines),
+            Ok(_) => Err(ScriptFault {
+                line: 1,
+                kind: FaultKind::BadHeader,
+            }),
+            Err(fault) => Err(fault),
         }
     }
 

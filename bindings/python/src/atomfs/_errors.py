@@ -1,7 +1,7 @@
 """What the library refuses, as Python's exceptions.
 
 A call that fails raises the `OSError` of its number: `FileNotFoundError`, `NotADirectoryError`, `FileExistsError`,
-`IsADirectoryError`, `PermissionError`, or `OSError` with `ENOTEMPTY`, `EINVAL`, `EBUSY`, `ENOSPC`, `EFBIG`. A path that is none
+`IsADirectoryError`, `PermissionError`, or `OSError` with `ENOTEMPTY`, `EINVAL`, `EBUSY`, `ENOSPC`, `EFBIG`, `EOVERFLOW`. A path that is none
 raises `OSError` with `EINVAL` or `ENAMETOOLONG`, a tree with no node left one with `ENOSPC`, and `MemoryError` is out of memory.
 Where a limit was met the message has it, so it tells a full directory from a full tree. What has nothing to do with the tree's
 content is an `Error`.
@@ -12,7 +12,7 @@ import errno
 import os
 from typing import TYPE_CHECKING, Union
 
-from ._library import ENTRY_LIMIT, FAILED, Library, Limits, Status
+from ._library import FAILED, LISTED, Library, Limits, Status
 
 if TYPE_CHECKING:
     from ._tree import Seat, Tree
@@ -71,9 +71,11 @@ def path_error(library: Library, limits: Limits, *paths: AnyPath) -> Exception:
 
 
 def _words_of_path(library: Library, limits: Limits, status: int) -> str:
-    """What an error of a path says: of a name that is too long, for which limit."""
+    """What an error of a path says: of what is too long, for which limit."""
     if status == Status.PATH_NAME_TOO_LONG:
         return f"Path has a name of more than {limits.name_bytes} bytes"
+    if status == Status.PATH_TOO_MANY_NAMES:
+        return f"Path has more than {limits.path_names:,} names"
     words = library.words(status).removeprefix("the ")
     return words[:1].upper() + words[1:]
 
@@ -111,7 +113,9 @@ def file_too_large(limits: Limits) -> OSError:
 def _words_of(limits: Limits, number: int) -> str:
     """What an error of a call says: of a limit, which one."""
     if number == errno.ENOSPC:
-        return f"The directory has {ENTRY_LIMIT} entries, and no more may be made in it"
+        return f"The directory has {limits.entries:,} entries, and no more may be made in it"
+    if number == errno.EOVERFLOW:
+        return f"The directory has more than {LISTED} entries, which listdir tells, and list in pieces"
     if number == errno.EFBIG:
         return f"The file would have more than {limits.file_bytes:,} bytes"
     return os.strerror(number)

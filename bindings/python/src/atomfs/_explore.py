@@ -7,7 +7,7 @@ import random
 from typing import Any, Callable, Dict, Iterable, List, Mapping, Optional
 
 from ._errors import error_at
-from ._library import NODE_LIMIT, Did, Limits
+from ._library import Did, Limits
 from ._script import AnyCall, Planned, planned_threads, script
 from ._tools import Picture, draw
 from ._tree import Seat, Tree
@@ -140,7 +140,7 @@ def explore(
     seed: int = 1,
     *,
     before: Iterable[AnyCall] = (),
-    limit: int = NODE_LIMIT,
+    limit: Optional[int] = None,
     limits: Limits = Limits.V2,
 ) -> int:
     """Makes the calls of threads in interleavings that are drawn, and looks behind each run; answers how many there were.

@@ -166,13 +166,14 @@ def create_file(tree: Tree, path: str, mode: str) -> None:
 def open_file(tree: Tree, path: str, mode: str, buffering: int = -1) -> AnyFile:
     """The file at a path, opened as `open` does in a binary mode: with a buffer of so many bytes, and with none where it is 0.
 
-    The buffer holds a whole file of the tree's limits, if no number is given: so a file is read by one call, and written by one.
+    The buffer holds what one call reads, if no number is given: a whole file by the first two sets of limits, which so is read by one
+    call, and written by one.
     """
     create_file(tree, path, mode)
     raw = TreeFile(tree, path, mode)
     if buffering == 0:
         return raw
-    size = buffering if buffering > 1 else tree.limits.file_bytes
+    size = buffering if buffering > 1 else tree.limits.read_bytes
     if "+" in mode:
         return Random(raw, size)
     return Reader(raw, size) if raw.readable() else Writer(raw, size)

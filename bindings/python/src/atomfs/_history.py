@@ -22,8 +22,9 @@ if TYPE_CHECKING:
     from ._tree import Tree
 
 Errors = Mapping[Type[BaseException], Optional[int]]
-# The errors that a tree here has. Another one is told as `failed ?`.
+# The errors that a tree here has, and one of those that have the call `list`. Another one is told as `failed ?`.
 _KNOWN = frozenset("ENOENT ENOTDIR EEXIST ENOTEMPTY EISDIR EINVAL EBUSY EPERM ENOSPC EFBIG".split())
+_OF_LISTS = "EOVERFLOW"
 _ANY = "?"
 # What libraries raise without a number.
 _WITHOUT_NUMBER: Dict[Type[OSError], int] = {
@@ -47,7 +48,7 @@ _UNSURE = TimeoutError, ConnectionError, InterruptedError
 _UNSURE_NUMBERS = {errno.EIO, errno.EINTR, errno.ETIMEDOUT}
 _UNSURE_OF_FS = {"OperationTimeout", "RemoteConnectionError"}
 # What tells the reply of a call, where that is more than that it is done.
-_TELLS = {Call.STAT: "stat", Call.READDIR: "names", Call.READ: "data", Call.WRITE: "wrote"}
+_TELLS = {Call.STAT: "stat", Call.READDIR: "names", Call.LIST: "names", Call.READ: "data", Call.WRITE: "wrote"}
 
 
 class Answer:
@@ -75,7 +76,7 @@ class Answer:
             self._tell("stat", f"stat file {number_of(size, 'size')}")
 
     def names(self, names: Iterable[AnyPath]) -> None:
-        """Of `readdir`: the names, in any order. `ValueError` tells what is no name."""
+        """Of `readdir` and `list`: the names, in any order. `ValueError` tells what is no name."""
         if isinstance(names, (str, bytes)):
             raise TypeError(f"names takes several names, and this is {type(names).__name__}")
         raw = sorted(map(encoded, names))
@@ -95,7 +96,7 @@ class Answer:
 
     def failed(self, number: Optional[int] = None) -> None:
         """Of a call that tells its error by what it returns: the number of the error, or none for an error that others do not have."""
-        self._tell("failed", f"failed {_word(number, self._call)}")
+        self._tell("failed", f"failed {_word(number, self._call, self._limits)}")
 
     def _tell(self, what: str, reply: str) -> None:
         if what not in ("failed", _TELLS.get(self._call)):
@@ -111,12 +112,12 @@ class Answer:
         return self._reply or "ok"
 
 
-def _word(number: Optional[int], call: Call) -> str:
+def _word(number: Optional[int], call: Call, limits: Limits) -> str:
     """The word of an error. Linux says EISDIR where POSIX says EPERM: a directory is no file that `unlink` removes."""
     if number == errno.EISDIR and call == Call.UNLINK:
         number = errno.EPERM
     word = errno.errorcode.get(number, _ANY) if number is not None else _ANY
-    return word if word in _KNOWN else _ANY
+    return word if word in _KNOWN or limits.has_list and word == _OF_LISTS else _ANY
 
 
 def _number_without(error: OSError) -> Optional[int]:
@@ -124,20 +125,20 @@ def _number_without(error: OSError) -> Optional[int]:
     return next((number for kind, number in _WITHOUT_NUMBER.items() if isinstance(error, kind)), None)
 
 
-def _failure(error: BaseException, call: Call, errors: Errors) -> Optional[str]:
+def _failure(error: BaseException, call: Call, errors: Errors, limits: Limits) -> Optional[str]:
     """The word of an error that is a reply. Behind any other it is not known what became of the call."""
     for kind, number in errors.items():
         if isinstance(error, kind):
-            return _word(number, call)
+            return _word(number, call, limits)
     if isinstance(error, OSError):
         unsure = isinstance(error, _UNSURE) or error.errno in _UNSURE_NUMBERS
-        return None if unsure else _word(_number_without(error) if error.errno is None else error.errno, call)
+        return None if unsure else _word(_number_without(error) if error.errno is None else error.errno, call, limits)
     if not isinstance(error, getattr(sys.modules.get("fs.errors"), "FSError", ())):
         return None
     names = [kind.__name__ for kind in type(error).__mro__]
     if _UNSURE_OF_FS.intersection(names):
         return None
-    return _word(next((_OF_FS[name] for name in names if name in _OF_FS), None), call)
+    return _word(next((_OF_FS[name] for name in names if name in _OF_FS), None), call, limits)
 
 
 class _Recorded:
@@ -162,7 +163,7 @@ class _Recorded:
         at, answer = self._history._count(), self._answer
         assert answer is not None
         reply = answer._told() if error is None else answer._reply
-        if error is not None and reply is None and (word := _failure(error, self._call, self._history._errors)):
+        if error is not None and reply is None and (word := _failure(error, self._call, self._history._errors, self._history.limits)):
             answer.error, reply = error, f"failed {word}"
         if reply is not None:
             self._history._return(at, self._number, self._seat, reply)
@@ -214,7 +215,7 @@ class History:
         """Records a call, which is made in the block of a `with`: `call("mkdir /a")`, as in a script, or `call("mkdir", "/a")`.
 
         Behind its name stands what the method of `Tree` takes: `call("write", "/f", 0, b"x")`; `ValueError` and `TypeError` tell what is no
-        call. The replies of `stat`, `readdir`, `read` and `write` are told in the block by what it is given; what is no reply raises these,
+        call. The replies of `stat`, `readdir`, `list`, `read` and `write` are told in the block by what it is given; what is no reply raises these,
         and so does the end of a block in which none was told. The call stays under way then.
         """
         return _Recorded(self, *self._read(call, words))
@@ -271,4 +272,4 @@ def _opening(start: Union[Tree, Snapshot, None], limits: Limits) -> List[str]:
     if start is None and limits is Limits.V1:
         return ["atomfs-journal 1"]
     text = "tree\ndir /\n" if start is None else start.text if isinstance(start, Snapshot) else start.tree()
-    return [f"atomfs-journal {2 if limits is Limits.V1 else 3}", "start", *text.splitlines()[1:], "entries"]
+    return [f"atomfs-journal {limits.value + 1}", "start", *text.splitlines()[1:], "entries"]

@@ -55,7 +55,7 @@ class Standing:
 # No call has begun where one of these is answered.
 _NOT_BEGUN = frozenset(Status) - {Status.OK, Status.TOO_SMALL, Status.UNTOLD, Status.WAITS}
 _BEGIN = (
-    "mkdir", "mknod", "unlink", "rmdir", "rename", "exchange", "stat", "readdir", "read", "write", "truncate", "begin_call",
+    "mkdir", "mknod", "unlink", "rmdir", "rename", "exchange", "stat", "readdir", "list", "read", "write", "truncate", "begin_call",
 )  # fmt: skip
 
 

@@ -5,7 +5,7 @@ import contextlib
 from typing import TYPE_CHECKING, Iterable, List, Set, Tuple, Type
 
 from ._journal import NONE
-from ._library import NODE_LIMIT, Limits
+from ._library import Limits
 from ._load import Snapshot, of_snapshot
 from ._script import make
 
@@ -14,7 +14,7 @@ if TYPE_CHECKING:
 
 # Of an entry its kind, the number of its call, and its line.
 Entry = Tuple[str, str, str]
-_LOOKS = ("stat", "readdir", "read")
+_LOOKS = ("stat", "readdir", "list", "read")
 
 
 def of_last(kind: Type[Tree], journal: str, limits: Limits, most: int) -> str:
@@ -31,7 +31,7 @@ def of_last(kind: Type[Tree], journal: str, limits: Limits, most: int) -> str:
     if not first:
         return journal
     calls = {number: line for word, number, line in entries[:first] if word == "begin"}
-    with of_snapshot(kind, NODE_LIMIT, Snapshot(limits, "\n".join(["tree", *start, ""])), NONE) as tree:
+    with of_snapshot(kind, None, Snapshot(limits, "\n".join(["tree", *start, ""])), NONE) as tree:
         _make_again(tree, (calls[number] for word, number, _ in entries[:first] if word == "commit"))
         start = tree.tree().splitlines()[1:]
     under_way = [line for number, line in calls.items() if number in kept]

@@ -6,32 +6,78 @@ import enum
 import functools
 import os
 import pathlib
-from typing import Any, Callable, Dict, List
+from typing import Any, Callable, Dict, List, NamedTuple
 
-NODE_LIMIT = 1_048_576
-PATH_LIMIT = 64
-ENTRY_LIMIT = 256
+# The most names that a call answers.
+LISTED = 256
 # The number by which a tree keeps all calls.
 KEEP_ALL = 2**32 - 1
 # From this status on a call has failed, and the rest is the number of its error.
 FAILED = 128
 
 
+class _Set(NamedTuple):
+    path_names: int
+    name_bytes: int
+    entries: int
+    file_bytes: int
+    read_bytes: int
+    nodes: int
+    has_list: bool
+
+
+_SETS = {
+    1: _Set(64, 32, 256, 65_536, 65_536, 1_048_576, False),
+    2: _Set(64, 64, 256, 1_048_576, 1_048_576, 1_048_576, False),
+    3: _Set(2_048, 64, 1_048_576, 2_147_483_648, 1_048_576, 16_777_216, True),
+}
+
+
 class Limits(enum.Enum):
-    """How long names and files of a tree may be: the first set, or the larger second one."""
+    """How large a tree may be: the first set, the second with longer names and files, or the third, which real trees fit in."""
 
     V1 = 1
     V2 = 2
+    V3 = 3
+
+    @property
+    def path_names(self) -> int:
+        """The most names of a path."""
+        return _SETS[self.value].path_names
 
     @property
     def name_bytes(self) -> int:
         """The most bytes of a name."""
-        return 32 if self is Limits.V1 else 64
+        return _SETS[self.value].name_bytes
+
+    @property
+    def entries(self) -> int:
+        """The most entries of a directory."""
+        return _SETS[self.value].entries
 
     @property
     def file_bytes(self) -> int:
         """The most bytes of a file."""
-        return 65_536 if self is Limits.V1 else 1_048_576
+        return _SETS[self.value].file_bytes
+
+    @property
+    def read_bytes(self) -> int:
+        """The most bytes that one call reads."""
+        return _SETS[self.value].read_bytes
+
+    @property
+    def nodes(self) -> int:
+        """The most nodes of a tree, its root included."""
+        return _SETS[self.value].nodes
+
+    @property
+    def has_list(self) -> bool:
+        """Whether a tree has the call `list`."""
+        return _SETS[self.value].has_list
+
+
+#: The most nodes of a tree by the limits that it has where none are given, and the most names of its paths.
+NODE_LIMIT, PATH_LIMIT = Limits.V2.nodes, Limits.V2.path_names
 
 
 def _word(name: str) -> str:
@@ -129,6 +175,7 @@ class Call(enum.IntEnum):
     READ = 8
     WRITE = 9
     TRUNCATE = 10
+    LIST = 11
 
 
 class By(enum.IntEnum):
@@ -194,6 +241,7 @@ _ARGUMENTS: Dict[str, List[Any]] = {
     **dict.fromkeys(("rename", "exchange"), [*_ON, *_GIVEN, _AT]),
     "stat": [*_ON, _AT, _AT],
     "readdir": [*_ON, *_TOLD, _AT],
+    "list": [*_ON, *_GIVEN, _NUMBER, *_TOLD, _AT],
     "read": [*_ON, _NUMBER, *_TOLD, _AT],
     "write": [*_ON, _NUMBER, *_GIVEN, _AT, _AT],
     "truncate": [*_ON, _NUMBER, _AT],

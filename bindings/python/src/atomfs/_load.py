@@ -21,6 +21,8 @@ if TYPE_CHECKING:
 
 _Tree = TypeVar("_Tree", bound="Tree")
 OnError = Union[str, Callable[[OSError], object]]
+# How many bytes are read of a disk at once.
+_PIECE = 1_048_577
 # The bytes of a file, or none of a directory.
 Node = Optional[bytes]
 
@@ -124,7 +126,7 @@ class Now:
         return Snapshot, (self.limits, self.tree.tree())
 
 
-def of_snapshot(kind: Type[_Tree], limit: int, start: Union[Snapshot, Now], journal: Journal = ALL) -> _Tree:
+def of_snapshot(kind: Type[_Tree], limit: Optional[int], start: Union[Snapshot, Now], journal: Journal = ALL) -> _Tree:
     """A new tree of this kind that is as the snapshot, or as another tree is now, and keeps as many calls as it is told."""
     with into(kind(limit, limits=start.limits, journal=journal)) as tree:
         if not _begun(tree, start):
@@ -245,7 +247,16 @@ def _bytes_of(tree: Tree, entry: os.DirEntry[bytes]) -> bytes:
     if not stat.S_ISREG(entry.stat().st_mode):
         raise OSError(errno.ENOTSUP, "A tree has files and directories, and this is none of both", entry.path)
     with open(entry.path, "rb") as file:
-        return file.read(tree.limits.file_bytes + 1)
+        return _bytes_up_to(file, tree.limits.file_bytes + 1)
+
+
+def _bytes_up_to(file: IO[bytes], most: int) -> bytes:
+    """The bytes of a file, at most so many: in pieces, since room for all that are asked for is taken at once."""
+    pieces = []
+    while most and (piece := file.read(min(most, _PIECE))):
+        pieces.append(piece)
+        most -= len(piece)
+    return b"".join(pieces)
 
 
 def to_directory(tree: Tree, top: StrPath, exist_ok: bool) -> None:
@@ -270,7 +281,7 @@ def from_zip(tree: Tree, file: Union[StrPath, IO[bytes]]) -> None:
 def _bytes_in(archive: zipfile.ZipFile, info: zipfile.ZipInfo, limits: Limits) -> bytes:
     """The bytes of a file in a zip, at most one more than a file of these limits may have."""
     with archive.open(info) as member:
-        return member.read(limits.file_bytes + 1)
+        return _bytes_up_to(member, limits.file_bytes + 1)
 
 
 def to_zip(tree: Tree, file: Union[StrPath, IO[bytes]]) -> None:

@@ -89,8 +89,8 @@ class Path(pathlib.PurePosixPath):
     # ---- Directories
 
     def iterdir(self: _Self) -> Iterator[_Self]:
-        """The entries of a directory in byte order of their names, by one `readdir`."""
-        names = self.tree.readdir(str(self))
+        """The entries of a directory in byte order of their names, by the calls of `Tree.listdir`."""
+        names = self.tree.listdir(str(self))
         return iter([self._of(_walk.joined(str(self), name)) for name in names])
 
     def glob(self: _Self, pattern: StrPath, **options: Any) -> Iterator[_Self]:
@@ -160,11 +160,11 @@ class Path(pathlib.PurePosixPath):
         return self.tree.open(self, mode, buffering, encoding, errors, newline)
 
     def read_bytes(self) -> bytes:
-        """The bytes of a file, by one `read`."""
+        """The bytes of a file, as `Tree.read_bytes`."""
         return self.tree.read(self)
 
     def read_text(self, encoding: Optional[str] = None, errors: Optional[str] = None, newline: Optional[str] = None) -> str:
-        """The text of a file, by one `read`."""
+        """The text of a file, as `Tree.read_text`."""
         return self.tree.read_text(self, encoding or "utf-8", errors or "strict", newline)
 
     def write_bytes(self, data: Data) -> int:

@@ -135,13 +135,13 @@ class Sandbox:
         return True
 
     def listdir(self, place: Place) -> Union[List[str], List[bytes]]:
-        names = self.tree.readdir(_at(place))
+        names = self.tree.listdir(_at(place))
         return [os.fsencode(name) for name in names] if isinstance(place.path, bytes) else names
 
     def scandir(self, place: Place) -> Entries:
         above = "" if isinstance(place.path, int) else os.fspath(place.path)
         entries = []
-        for name in self.tree.readdir(_at(place)):
+        for name in self.tree.listdir(_at(place)):
             its: Any = os.fsencode(name) if isinstance(above, bytes) else name
             entries.append(Entry(self, _walk.joined(_at(place), name), its, posixpath.join(above, its) if above else its))
         return Entries(entries)
@@ -327,7 +327,7 @@ class Sandbox:
         return self._sent(src, dst, count, offset_src, offset_dst)
 
     def _sent(self, source: int, target: int, count: int, of_source: Optional[int], of_target: Optional[int]) -> int:
-        count = min(count, self.tree.limits.file_bytes)
+        count = min(count, self.tree.limits.read_bytes)
         data = self.either("read", source, count) if of_source is None else self.either("pread", source, count, of_source)
         if not data:
             return 0
@@ -354,7 +354,7 @@ class Sandbox:
             kind = next(one for one in mode if one in "rwxa")
             kind = f"{kind}b" if "+" not in mode else "rb+" if kind == "w" else f"{kind}b+"
             raw = DescribedFile(self._files, descriptor, name, kind, closefd)
-            return file_object(raw, mode, buffering, self.tree.limits.file_bytes, encoding, errors, newline)
+            return file_object(raw, mode, buffering, self.tree.limits.read_bytes, encoding, errors, newline)
         except BaseException:
             if closefd and descriptor in self._files:
                 self._files.close(descriptor)

@@ -23,6 +23,7 @@ _TAKES: Dict[Call, Tuple[str, ...]] = {
     **{call: ("path",) for call in (Call.MKDIR, Call.MKNOD, Call.UNLINK, Call.RMDIR, Call.STAT, Call.READDIR)},
     **{call: ("path", "path") for call in (Call.RENAME, Call.EXCHANGE)},
     **{Call.READ: ("path", "offset", "count"), Call.WRITE: ("path", "offset", "bytes"), Call.TRUNCATE: ("path", "size")},
+    Call.LIST: ("path", "path", "count"),
 }
 
 
@@ -40,8 +41,10 @@ def planned(given: AnyCall, limits: Limits) -> Planned:
     words: Sequence[Any] = given.split(" ") if isinstance(given, str) else tuple(given)
     name = words[0] if words else ""
     if not isinstance(name, str) or not name.islower() or name.upper() not in Call.__members__:
-        raise ValueError(f"{name!r} is none of the eleven calls: {given!r}")
+        raise ValueError(f"{name!r} is none of the twelve calls: {given!r}")
     call = Call[name.upper()]
+    if call is Call.LIST and not limits.has_list:
+        raise ValueError(f"no tree by {limits} has the call list: {given!r}")
     if len(words) - 1 != len(_TAKES[call]):
         raise TypeError(f"{name} takes {', '.join(_TAKES[call])}: {given!r}")
     values = [_read(word, what) if isinstance(given, str) else word for word, what in zip(words[1:], _TAKES[call])]

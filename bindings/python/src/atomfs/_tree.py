@@ -15,7 +15,7 @@ from . import _last, _load, _rows, _seats, _tools, _walk
 from ._errors import AnyPath, Error, StrPath, WaitsError, encoded, error_at, error_of
 from ._file import open_file
 from ._journal import ALL, Journal, Noting, Standing
-from ._library import NODE_LIMIT, Call, CStat, Did, Fault, Handle, Limits, Request, Status, library
+from ._library import LISTED, Call, CStat, Did, Fault, Handle, Limits, Request, Status, library
 from ._load import Snapshot
 from ._path import Path, class_of
 from ._texts import ROOM, Room, told_text
@@ -87,7 +87,8 @@ def _decoded(names: List[bytes]) -> List[str]:
 
 
 class Tree:
-    """A tree of at most `limit` nodes, its root included, with the journal of its calls. `limits` bounds its names and files.
+    """A tree of at most `limit` nodes, its root included, with the journal of its calls. `limits` bounds its names, paths, directories and
+    files, and `limit` is its most nodes where none is given.
 
     `journal` says how many calls it keeps: `ALL`, `LAST(10_000)` or `NONE`. A tree that keeps all grows with every call.
 
@@ -97,7 +98,7 @@ class Tree:
     """
 
     def __init__(
-        self, limit: int = NODE_LIMIT, *, limits: Limits = Limits.V2, room: int = ROOM, journal: Journal = ALL
+        self, limit: Optional[int] = None, *, limits: Limits = Limits.V2, room: int = ROOM, journal: Journal = ALL
     ) -> None:
         self.lock = threading.RLock()
         self._handle = Handle()
@@ -106,18 +107,18 @@ class Tree:
         self._at, self._at_stat = ctypes.addressof(self._handle), ctypes.addressof(self._stat)
         self._at_number, self._at_wrote = ctypes.addressof(self._number), ctypes.addressof(self._wrote)
         self._room = Room(number_of(room, "room"))
-        #: The bounds of names and files.
+        #: The bounds of names, paths, directories and files.
         self.limits = Limits(limits)
         #: The most nodes, the root included.
-        self.limit = number_of(limit, "limit")
+        self.limit = self.limits.nodes if limit is None else number_of(limit, "limit")
         # The class of this tree's paths.
         self._paths: Optional[weakref.ref[Type[Path]]] = None
         #: How many calls the journal keeps, as `keep` has said it last.
         self.keeps = ALL
         # Call numbers begin at 1 again where the journal does.
         self._standing = Standing()
-        if not 0 < self.limit <= NODE_LIMIT:
-            raise ValueError(f"the limit of nodes is 1 to {NODE_LIMIT:,}")
+        if not 0 < self.limit <= self.limits.nodes:
+            raise ValueError(f"the limit of nodes is 1 to {self.limits.nodes:,}")
         if status := self._library.open_with(self._at, self.limit, self.limits.value):
             raise error_of(self._library, status)
         # The seat of each thread's calls: the first is of the thread that has made the tree.
@@ -176,7 +177,7 @@ class Tree:
     # ---- In and out: a new tree begins its journal behind what it is filled with, and is closed where that fails
 
     @classmethod
-    def from_dict(cls: Type[_Self], files: Mapping[str, Any], limit: int = NODE_LIMIT, *, limits: Limits = Limits.V2) -> _Self:
+    def from_dict(cls: Type[_Self], files: Mapping[str, Any], limit: Optional[int] = None, *, limits: Limits = Limits.V2) -> _Self:
         """A tree of these files: by paths, with or without the first slash, `bytes` or `str`, as UTF-8.
 
         None is an empty directory, and a dictionary what is in one.
@@ -187,7 +188,12 @@ class Tree:
 
     @classmethod
     def from_directory(
-        cls: Type[_Self], path: StrPath, on_error: _load.OnError = "raise", limit: int = NODE_LIMIT, *, limits: Limits = Limits.V2
+        cls: Type[_Self],
+        path: StrPath,
+        on_error: _load.OnError = "raise",
+        limit: Optional[int] = None,
+        *,
+        limits: Limits = Limits.V2,
     ) -> _Self:
         """A tree of what is below a directory of the disk. A link to a file is that file; one to a directory is an error.
 
@@ -199,14 +205,16 @@ class Tree:
         return tree
 
     @classmethod
-    def from_zip(cls: Type[_Self], file: Union[StrPath, IO[bytes]], limit: int = NODE_LIMIT, *, limits: Limits = Limits.V2) -> _Self:
+    def from_zip(
+        cls: Type[_Self], file: Union[StrPath, IO[bytes]], limit: Optional[int] = None, *, limits: Limits = Limits.V2
+    ) -> _Self:
         """A tree of what is in a zip, given by its path or as a file object. A name that is no path is refused."""
         with _load.into(cls(limit, limits=limits)) as tree:
             _load.from_zip(tree, file)
         return tree
 
     @classmethod
-    def from_text(cls: Type[_Self], text: str, limit: int = NODE_LIMIT, *, limits: Limits = Limits.V2) -> _Self:
+    def from_text(cls: Type[_Self], text: str, limit: Optional[int] = None, *, limits: Limits = Limits.V2) -> _Self:
         """A tree by its text, as `tree()` tells it. A line that is none is a `ValueError` with its number."""
         return _load.of_snapshot(cls, limit, Snapshot(limits, text))
 
@@ -311,36 +319,75 @@ class Tree:
     def readdir(self, path: Union[bytes, os.PathLike[bytes]]) -> List[bytes]: ...
 
     def readdir(self, path: AnyPath) -> Union[List[str], List[bytes]]:
-        """The names of a directory, in byte order: of `bytes` where the path is."""
+        """The names of a directory, in byte order: of `bytes` where the path is.
+
+        `OSError` with `EOVERFLOW` is raised where they are more than 256, as they may be by `Limits.V3`: `listdir` tells these.
+        """
+        return self._names_by(self._library.readdir, Call.READDIR, path)
+
+    @overload
+    def list(self, path: StrPath, after: AnyPath = "/", count: int = LISTED) -> List[str]: ...
+
+    @overload
+    def list(self, path: Union[bytes, os.PathLike[bytes]], after: AnyPath = "/", count: int = LISTED) -> List[bytes]: ...
+
+    def list(self, path: AnyPath, after: AnyPath = "/", count: int = LISTED) -> Union[List[str], List[bytes]]:
+        """The names of a directory above the last name of the path `after`, or from the first on, in byte order: at most `count`, and at
+        most 256. A tree by `Limits.V3` alone has it."""
+        raw, count = encoded(after), number_of(count, "count")
+        return self._names_by(self._library.list, Call.LIST, path, raw, len(raw), count)
+
+    @overload
+    def listdir(self, path: StrPath) -> List[str]: ...
+
+    @overload
+    def listdir(self, path: Union[bytes, os.PathLike[bytes]]) -> List[bytes]: ...
+
+    def listdir(self, path: AnyPath) -> Union[List[str], List[bytes]]:
+        """All names of a directory, in byte order, by one `readdir`; by `Limits.V3` by a `list` for each 256, each a call of its own, between
+        which others may change the directory."""
+        names: Union[List[str], List[bytes]] = _walk.names(self, path)
+        return names
+
+    def _names_by(self, function: Any, call: Call, path: AnyPath, *more: Any) -> Union[List[str], List[bytes]]:
+        """The names that a call replies."""
         raw, room = encoded(path), self._room
         with self.lock:
-            status = self._library.readdir(
-                self._at, self._mine.number, raw, len(raw), room.at, room.size, room.at_count, self._at_number
+            status = function(
+                self._at, self._mine.number, raw, len(raw), *more, room.at, room.size, room.at_count, self._at_number
             )
             if status in (Status.TOO_SMALL, Status.UNTOLD):
                 names = self._told_names(self._number.value, (path,))
             elif status:
-                raise self._error(status, Call.READDIR, path)
+                raise self._error(status, call, path)
             else:
                 names = _names(room.told())
         return names if isinstance(os.fspath(path), bytes) else _decoded(names)
 
     def read(self, path: AnyPath, offset: int = 0, count: Optional[int] = None) -> bytes:
-        """At most `count` bytes of a file from an offset on, or all from there on: what one call reads."""
+        """At most `count` bytes of a file from an offset on, or all from there on: what one call reads, and where that are more than
+        `limits.read_bytes`, as they may be by `Limits.V3`, what several do."""
         raw, offset = encoded(path), number_of(offset, "offset")
+        most, left = self.limits.read_bytes, self.limits.file_bytes if count is None else number_of(count, "count")
         with self.lock:
-            if count is not None:
-                return self._read(path, raw, offset, number_of(count, "count"))
-            size = ROOM
-            while len(data := self._read(path, raw, offset, size)) == size:
-                size = 2 * max(size, self.stat(path).size)
-            return data
+            pieces = [self._first(path, raw, offset) if count is None else self._read(path, raw, offset, left)]
+            while len(pieces[-1]) == most and offset + most < self.limits.file_bytes and left > most:
+                offset, left = offset + most, left - most
+                pieces.append(self._read(path, raw, offset, left))
+        return pieces[0] if len(pieces) == 1 else b"".join(pieces)
+
+    def _first(self, path: AnyPath, raw: bytes, offset: int) -> bytes:
+        """All bytes from an offset on, as many as one call reads."""
+        size, most = ROOM, self.limits.read_bytes
+        while len(data := self._read(path, raw, offset, size)) == size < most:
+            size = min(most, 2 * max(size, self.stat(path).size))
+        return data
 
     def _read(self, path: AnyPath, raw: bytes, offset: int, count: int) -> bytes:
         room = self._room
         if count > room.size:
             # A file may be shorter than what is asked for by far.
-            count = min(count, max(room.size, self.stat(path).size))
+            count = min(count, max(room.size, min(self.stat(path).size, self.limits.read_bytes)))
             room.make(max(room.size, count))
         status = self._library.read(
             self._at, self._mine.number, raw, len(raw), offset, room.at, count, room.at_count, self._at_number
@@ -390,7 +437,7 @@ class Tree:
         return WaitsError(self._library.words(status), self._number.value, seat)
 
     def _told_names(self, number: int, paths: Tuple[AnyPath, ...]) -> List[bytes]:
-        """The names that a readdir replied, in pieces for which there is room."""
+        """The names that a call replied, in pieces for which there is room."""
         names: List[bytes] = []
         room = self._room
         while True:
@@ -471,11 +518,11 @@ class Tree:
         return text
 
     def read_bytes(self, path: AnyPath) -> bytes:
-        """The bytes of a file, by one `read`."""
+        """The bytes of a file, by one `read`, and of more than `limits.read_bytes` by several."""
         return self.read(path)
 
     def read_text(self, path: AnyPath, encoding: str = "utf-8", errors: str = "strict", newline: Optional[str] = None) -> str:
-        """The text of a file, by one `read`; the ends of lines are as of `open`."""
+        """The text of a file, read as by `read_bytes`; the ends of lines are as of `open`."""
         return io.TextIOWrapper(io.BytesIO(self.read(path)), encoding, errors, newline).read()
 
     def write_bytes(self, path: AnyPath, data: Data) -> int:
@@ -714,7 +761,7 @@ class Seat:
             if self._call == Call.STAT:
                 self._done(tree._library.reply_stat, tree._at_stat)
                 return _stat_of(tree._stat)
-            if self._call == Call.READDIR:
+            if self._call in (Call.READDIR, Call.LIST):
                 names = tree._told_names(self._call_number, self._paths)
                 return names if isinstance(os.fspath(self._paths[0]), bytes) else _decoded(names)  # type: ignore[return-value]
             if self._call == Call.READ:
@@ -741,7 +788,7 @@ class Seat:
 
 
 class Begin:
-    """The begins of the eleven calls on a seat. Each answers the number of its call."""
+    """The begins of the twelve calls on a seat. Each answers the number of its call."""
 
     def __init__(self, seat: Seat) -> None:
         self._seat = seat
@@ -777,6 +824,10 @@ class Begin:
     def readdir(self, path: AnyPath) -> int:
         """Tells the names of a directory."""
         return self._seat._begin(Call.READDIR, path)
+
+    def list(self, path: AnyPath, after: AnyPath = "/", count: int = LISTED) -> int:
+        """Tells names of a directory above the last one of `after`, at most `count`."""
+        return self._seat._begin(Call.LIST, path, after, size=number_of(count, "count"))
 
     def read(self, path: AnyPath, offset: int, count: int) -> int:
         """Reads at most `count` bytes from an offset on."""

@@ -10,9 +10,10 @@ import fnmatch
 import re
 import shutil
 import sys
-from typing import TYPE_CHECKING, Callable, Iterator, List, Optional, Tuple
+from typing import TYPE_CHECKING, Any, Callable, Iterator, List, Optional, Tuple
 
 from ._errors import AnyPath, encoded
+from ._library import LISTED
 
 if TYPE_CHECKING:
     from ._tree import Tree
@@ -77,10 +78,30 @@ def makedirs(tree: Tree, path: AnyPath, exist_ok: bool) -> None:
                 raise
 
 
+def names(tree: Tree, path: AnyPath) -> Any:
+    """All names of a directory: by one `readdir`, or by a `list` for as many as one answers."""
+    if not tree.limits.has_list:
+        return tree.readdir(path)
+    found: List[Any] = list(tree.list(path))
+    piece = found
+    while len(piece) == LISTED:
+        piece = list(tree.list(path, b"/" + encoded(piece[-1])))
+        found += piece
+    return found
+
+
+def check_directory(tree: Tree, path: str) -> None:
+    """Raises where no directory stands at a path."""
+    if tree.limits.has_list:
+        tree.list(path, count=0)
+    else:
+        tree.readdir(path)
+
+
 def entries(tree: Tree, path: str) -> Tuple[List[str], List[str]]:
     """The names of the directories in a directory, and those of its files, without what is removed meanwhile."""
     of: Tuple[List[str], List[str], List[str]] = ([], [], [])
-    for name in tree.readdir(path):
+    for name in names(tree, path):
         found = kind(tree, joined(path, name))
         of[2 if found is None else 0 if found else 1].append(name)
     return of[0], of[1]
@@ -130,10 +151,10 @@ def _matched(tree: Tree, paths: List[str], part: str) -> Iterator[str]:
                 yield from (joined(at, name) for name in (*directories, *files))
         elif re.search(r"[*?[]", part):
             try:
-                names = tree.readdir(path)
+                found = names(tree, path)
             except GONE:
                 continue
-            yield from (joined(path, name) for name in names if matches(name))
+            yield from (joined(path, name) for name in found if matches(name))
         elif kind(tree, joined(path, part)) is not None:
             yield joined(path, part)
 

@@ -24,7 +24,7 @@ from fs.opener import Opener
 from fs.opener.errors import OpenerError
 from fs.path import basename
 
-from . import NODE_LIMIT, PATH_LIMIT, Limits, Stat, Tree
+from . import Limits, Stat, Tree
 from ._file import open_file
 from ._journal import OF_FILE_SYSTEMS, Journal
 from ._walk import GONE, joined
@@ -66,7 +66,7 @@ def _of(path: str, kinds: _Kinds, action: str) -> Iterator[None]:
 class AtomFS(FS):
     """A tree as a file system: one that is given, which stays open, or a new one, which is closed with it.
 
-    A new tree has at most `limit` nodes, and names and files by `limits`, and keeps the last 10,000 calls, or what `journal` says.
+    A new tree has at most `limit` nodes, and all else by `limits`, and keeps the last 10,000 calls, or what `journal` says.
     """
 
     _meta = {
@@ -81,7 +81,7 @@ class AtomFS(FS):
     }
 
     def __init__(
-        self, tree: Optional[Tree] = None, limit: int = NODE_LIMIT, limits: Limits = Limits.V2, journal: Journal = OF_FILE_SYSTEMS
+        self, tree: Optional[Tree] = None, limit: Optional[int] = None, limits: Limits = Limits.V2, journal: Journal = OF_FILE_SYSTEMS
     ) -> None:
         super().__init__()
         # Where no tree can be made there is none to close.
@@ -105,16 +105,16 @@ class AtomFS(FS):
         """As of any file system, and in the namespace `atomfs` the limits of names, paths and files."""
         if namespace == "atomfs":
             limits = self.atom_tree.limits
-            return {"name_bytes": limits.name_bytes, "path_names": PATH_LIMIT, "file_bytes": limits.file_bytes}
+            return {"name_bytes": limits.name_bytes, "path_names": limits.path_names, "file_bytes": limits.file_bytes}
         return super().getmeta(namespace)
 
     def validatepath(self, path: Text) -> Text:
         path = super().validatepath(path)
-        names, most = path.split("/")[1:], self.atom_tree.limits.name_bytes
-        if len(names) > PATH_LIMIT:
-            raise errors.InvalidPath(path, msg=f"path '{{path}}' has more than {PATH_LIMIT} names")
-        if any(len(name.encode("utf-8", "surrogateescape")) > most for name in names):
-            raise errors.InvalidPath(path, msg=f"path '{{path}}' has a name of more than {most} bytes")
+        names, limits = path.split("/")[1:], self.atom_tree.limits
+        if len(names) > limits.path_names:
+            raise errors.InvalidPath(path, msg=f"path '{{path}}' has more than {limits.path_names:,} names")
+        if any(len(name.encode("utf-8", "surrogateescape")) > limits.name_bytes for name in names):
+            raise errors.InvalidPath(path, msg=f"path '{{path}}' has a name of more than {limits.name_bytes} bytes")
         return path
 
     @staticmethod
@@ -137,7 +137,7 @@ class AtomFS(FS):
     def listdir(self, path: Text) -> List[Text]:
         at = self.validatepath(path)
         with _of(path, _OF_DIRECTORIES, "listdir"):
-            return self.atom_tree.readdir(at)
+            return self.atom_tree.listdir(at)
 
     def scandir(
         self, path: Text, namespaces: Optional[Collection[Text]] = None, page: Optional[Tuple[int, int]] = None

@@ -25,7 +25,7 @@ from fsspec.utils import stringify_path  # type: ignore[import]
 from . import Tree
 from ._file import AnyFile, open_file
 from ._journal import OF_FILE_SYSTEMS
-from ._walk import GONE, joined
+from ._walk import GONE, check_directory, joined
 
 
 class _Draft:
@@ -115,7 +115,7 @@ class AtomFileSystem(AbstractFileSystem):  # type: ignore[misc]
         """The entries of a directory in byte order of their names, or a file itself."""
         path = self._strip_protocol(path)
         try:
-            names: list[Any] = [joined(path, name) for name in self.atom_tree.readdir(path)]
+            names: list[Any] = [joined(path, name) for name in self.atom_tree.listdir(path)]
         except NotADirectoryError:
             self.atom_tree.read(path, 0, 0)
             names = [path]
@@ -144,7 +144,7 @@ class AtomFileSystem(AbstractFileSystem):  # type: ignore[misc]
         except FileExistsError:
             if exist_ok:
                 # A directory may stand there, and a file may not.
-                self.atom_tree.readdir(path)
+                check_directory(self.atom_tree, path)
             raise
 
     def rmdir(self, path: str) -> None:

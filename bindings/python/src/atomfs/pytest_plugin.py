@@ -26,7 +26,7 @@ import pytest
 
 from ._errors import Error
 from ._explore import ScheduleError
-from ._library import NODE_LIMIT, Limits
+from ._library import Limits
 from ._load import Snapshot, of_snapshot
 from ._patch import patch
 from ._path import Path
@@ -38,27 +38,29 @@ if TYPE_CHECKING:
 
 _TREE = pytest.StashKey[Tree]()
 _PATCH = pytest.StashKey[patch]()
-_LOADED = pytest.StashKey[Dict[Tuple[str, int, Limits], Snapshot]]()
+_LOADED = pytest.StashKey[Dict[Tuple[str, Optional[int], Limits], Snapshot]]()
 # How many calls a picture has at most: of more the program leaves out most words.
 _PICTURED = 2_000
 _MARK = (
-    "atomfs(load=None, limit=NODE_LIMIT, limits=Limits.V2, at='/sandbox'): atom_tree begins with a directory, a zip or a dictionary, "
+    "atomfs(load=None, limit=None, limits=Limits.V2, at='/sandbox'): atom_tree begins with a directory, a zip or a dictionary, "
     "by these limits, and by atom_patch it stands at this directory of the disk"
 )
 
 
 def pytest_configure(config: pytest.Config) -> None:
     config.addinivalue_line("markers", _MARK)
-    loaded: Dict[Tuple[str, int, Limits], Snapshot] = {}
+    loaded: Dict[Tuple[str, Optional[int], Limits], Snapshot] = {}
     config.stash[_LOADED] = loaded
 
 
-def _words(load: Any = None, limit: int = NODE_LIMIT, limits: Limits = Limits.V2, at: str = "/sandbox") -> Tuple[Any, int, Limits, str]:
+def _words(
+    load: Any = None, limit: Optional[int] = None, limits: Limits = Limits.V2, at: str = "/sandbox"
+) -> Tuple[Any, Optional[int], Limits, str]:
     """The words of the mark."""
     return load, limit, limits, at
 
 
-def _asked(node: Any) -> Tuple[Any, int, Limits, str]:
+def _asked(node: Any) -> Tuple[Any, Optional[int], Limits, str]:
     """What the mark of a test asks for."""
     mark = node.get_closest_marker("atomfs")
     try:

@@ -1,5 +1,5 @@
 -- The code's targets as forms.
-use Rattle.fs_names.specs.Limits.{entry_limit, file_limit}
+use Rattle.fs_names.specs.Limits.{entry_limit, file_limit, read_limit}
 use Rattle.fs_names.specs.declared.limits.Limits.{Limits}
 use Rattle.fs_calls.specs.Forms.{Form, AtNode, AtEntry, AtPair}
 use Rattle.fs_calls.specs.Forms as forms
@@ -8,15 +8,16 @@ use Rattle.fs_calls.specs.declared.target.EntryCall.TheVariants.{Mkdir, Mknod, U
 use Rattle.fs_calls.specs.declared.target.PairCall.{PairCall}
 use Rattle.fs_calls.specs.declared.target.PairCall.TheVariants.{Rename, Exchange}
 use Rattle.fs_calls.specs.declared.target.NodeCall.{NodeCall}
-use Rattle.fs_calls.specs.declared.target.NodeCall.TheVariants.{Stat, Readdir, Read, Write, Truncate}
+use Rattle.fs_calls.specs.declared.target.NodeCall.TheVariants.{Stat, Readdir, ListAfter, Read, Write, Truncate}
 use Rattle.fs_calls.specs.declared.target.Target.{Target}
 use Rattle.fs_calls.specs.declared.target.Target.TheVariants.{Node, Entry, Pair}
 
 -- a call on a node by these limits, with its bytes as a list
 abbrev pub node_call : Limits → NodeCall → forms.NodeCall
 node_call limits Stat = forms.Stat
-node_call limits Readdir = forms.Readdir (entry_limit limits)
-node_call limits (Read off count) = forms.Read (file_limit limits) off count
+node_call limits Readdir = forms.Readdir
+node_call limits (ListAfter after count) = forms.ListAfter after.now count
+node_call limits (Read off count) = forms.Read (read_limit limits) off count
 node_call limits (Write off bytes) = forms.Write (file_limit limits) off bytes.now
 node_call limits (Truncate size) = forms.Truncate (file_limit limits) size
 

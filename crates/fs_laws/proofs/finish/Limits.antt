@@ -9,7 +9,7 @@ use Rattle.fs_names.specs.Parts.{common, left}
 use Rattle.fs_names.specs.Shapes.{Shape, Dir, File, names_of, is_full}
 use Rattle.fs_names.specs.Limits.{entry_limit, file_limit}
 use Rattle.fs_names.specs.declared.limits.Limits.{Limits}
-use Rattle.fs_calls.specs.Forms.{NodeCall, Stat, Readdir, Read, Write, Truncate, Form, AtNode, AtEntry, AtPair, by_paths, EntryCall, Mkdir, Mknod, Unlink, Rmdir}
+use Rattle.fs_calls.specs.Forms.{NodeCall, Stat, Readdir, ListAfter, Read, Write, Truncate, Form, AtNode, AtEntry, AtPair, by_paths, EntryCall, Mkdir, Mknod, Unlink, Rmdir}
 use Rattle.fs_calls.specs.Forms as pairs
 use Rattle.fs_calls.specs.Rows.{answered, node_row, Edit, Keep, Add, Remove, entry_row, written, resized}
 use Rattle.fs_laws.proofs.finish.RowParts.{made, entry_row_in_dir, to_row}
@@ -19,7 +19,6 @@ use Rattle.fs_calls.specs.declared.errno.Errno.TheVariants.{Efbig}
 use Rattle.fs_calls.specs.declared.reply.Reply.{Reply}
 use Rattle.fs_calls.specs.declared.reply.Reply.TheVariants.{Done, Wrote}
 use Rattle.fs_calls.proofs.FormLemmas.{HasLimit, EntryHasLimit, LimitedTo, form_limited, under_limited}
-use Rattle.fs_machine.specs.OpValues.{DirsWithin, FilesWithin, IsBounded, IsToldWithin}
 use Rattle.fs_graph.specs.Graphs.{Graph, set_at, entry_shape, IsGraph, at}
 use Rattle.fs_machine.specs.Finishes.{node_effect, entry_effect, move_effect, rename_effect, effect_at, effect_of, finish, swap_effect, exchange_effect}
 use Rattle.fs_machine.specs.Moves.{dir_error, path_error, there_by, rename_at, target, exchange_at}
@@ -35,16 +34,6 @@ use Rattle.fs_laws.proofs.finish.Kinds.{Ordered, ordered_with, ordered_without, 
 -- what is left of a call has the limit with which it began
 pub own_limited : (limits : Limits) (graph : Graph) (op : Record) → Own limits graph op → LimitedTo limits op.remaining
 own_limited limits graph op own = under_limited limits op.walked op.remaining (subst (LimitedTo limits) (sym own.parts) (form_limited limits op.call))
-
--- so what it tells is within it
-pub told_within : (limits : Limits) (graph : Graph) (f : Form) → LimitedTo limits f → IsBounded limits graph → IsToldWithin graph f
-told_within limits graph (AtNode Stat p) l b = tt
-told_within limits graph (AtNode (Readdir m) p) l b = subst (λ (k : ℕ). DirsWithin k graph) (sym l) b.entries
-told_within limits graph (AtNode (Read m off count) p) l b = subst (λ (k : ℕ). FilesWithin k graph) (sym l) b.bytes
-told_within limits graph (AtNode (Write m off bytes) p) l b = tt
-told_within limits graph (AtNode (Truncate m size) p) l b = tt
-told_within limits graph (AtEntry c p) l b = tt
-told_within limits graph (AtPair c p q) l b = tt
 
 -- a directory's names are in order and within their limit, and so are the bytes of a file
 abbrev pub Within : Limits → Shape → Type 0
@@ -119,7 +108,8 @@ on_resizes limits graph w n c l None reserved None i = resizes_same limits graph
 on_resizes limits graph w n c l None reserved (Some (Dir names)) i =
     subst (λ (o : Option (List ℕ)). Resizes limits graph.shape (node_effect graph n reserved ((node_row c None (Some (Dir names))).0, o)).graph.shape) (sym (on_dir c names)) (resizes_same limits graph.shape w)
 on_resizes limits graph w n Stat l None reserved (Some (File bytes)) i = resizes_same limits graph.shape w
-on_resizes limits graph w n (Readdir m) l None reserved (Some (File bytes)) i = resizes_same limits graph.shape w
+on_resizes limits graph w n Readdir l None reserved (Some (File bytes)) i = resizes_same limits graph.shape w
+on_resizes limits graph w n (ListAfter after count) l None reserved (Some (File bytes)) i = resizes_same limits graph.shape w
 on_resizes limits graph w n (Read m off count) l None reserved (Some (File bytes)) i = resizes_same limits graph.shape w
 on_resizes limits graph w n (Write m off []) l None reserved (Some (File bytes)) i = resizes_same limits graph.shape w
 on_resizes limits graph w n (Write m off (b ∷ new)) l None reserved (Some (File bytes)) i = go (nat_lt m (off + length (b ∷ new))) refl

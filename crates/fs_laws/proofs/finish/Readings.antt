@@ -64,7 +64,7 @@ dir_read graph is n h s w (x ∷ l) u e f = sym (ap (λ (o : Option Errno). as_d
 entry_read : (graph : Graph) (n h : ℕ) (w : Key) (x : Name) → at graph.child n w ≡ Some h → entry_shape graph h x ≡ shapes_from graph n (w ++ x ∷ [])
 entry_read graph n h w x e = sym (ap (λ (o : Option ℕ). then_at o graph.shape) (at_child graph.child n h w x e))
 
--- stat, readdir, read, write, truncate
+-- stat, readdir, list, read, write, truncate
 on_same : (c : NodeCall) (e : Option Errno) (s t : Option Shape) → (e ≡ None → s ≡ t) → node_row c e s ≡ node_row c e t
 on_same c (Some e) s t h = refl
 on_same c None s t h = ap (node_row c None) (h refl)

@@ -10,7 +10,6 @@ use Rattle.fs_calls.specs.Forms.{Form, AtNode, AtEntry, AtPair, Fits, by_paths}
 use Rattle.fs_calls.specs.Forms as pairs
 use Rattle.fs_calls.specs.declared.errno.Errno.{Errno}
 use Rattle.fs_calls.specs.declared.reply.Reply.{Reply}
-use Rattle.fs_laws.proofs.finish.Limits.{own_limited, told_within}
 use Rattle.fs_graph.specs.Graphs.{Graph, at, numbers, IsGraph, IsReached}
 use Rattle.fs_machine.specs.Leaving.{is_removed}
 use Rattle.fs_machine.specs.Moves.{next, next_by}
@@ -154,7 +153,7 @@ moves_apart s c op st run is on = go op.remaining (inv.kept.each c op st is on).
 
 -- what a finish needs
 pub can_finish : (s : State) (c : ℕ) (op : Record) (t : Moved) → Run s → s.ops c ≡ Some op → next s.graph op ≡ Finishes t → CanFinish s.graph op.reserved op.remaining op.holdings
-can_finish s c op t run is m = record { spare = spare_reserved s c op run is; heads = λ st on. heads_apart s c op st run is on; other = λ st on. reserved_other s c op st run is on; apart = λ st on. moves_apart s c op st run is on; bounded = told_within (limits_of s) s.graph op.remaining (own_limited (limits_of s) s.graph op ((run_keeps s run).own c op is)) (run_bounded s run) }
+can_finish s c op t run is m = record { spare = spare_reserved s c op run is; heads = λ st on. heads_apart s c op st run is on; other = λ st on. reserved_other s c op st run is on; apart = λ st on. moves_apart s c op st run is on }
 
 -- who ends is finished and stands nowhere
 pub ends_finished : (s : State) (c : ℕ) (op : Record) → next s.graph op ≡ Ends → (r : Reply) × (op.phase ≡ Finished r) × (op.holdings ≡ None)

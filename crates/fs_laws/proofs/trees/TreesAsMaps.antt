@@ -206,6 +206,7 @@ changes_same limits t is (calls.Rename p q) none k =
 changes_same limits t is (calls.Exchange p q) none k = ap (λ (s : Tree). tree_shapes s k) (sym (after_none limits t (calls.Exchange p q) none)) ∙ exchange_tree limits t is p q none k
 changes_same limits t is (calls.Stat p) none k = refl
 changes_same limits t is (calls.Readdir p) none k = refl
+changes_same limits t is (calls.ListAfter p after count) none k = refl
 changes_same limits t is (calls.Read p off count) none k = refl
 changes_same limits t is (calls.Write p off bytes) none k = write_tree limits t is p off bytes (write_writes limits t p off bytes is none) k
 changes_same limits t is (calls.Truncate p size) none k = fill_tree t is p (resized (bytes_of (tree_shapes t p)) size) (truncate_writes limits t p size is none) k

@@ -1,6 +1,7 @@
 -- What the functions on nodes answer and leave.
 use Rattle.std.specs.Prelude.{◌≡◌, ℕ, length, List, [], insert, remove, ◌<◌, Option, Some, None, Result, Ok, Err, if◌then◌else◌, IsTrue}
-use Rattle.fs_names.specs.Names.{Name}
+use Rattle.std.specs.FinMap.{is_sorted}
+use Rattle.fs_names.specs.Names.{Name, name_cmp}
 use Rattle.fs_names.specs.Keys.{Key, is_root, parent_of, last_of}
 use Rattle.fs_names.specs.Limits.{entry_limit, in_blocks}
 use Rattle.fs_names.specs.Failures.{check, or_else}
@@ -15,7 +16,7 @@ use Rattle.fs_calls.specs.declared.target.EntryCall.{EntryCall}
 use Rattle.fs_calls.specs.declared.target.EntryCall.TheVariants.{Mkdir, Mknod, Unlink, Rmdir}
 use Rattle.fs_calls.specs.Rows.{entry_fault, node_fault, node_row, written}
 use Rattle.fs_seq.specs.Memory.{needs_memory}
-use Rattle.fs_slab.specs.code.Slots.{Place, Dir, File, Slots, place_at, links_at, shape_of, walk, tree_of, IsForest, HaveForm, Sets}
+use Rattle.fs_slab.specs.code.Slots.{Place, Dir, File, Slots, place_at, links_at, links_of, shape_of, walk, tree_of, IsForest, HaveForm, Sets}
 use Rattle.fs_slab.specs.code.Nodes.{BelongsAt, IsTaken}
 use Rattle.fs_slab.specs.declared.nodes.Node.{Node}
 use Rattle.fs_slab.specs.declared.nodes.Node.TheVariants as nodes
@@ -115,10 +116,11 @@ pub record Detaches (g g' : Slots) (dir i n : ℕ) : Type 0 where
 abbrev pub node_error : Tree → NodeCall → Key → Option Errno
 node_error t c p = node_fault c (resolution t p) (tree_shapes t p)
 
--- a call on the node at a path has no error, and this is the place at which the path ends
+-- a call on the node at a path has no error, and this is the place at which the path ends; the names of its links rise
 pub record IsFound (t : Tree) (c : NodeCall) (p : Key) (at : Place) : Type 0 where
   pub sound : node_error t c p ≡ None
   pub shape : tree_shapes t p ≡ shape_of (Some at)
+  pub rising : IsTrue (is_sorted name_cmp (links_of (Some at)))
 
 -- the bytes of a file after a write, which does nothing where there is nothing to write
 abbrev pub written_if_any : List ℕ → ℕ → List ℕ → List ℕ

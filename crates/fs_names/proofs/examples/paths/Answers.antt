@@ -29,5 +29,7 @@ returns c = record {
   longest_of_the_second = refl;
   too_long_for_both = refl;
   too_many_for_both = refl;
+  most_names_of_the_third = refl;
+  too_many_for_all = refl;
   too_many_before_too_long = refl;
 }

@@ -16,5 +16,6 @@ returns c = record {
   root_alone = refl;
   first_version = refl;
   third_version = refl;
+  fourth_version = refl;
   small = refl;
 }

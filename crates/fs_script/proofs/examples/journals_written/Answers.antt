@@ -15,5 +15,6 @@ returns c = record {
   nothing = refl;
   from_a_directory = refl;
   by_the_second = refl;
+  by_the_third = refl;
   from_a_file = refl;
 }

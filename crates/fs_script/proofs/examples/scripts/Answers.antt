@@ -12,6 +12,7 @@ unfolding script_of blocks_from schedule_from block_line schedule_word call_of r
 returns c = record {
   empty_script = refl;
   second_version = refl;
+  third_version = refl;
   first_mkdir = refl;
   helped_mkdir = refl;
   waiting_victim = refl;

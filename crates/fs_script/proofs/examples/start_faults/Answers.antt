@@ -35,6 +35,8 @@ returns c = record {
   second_entries = refl;
   third_alone = refl;
   third_without_start = refl;
+  fourth_without_start = refl;
+  list_in_the_third = refl;
   other_version = refl;
   first_version_alone = refl;
 }

@@ -1,5 +1,4 @@
 use Rattle.std.proofs.Common.{refl, ap, sym, ◌∙◌, map}
-use Rattle.fs_names.specs.Limits.{entry_limit}
 use Rattle.fs_calls.specs.Forms as forms
 use Rattle.fs_calls.specs.Sights.{names_of, has_any}
 use Rattle.fs_calls.specs.declared.call.Call.TheVariants.{Readdir}
@@ -13,18 +12,18 @@ use Rattle.fs_seq.proofs.queries.readdir.Goals as goal
 pub returns-in-Err-clause-reply : goal.returns-in-Err-clause-reply
 returns-in-Err-clause-reply c limits =
     let p = c.args.path.now in
-    failed_reply limits (Readdir p) (forms.Readdir (entry_limit limits)) p refl (tree_of (graph c.args.nodes.now)) c.in-Err.errno c.in-Err.ensures
+    failed_reply limits (Readdir p) forms.Readdir p refl (tree_of (graph c.args.nodes.now)) c.in-Err.errno c.in-Err.ensures
 
 pub returns-in_ok-names-in-Ok-clause-reply : goal.returns-in_ok-names-in-Ok-clause-reply
 returns-in_ok-names-in-Ok-clause-reply c limits =
     let p = c.args.path.now in
     ap replies.Names (c.in_ok-names-in-Ok.ensures.ok ∙ ap (map (λ l. l.0)) c.links.ensures ∙ link_names (place c.in-Ok.node.now))
-    ∙ found_reply limits (Readdir p) (forms.Readdir (entry_limit limits)) p refl (tree_of (graph c.args.nodes.now)) _ (record { sound = c.in-Ok.ensures.sound; shape = c.in-Ok.ensures.shape })
+    ∙ found_reply limits (Readdir p) forms.Readdir p refl (tree_of (graph c.args.nodes.now)) _ (record { sound = c.in-Ok.ensures.sound; shape = c.in-Ok.ensures.shape; rising = c.in-Ok.ensures.rising })
 
 pub returns-in_err-names-in-Ok-clause-memory : goal.returns-in_err-names-in-Ok-clause-memory
 returns-in_err-names-in-Ok-clause-memory c =
     let p = c.args.path.now in
     let t = tree_of (graph c.args.nodes.now) in
     on_err c.from_residual.result (λ limits. needs limits t (Readdir p)
-    (looking_fault limits (Readdir p) (forms.Readdir (entry_limit limits)) p refl t ∙ c.in-Ok.ensures.sound)
+    (looking_fault limits (Readdir p) forms.Readdir p refl t ∙ c.in-Ok.ensures.sound)
     (ap has_any (ap names_of c.in-Ok.ensures.shape ∙ sym (link_names (place c.in-Ok.node.now)) ∙ sym (ap (map (λ l. l.0)) c.links.ensures)) ∙ c.in_err-names-in-Ok.ensures.memory))

@@ -10,10 +10,12 @@ unfolding digits escaped hex_word percent_encoding_on_literals hex_on_literals
 returns c = record {
   first_mkdir = refl;
   failed = refl;
+  crowded = refl;
   name_with_escapes = refl;
   name_beyond_ascii = refl;
   ends_of_escapes = refl;
   names = refl;
   root = refl;
+  list = refl;
   bytes = refl;
 }

@@ -1,9 +1,11 @@
-use Rattle.std.proofs.Common.{subst}
+use Rattle.std.proofs.Common.{ap, subst}
+use Rattle.std.specs.Option.{is_some}
 use Rattle.fs_names.specs.Limits.{in_blocks}
 use Rattle.fs_calls.specs.Forms.{form}
 use Rattle.fs_machine.specs.Records.{taken_if}
-use Rattle.fs_ops.specs.OpValue.{IsReady, stands}
-use Rattle.fs_ops.proofs.HeldLemmas.{held_begins, last_left}
+use Rattle.fs_ops.specs.OpValue.{IsReady, reply_of, stands}
+use Rattle.fs_ops.specs.declared.outcome.Outcome.{Outcome}
+use Rattle.fs_ops.proofs.HeldLemmas.{held_begins, last_left, open_let_go}
 use Rattle.fs_ops.proofs.op.Op.let_go.Goals as goal
 
 pub returns-in-Fixed-clause-op : goal.returns-in-Fixed-clause-op
@@ -23,3 +25,8 @@ invariant_of-self c =
       forks = c.self.invariant.forks;
       ready = held_begins c.in-Fixed.held c.pop.new.self (taken_if st) c.pop.result (subst (IsReady (in_blocks o.limits) (form o.limits o.call) st) c.in-Fixed.is c.self.invariant.ready) c.pop.ensures;
     }
+
+pub invariant_of-self-in-Open : goal.invariant_of-self-in-Open
+invariant_of-self-in-Open c =
+    let o = c.self.inside in
+    open_let_go o.limits o.call o.path_error o.stand c.free_behind.new.stand o.outcome (ap (λ (x : Outcome). is_some (reply_of x)) c.in-Open.is) c.free_behind.ensures.walk c.free_behind.ensures.fork c.self.invariant

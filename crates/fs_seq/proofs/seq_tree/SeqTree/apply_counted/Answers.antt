@@ -4,17 +4,23 @@ use Rattle.fs_names.specs.declared.limits.Limits.{Limits}
 use Rattle.fs_calls.specs.Tree.{Tree}
 use Rattle.fs_calls.specs.Outcomes.{after, change}
 use Rattle.fs_calls.specs.declared.call.Call.{Call}
-use Rattle.fs_calls.specs.declared.call.Call.TheVariants.{Stat, Readdir, Read}
+use Rattle.fs_calls.specs.declared.call.Call.TheVariants.{Stat, Readdir, ListAfter, Read}
 use Rattle.fs_seq.proofs.Replies.{leaves, on_ok}
 use Rattle.fs_seq.proofs.seq_tree.SeqTree.apply_counted.Goals as goal
 
 asked : (limits : Limits) (t : Tree) (call look : Call) → call ≡ look → change limits t look ≡ t → after limits t call ≡ t
 asked limits t call look is same = ap (after limits t) is ∙ leaves limits t look same
 
-looked : (limits : Limits) (t : Tree) (call : Call) → ((p : Key) × (call ≡ Stat p)) ⊎ (((p : Key) × (call ≡ Readdir p)) ⊎ ((p : Key) × (off : ℕ) × (count : ℕ) × (call ≡ Read p off count))) → after limits t call ≡ t
+-- a call that asks, as the arm knows it
+abbrev IsAsked : Call → Type 0
+IsAsked call =
+    ((p : Key) × (call ≡ Stat p)) ⊎ (((p : Key) × (call ≡ Readdir p)) ⊎ (((p : Key) × (after : Key) × (count : ℕ) × (call ≡ ListAfter p after count)) ⊎ ((p : Key) × (off : ℕ) × (count : ℕ) × (call ≡ Read p off count))))
+
+looked : (limits : Limits) (t : Tree) (call : Call) → IsAsked call → after limits t call ≡ t
 looked limits t call h =
     ⊎_elim (λ s. asked limits t call (Stat s.0) s.1 refl)
-    (λ o. ⊎_elim (λ s. asked limits t call (Readdir s.0) s.1 refl) (λ s. asked limits t call (Read s.0 s.1 s.2) s.3 refl) o)
+    (λ o. ⊎_elim (λ s. asked limits t call (Readdir s.0) s.1 refl)
+    (λ z. ⊎_elim (λ s. asked limits t call (ListAfter s.0 s.1 s.2) s.3 refl) (λ s. asked limits t call (Read s.0 s.1 s.2) s.3 refl) z) o)
     h
 
 pub returns-in-Stat-clause-tree : goal.returns-in-Stat-clause-tree
