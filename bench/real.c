@@ -117,7 +117,7 @@ static const char *tree_read(const struct node *node, uint64_t offset, char *out
 }
 
 /* The names that were told, a byte 0 behind each, and the path of the last of them. */
-static char names[ATOMFS_LIST_LIMIT * 65], last[66];
+static char names[ATOMFS_LIST_LIMIT * 256], last[257];
 
 static uint64_t told_names(size_t length, size_t *last_length) {
     uint64_t count = 0;

@@ -105,7 +105,7 @@ enum {
 enum {
     ATOMFS_V1 = 1, /* names of at most 32 bytes, paths of 64 names, directories of 256 entries, files of 65,536 bytes */
     ATOMFS_V2 = 2, /* names of at most 64 bytes, paths of 64 names, directories of 256 entries, files of 1,048,576 bytes */
-    ATOMFS_V3 = 3  /* names of at most 64 bytes, paths of 2,048 names, directories of 1,048,576 entries, files of 2,147,483,648
+    ATOMFS_V3 = 3  /* names of at most 255 bytes, paths of 2,048 names, directories of 1,048,576 entries, files of 2,147,483,648
                       bytes; these alone have atomfs_list */
 };
 
@@ -188,7 +188,8 @@ typedef struct atomfs_request {
     const char *other;      /* the second path of a rename and an exchange, of a list the path whose last name it begins behind */
     size_t other_length;
     uint64_t offset;        /* where a read and a write begin */
-    uint64_t size;          /* how many bytes a read asks for, how many a truncate leaves, how many names a list asks for */
+    uint64_t size;          /* how many bytes a read asks for, how many a truncate leaves, how many names a list asks for, where
+                               more than 4,294,967,295 count as so many */
     const void *bytes;      /* the bytes of a write */
     size_t bytes_length;
 } atomfs_request;
@@ -267,7 +268,7 @@ uint8_t atomfs_readdir(atomfs *fs, uint64_t seat, const char *path, size_t lengt
  * BAD_VERSION, where the tree is of other limits than ATOMFS_V3, which is looked at behind NO_SEAT and BAD_PATH and before all
  * others; TOO_SMALL and UNTOLD, as atomfs_readdir. */
 uint8_t atomfs_list(atomfs *fs, uint64_t seat, const char *path, size_t length, const char *after, size_t after_length,
-                    uint64_t most, char *out, size_t room, size_t *count, uint64_t *number);
+                    uint32_t most, char *out, size_t room, size_t *count, uint64_t *number);
 
 /* Reads as many bytes of a file from an offset on as out has room for, or as there are, and at most ATOMFS_READ_LIMIT: *count
  * bytes. */
@@ -504,7 +505,7 @@ uint8_t atomfs_shared_stat(atomfs_session *session, const char *path, size_t len
 uint8_t atomfs_shared_readdir(atomfs_session *session, const char *path, size_t length, char *out, size_t room,
                               size_t *count, uint64_t *number);
 uint8_t atomfs_shared_list(atomfs_session *session, const char *path, size_t length, const char *after,
-                           size_t after_length, uint64_t most, char *out, size_t room, size_t *count, uint64_t *number);
+                           size_t after_length, uint32_t most, char *out, size_t room, size_t *count, uint64_t *number);
 uint8_t atomfs_shared_read(atomfs_session *session, const char *path, size_t length, uint64_t offset, void *out,
                            size_t room, size_t *count, uint64_t *number);
 uint8_t atomfs_shared_write(atomfs_session *session, const char *path, size_t length, uint64_t offset, const void *bytes,

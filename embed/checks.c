@@ -21,7 +21,7 @@ uint8_t PROVED(rename)(atomfs *, uint64_t, const char *, size_t, const char *, s
 uint8_t PROVED(exchange)(atomfs *, uint64_t, const char *, size_t, const char *, size_t, uint64_t *);
 uint8_t PROVED(stat)(atomfs *, uint64_t, const char *, size_t, struct atomfs_stat *, uint64_t *);
 uint8_t PROVED(readdir)(atomfs *, uint64_t, const char *, size_t, char *, size_t, size_t *, uint64_t *);
-uint8_t PROVED(list)(atomfs *, uint64_t, const char *, size_t, const char *, size_t, uint64_t, char *, size_t, size_t *,
+uint8_t PROVED(list)(atomfs *, uint64_t, const char *, size_t, const char *, size_t, uint32_t, char *, size_t, size_t *,
                      uint64_t *);
 uint8_t PROVED(read)(atomfs *, uint64_t, const char *, size_t, uint64_t, void *, size_t, size_t *, uint64_t *);
 uint8_t PROVED(write)(atomfs *, uint64_t, const char *, size_t, uint64_t, const void *, size_t, uint64_t *, uint64_t *);
@@ -162,7 +162,7 @@ CALL_AND_TELL(readdir)
 CALL_AND_TELL(call)
 
 uint8_t atomfs_list(atomfs *fs, uint64_t seat, const char *path, size_t length, const char *after, size_t after_length,
-                    uint64_t most, char *out, size_t room, size_t *count, uint64_t *number) {
+                    uint32_t most, char *out, size_t room, size_t *count, uint64_t *number) {
     uint8_t status;
     if (refused(status = may_call_with(fs, path, length, after, after_length))) return status;
     if (refused(status = may_tell(fs, out, room, count))) return status;

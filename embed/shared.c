@@ -10,7 +10,7 @@
 #include <stdlib.h>
 
 /* The names of a reply take no more bytes, each with its byte 0. */
-enum { MOST_NAMES = ATOMFS_LIST_LIMIT * 65, MOST_NAME = 64, SOME_NAMES = 2048 };
+enum { MOST_NAMES = ATOMFS_LIST_LIMIT * 256, MOST_NAME = 255, SOME_NAMES = 2048 };
 
 struct atomfs_session {
     atomfs_shared *shared;
@@ -344,7 +344,7 @@ uint8_t atomfs_shared_readdir(atomfs_session *session, const char *path, size_t 
 }
 
 uint8_t atomfs_shared_list(atomfs_session *session, const char *path, size_t length, const char *after,
-                           size_t after_length, uint64_t most, char *out, size_t room, size_t *count, uint64_t *number) {
+                           size_t after_length, uint32_t most, char *out, size_t room, size_t *count, uint64_t *number) {
     atomfs_request request = { .call = ATOMFS_CALL_LIST, .path = path, .length = length, .size = most };
     request.other = after;
     request.other_length = after_length;

@@ -144,7 +144,7 @@ class Library:
             **{name: [handle, number, *text, *text, numbers] for name in ("rename", "exchange")},
             "stat": [handle, number, *text, ctypes.POINTER(Stat), numbers],
             "readdir": [handle, number, *text, *told, numbers],
-            "list": [handle, number, *text, *text, number, *told, numbers],
+            "list": [handle, number, *text, *text, ctypes.c_uint32, *told, numbers],
             "read": [handle, number, *text, number, *told, numbers],
             "write": [handle, number, *text, number, *text, numbers, numbers],
             "truncate": [handle, number, *text, number, numbers],

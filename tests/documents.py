@@ -871,11 +871,11 @@ def naming_call(call):
 
 
 def limits():
-    """The limits by their constants, and those that each set of limits has, which are three numbers each."""
+    """The limits by their constants, and those that each set of limits has, of trees and of texts, which are three numbers each."""
     of_texts = "fs_words/src/limits.rt", "fs_script/src/limits.rt", "fs_sched/src/schedule.rt", "fs_sched/src/seeding.rt"
     of_searches = "fs_outcomes/src/running.rt", "fs_find/src/finding.rt", "fs_shrink/src/limits.rt", "fs_recorded/src/linearizing.rt"
     found = {name: [value] for file in ("fs_names/src/limits.rt", *of_texts, *of_searches) for name, value in constants(file).items()}
-    return found | harness.limits_of_sets()
+    return found | harness.limits_of_sets() | harness.limits_of_texts()
 
 
 @functools.cache
@@ -906,7 +906,9 @@ class Touched(Sentences):
         *(("entry_limit", file) for file in ("crates/fs_calls/specs/Forms.antt", "crates/fs_calls/specs/Examples.antt", "crates/fs_seq/specs/Rows.antt", "tests/data/transcripts/trees")),
         *(("NODE_LIMIT", file) for file in ("crates/fs_nodes/src/store.rt", "crates/fs_names/specs/Limits.antt", "embed/atomfs.h", "docs/SPECIFICATION.md")),
         *(("node_limit", file) for file in ("crates/fs_laws/specs/Events.antt", "tests/core.py", "bindings/rust/src/limits.rs")),
-        *(("TEXT_LIMIT", file) for file in ("crates/fs_io/specs/Devices.antt", "crates/fs_words/proofs/ReadLemmas.antt", "docs/FORMATS.md", "tests/data/explained/TooLarge")),
+        *(("TEXT_LIMIT", file) for file in ("crates/fs_io/src/source.rt", "crates/fs_words/src/headers.rt", "docs/FORMATS.md", "tests/data/explained/TooLarge")),
+        *(("text_limit", file) for file in ("crates/fs_words/specs/Headers.antt", "crates/fs_script/specs/Laws.antt", "docs/FORMATS.md", "tests/data/explained/TooLarge")),
+        *(("call_limit", file) for file in ("crates/fs_script/src/draft.rt", "crates/fs_script/specs/Limits.antt", "bindings/python/src/atomfs/_script.py", "docs/FORMATS.md")),
         *(("file_limit", file) for file in ("crates/fs_names/specs/Limits.antt", "crates/fs_calls/specs/Examples.antt", "tests/data/transcripts/trees", "embed/atomfs.h")),
     )
 
@@ -966,7 +968,7 @@ class Guarantees(Sentences):
 
     PAGE = DOCS / "GUARANTEES.md"
     # How many wrong bodies stand in all crates at most, in one at most, and in one that has some at least.
-    MOST_EDITS, MOST_OF_A_CRATE, LEAST_OF_A_CRATE = 43, 9, 3
+    MOST_EDITS, MOST_OF_A_CRATE, LEAST_OF_A_CRATE = 44, 9, 3
 
     def test_promises(self):
         """Each crate of the product has a row, with functions and clauses of it."""
@@ -1107,29 +1109,37 @@ class Numbers(Sentences):
         first, second, third = ({what: sets[at] for what, sets in told.items()} for at in range(3))
         self.says(SPECIFICATION, f"No call answers more than {names} names")
         self.says(SPECIFICATION, f"A **path** is a key of at most {third['path_limit']:,} names")
-        told_of = f"{second['entry_limit']} entries in a directory, paths of {second['path_limit']} names, {second['node_limit']:,} nodes"
-        self.says(README, f"names of {second['name_limit']} bytes, files of {second['file_limit']:,}, {told_of}")
-        told_of = f"files of {third['file_limit']:,}, {third['entry_limit']:,} entries, {third['path_limit']:,} names, {third['node_limit']:,} nodes"
-        self.says(README, f"by `atomfs 3`, `Limits.V3` {told_of}")
-        self.says(README, f"by the first (`atomfs 1`, `atomfs_open`) names of {first['name_limit']}, files of {first['file_limit']:,}")
-        told_of = f"{second['file_limit']:,} bytes in a file, {second['name_limit']} in a name"
-        self.says(CHOOSING, f"{second['entry_limit']} entries in a directory, {told_of}")
-        self.says(CHOOSING, f"{third['entry_limit']:,} entries and {third['file_limit']:,} bytes")
+        told_of = f"{third['entry_limit']:,} entries in a directory, paths of {third['path_limit']:,} names, {third['node_limit']:,} nodes"
+        self.says(README, f"names of {third['name_limit']} bytes, files of {third['file_limit']:,}, {told_of}")
+        told_of = f"files of {second['file_limit']:,}, {second['entry_limit']} entries, {second['path_limit']} names, {second['node_limit']:,} nodes"
+        self.says(README, f"by `atomfs 2`, `Limits.V2` names of {second['name_limit']}, {told_of}")
+        self.says(README, f"by `atomfs 1`, `atomfs_open` names of {first['name_limit']}, files of {first['file_limit']:,}")
+        told_of = f"{third['file_limit']:,} bytes in a file, {third['name_limit']} in a name"
+        self.says(CHOOSING, f"{third['entry_limit']:,} entries in a directory, {told_of}")
+        self.says(CHOOSING, f"{second['entry_limit']} entries, {second['file_limit']:,} bytes and {second['name_limit']}")
+        self.says(SPECIFICATION, f"A **name** is 1 to {third['name_limit']} bytes")
+        words = f"more than {first['name_limit']} bytes, in a text of version 2 more than {second['name_limit']}, of version 3 more than {third['name_limit']}"
+        self.says(FORMATS, f"a name in a path has {words}")
         header = (ROOT / "embed" / "atomfs.h").read_text()
         nodes = {f"ATOMFS{which}_NODE_LIMIT": sets["node_limit"] for which, sets in (("", first), ("", second), ("_V3", third))}
         due = {**nodes, "ATOMFS_LIST_LIMIT": names, "ATOMFS_READ_LIMIT": max(reads)}
         self.agrees("embed/atomfs.h", {name: number(re.search(f"#define {name} (.*)", header)[1]) for name in due}, due)
 
     def test_limits_of_texts(self):
-        texts, scripts, nodes = constants("fs_words/src/limits.rt"), constants("fs_script/src/limits.rt"), limits()["node_limit"][1]
+        scripts, (nodes, third_nodes) = constants("fs_script/src/limits.rt"), limits()["node_limit"][1:]
+        (first_text, text, third_text), (first_calls, calls, third_calls) = harness.limits_of_texts().values()
+        self.agrees("the first two sets", (first_text, first_calls), (text, calls))
+        rooms = {"TEXT_LIMIT": text, "LARGEST_TEXT": third_text, "CALL_LIMIT": third_calls}
+        found = constants("fs_words/src/limits.rt") | scripts
+        self.agrees("what each set has room for", rooms, {name: found[name] for name in rooms})
         draws, seeds = constants("fs_sched/src/schedule.rt"), constants("fs_sched/src/seeding.rt")
         events = scripts["EVENT_LIMIT"]
         sentences = (
-            f"A text of more than {texts['TEXT_LIMIT']:,} bytes is `TooLarge`",
-            f"The {scripts['THREAD_LIMIT'] + 1:,}th thread, the {scripts['CALL_LIMIT'] + 1:,}th call and the {events + 1:,}st given event",
+            f"A text of more than {text:,} bytes (by version 3, or of a tree, {third_text:,}) is `TooLarge`",
+            f"The {scripts['THREAD_LIMIT'] + 1:,}th thread, the {calls + 1:,}th call, in version 3 the {third_calls + 1:,}th, and the {events + 1:,}st given event",
             f"`THREAD*NUMBER` (1 to {events:,} events)",
             f"with a number outside 1 to {events:,}",
-            f"a limit is exceeded: {texts['TEXT_LIMIT']:,} bytes of a text, {scripts['THREAD_LIMIT']} threads, {scripts['CALL_LIMIT']:,} calls, {events:,} given events or {nodes:,} nodes",
+            f"a limit is exceeded: {text:,} bytes of a text, {scripts['THREAD_LIMIT']} threads, {calls:,} calls, {events:,} given events or {nodes:,} nodes; in version 3 {third_text:,} bytes, {third_calls:,} calls or {third_nodes:,} nodes",
             f"then at most {scripts['THREAD_NAME_LIMIT'] - 1} of `a` to `z`",
             f"or {draws['DRAW_LIMIT']:,} are drawn",
             f"N from 0 to {seeds['SEED_LIMIT']:,}, K from 1 to {seeds['RUN_LIMIT']:,}",
@@ -1137,6 +1147,7 @@ class Numbers(Sentences):
             f"that has WHAT; K from 1 to {constants('fs_find/src/finding.rt')['SEARCH_LIMIT']:,}",
             f"where it stopped at {constants('fs_shrink/src/limits.rt')['TRIAL_LIMIT']:,} runs",
             f"at most {2**64 - 1:,} | `BadNumber`",
+            f"the count, at most {2**32 - 1:,}; in texts of version 3 alone",
         )
         self.each(((sentence, FORMATS, sentence) for sentence in sentences), self.says)
         self.says(EXPLAINED / "TooLarge", f"at most {events:,} events are given")

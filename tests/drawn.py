@@ -1,4 +1,5 @@
 """Drawn calls, the threads that make them, and scripts of these. Each drawing takes its numbers from a `random.Random` that is handed over."""
+import re
 
 # Of these a name is drawn for calls that are to meet: the last one is the rarest.
 LETTERS = "a" * 10 + "b" * 9 + "c"
@@ -9,7 +10,8 @@ HIGH = [1] * 14 + [2] * 4 + [3] * 2
 MOVING = {"rename": 40, "mkdir": 16, "mknod": 10, "stat": 6, "write": 6, "unlink": 5, "rmdir": 5, "readdir": 4, "read": 4, "truncate": 4}
 EXCHANGING = {**MOVING, "rename": 8, "exchange": 32}
 CROWDED = {"mkdir": 22, "rename": 16, "exchange": 6, "mknod": 10, "write": 9, "stat": 8, "readdir": 7, "rmdir": 6, "read": 6, "unlink": 5, "truncate": 5}
-# Of the third limits, whose calls are drawn by themselves.
+# Of the third limits, whose calls are drawn by themselves, and what stands there for two of the three names.
+LONG = {"b": 100 * "c", "c": 255 * "c"}
 LISTING = {"list": 24, "mkdir": 16, "mknod": 16, "rename": 12, "exchange": 5, "write": 5, "stat": 5, "readdir": 5, "rmdir": 4, "read": 3, "unlink": 4, "truncate": 2}
 HELPED = {"rename": 28, "exchange": 12, "write": 20, "truncate": 10, "unlink": 14, "above": 8, "mknod": 4, "rmdir": 4}
 # The directories of a tree for moving calls, those above before those below. The last ones, /b and those below it, are mostly left out.
@@ -152,6 +154,11 @@ def crowded(draw):
     return [[crowded_call(draw) for _ in range(draw.randrange(1, most))] for _ in range(draw.randint(2, 16))]
 
 
+def lengthened(call):
+    """The call with long names in the place of some."""
+    return re.sub("/([bc])", lambda name: f"/{LONG[name[1]]}", call)
+
+
 def listing_call(draw):
     """Any call of the third limits, over three names, at most four deep; of those that are listed some above a name, of a path of one or more."""
     chosen = kind(draw, LISTING)
@@ -174,7 +181,7 @@ def listing_call(draw):
 
 def listing(draw):
     """Two to six threads of a few calls by the third limits."""
-    return [[listing_call(draw) for _ in range(draw.randint(3, 12))] for _ in range(draw.randint(2, 6))]
+    return [[lengthened(listing_call(draw)) for _ in range(draw.randint(3, 12))] for _ in range(draw.randint(2, 6))]
 
 
 def script(threads, schedule="finish", version=1):

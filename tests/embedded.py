@@ -52,7 +52,7 @@ readme_python: as README.md says
 # How many runs are drawn, and how many events each has before its calls are left standing. A call that has begun returns within so many steps, whatever it does.
 RUNS, EVENTS, STEPS = 200, range(100, 400), 200
 # Of these drawn paths are put together, and how many there are.
-PIECES = [b"/", b"//", b"a", b"b/", b"/.", b"/..", b"/...", b"\0", *(b"/" + size * b"n" for size in (32, 33, 64, 65)), *(names * b"/m" for names in (63, 64, 65))]
+PIECES = [b"/", b"//", b"a", b"b/", b"/.", b"/..", b"/...", b"\0", *(b"/" + size * b"n" for size in (32, 33, 64, 65, 255, 256)), *(names * b"/m" for names in (63, 64, 65))]
 PATHS = 2_000
 
 

@@ -5,11 +5,13 @@ Calls and replies come in their canonical form, as the program writes them.
 import collections
 import re
 
-LENGTH, THREADS, CALLS, EVENTS = 16_777_216, 256, 65_536, 1_000_000
-GREATEST = 2**64 - 1
+THREADS, EVENTS = 256, 1_000_000
+GREATEST, GREATEST_COUNT = 2**64 - 1, 2**32 - 1
 
-Limits = collections.namedtuple("Limits", "path_names name_bytes entries file_bytes has_list")
-V1, V2, V3 = Limits(64, 32, 256, 65_536, False), Limits(64, 64, 256, 1_048_576, False), Limits(2_048, 64, 1_048_576, 2_147_483_648, True)
+Limits = collections.namedtuple("Limits", "path_names name_bytes entries file_bytes has_list text_bytes calls")
+V1 = Limits(64, 32, 256, 65_536, False, 16_777_216, 65_536)
+V2 = Limits(64, 64, 256, 1_048_576, False, 16_777_216, 65_536)
+V3 = Limits(2_048, 255, 1_048_576, 2_147_483_648, True, 1_073_741_824, 4_194_304)
 SCRIPTS = {b"atomfs 1": V1, b"atomfs 2": V2, b"atomfs 3": V3}
 JOURNALS = {b"atomfs-journal 1": V1, b"atomfs-journal 2": V1, b"atomfs-journal 3": V2, b"atomfs-journal 4": V3}
 
@@ -42,10 +44,15 @@ def fixed(word, _limits):
     return word.decode()
 
 
-def number(word, _limits):
-    if not re.fullmatch(rb"0|[1-9][0-9]{0,19}", word) or int(word) > GREATEST:
+def number(word, _limits, greatest=GREATEST):
+    if not re.fullmatch(rb"0|[1-9][0-9]{0,19}", word) or int(word) > greatest:
         raise Fault("BadNumber")
     return word.decode()
+
+
+def count(word, limits):
+    """How many names a list asks for."""
+    return number(word, limits, GREATEST_COUNT)
 
 
 def hexadecimal(word, _limits):
@@ -87,7 +94,7 @@ def error(word, _limits):
     return word.decode()
 
 
-READERS = {"PATH": path, "NUMBER": number, "HEX": hexadecimal, "ERRNO": error}
+READERS = {"PATH": path, "NUMBER": number, "COUNT": count, "HEX": hexadecimal, "ERRNO": error}
 
 
 def forms(*lines):
@@ -100,7 +107,7 @@ CALL_FORMS = forms(
     *("mkdir PATH", "mknod PATH", "unlink PATH", "rmdir PATH", "rename PATH PATH", "exchange PATH PATH"),
     *("stat PATH", "readdir PATH", "read PATH NUMBER NUMBER", "write PATH NUMBER HEX", "truncate PATH NUMBER"),
 )
-LIST_FORM = forms("list PATH PATH NUMBER")
+LIST_FORM = forms("list PATH PATH COUNT")
 REPLY_FORMS = forms("ok", "stat dir NUMBER", "stat file NUMBER", "bytes HEX", "wrote NUMBER", "failed ERRNO")
 
 
@@ -160,15 +167,23 @@ def cut(line):
     return words
 
 
+def first_line(text):
+    """The first line of a text, which tells how long the text may be, whatever reads it."""
+    first = text.partition(b"\n")[0]
+    limits = V3 if first == b"tree" else (SCRIPTS | JOURNALS).get(first, V1)
+    if len(text) > limits.text_bytes:
+        raise Fault("TooLarge", 1)
+    return first
+
+
 def read(text, headers, take, end=None, behind=1):
     """Hands the words of each line that is not passed over to `take`, with the limits of the first line, from behind so many lines up to a line
     that is the end. Answers how many lines there are.
     """
-    if len(text) > LENGTH:
-        raise Fault("TooLarge", 1)
-    first, *lines = text.removesuffix(b"\n").split(b"\n")
+    first = first_line(text)
     if first not in headers:
         raise Fault("BadHeader", 1)
+    lines = text.removesuffix(b"\n").split(b"\n")[1:]
     for place, line in enumerate(lines[behind - 1 :], 1 + behind):
         if line == end:
             break
@@ -233,8 +248,7 @@ def start(text):
 
 def journal(text):
     """The entries of a journal."""
-    if len(text) > LENGTH:
-        raise Fault("TooLarge", 1)
+    first_line(text)
     entries, (_, behind) = [], start(text)
     read(text, JOURNALS, lambda words, limits: entries.append(entry(words, limits)), b"tree", behind)
     return entries
@@ -246,8 +260,9 @@ class Script:
     """
 
     def __init__(self, text):
-        self.header, self.calls, self.events, self.finishes = text.split(b"\n")[0].decode("latin-1"), {}, None, False
-        self.calls_left, self.events_left = CALLS, EVENTS
+        first = first_line(text)
+        self.header, self.calls, self.events, self.finishes = first.decode("latin-1"), {}, None, False
+        self.calls_left, self.events_left = SCRIPTS.get(first, V1).calls, EVENTS
         lines = read(text, SCRIPTS, self.take)
         if self.events is None:
             raise Fault("NoSchedule", lines + 1)

@@ -140,6 +140,12 @@ def limits_of_sets():
     return {limit: [int(value) for sets, value in arms for _ in sets.split("|")] for limit, arms in told.items()}
 
 
+def limits_of_texts():
+    """How long a text may be, and how many calls a script has, by each set of limits, by the definition of each."""
+    defined = "".join((ROOT / "crates" / file).read_text() for file in ("fs_words/specs/Headers.antt", "fs_script/specs/Limits.antt"))
+    return {limit: [int(value) for value in re.findall(rf"^{limit} V\d = (\d+)$", defined, re.M)] for limit in ("text_limit", "call_limit")}
+
+
 def compiled(folder, source, *more):
     """The shared object that `cc` makes of a source in C of tests/."""
     made = f"{folder}/{source}.so"

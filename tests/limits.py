@@ -1,9 +1,10 @@
 """Inputs at each limit of docs/FORMATS.md and docs/SPECIFICATION.md and one past it, and scripts that make the program hold much, or too much.
 
 `python3 tests/limits.py --measure` also tells the seconds of each run, and the most memory that the program held: no less than Python holds when it
-starts the program. docs/GUARANTEES.md has the bounds. No script has calls enough for all 1,048,576 numbers of nodes. By the third limits what comes of calls
-is what tests/model.py makes of them.
+starts the program. docs/GUARANTEES.md has the bounds. No script has calls enough for all numbers of nodes that its limits have. By the third limits what
+comes of few calls is what tests/model.py makes of them. The longest texts and the most calls hold 1.4 GB.
 """
+import contextlib
 import itertools
 import os
 import pathlib
@@ -25,7 +26,10 @@ STACK = 128 * 1024
 # The largest file by the second limits.
 FILE_BY_SECOND = 1_048_576
 # The third limits, as far as they are others; and the names of a full directory, in order.
-THIRD_FILE, THIRD_READ, THIRD_ENTRIES, THIRD_PATH, THIRD_NAME = 2_147_483_648, 1_048_576, 1_048_576, 2_048, 64
+THIRD_TEXT, THIRD_CALLS = 1_073_741_824, 4_194_304
+THIRD_FILE, THIRD_READ, THIRD_ENTRIES, THIRD_PATH, THIRD_NAME = 2_147_483_648, 1_048_576, 1_048_576, 2_048, 255
+# The most that a list counts.
+MOST_COUNT = 4_294_967_295
 NAMES = "0123456789ABCDEFGHIJKLMNOPQRSTUV"
 ROOM = 268_435_456
 # The most bytes that are held for each event of a run that is traced, drawn or scheduled.
@@ -63,6 +67,9 @@ def refused(line, fault):
 
 
 EMPTY, EMPTY_RUN = b"atomfs 1\nschedule\n", well("atomfs-journal 1\n", finished(0))
+# The same by the other limits, and the journals without entries, by the version of scripts.
+EMPTIES = {version: EMPTY.replace(b"1", b"%d" % version) for version in (1, 2, 3)}
+STARTED = {version: b"atomfs-journal %d\nstart\ndir /\nentries\n" % (version + 1) for version in (1, 2, 3)}
 
 
 def script(calls, words="finish"):
@@ -72,9 +79,15 @@ def script(calls, words="finish"):
     yield from ("schedule", words)
 
 
+def by(version, lines):
+    """The lines of a script by other limits."""
+    yield f"atomfs {version}"
+    yield from itertools.islice(lines, 1, None)
+
+
 def third(calls):
     """The script of one thread by the third limits."""
-    yield from ("atomfs 3", *list(script(calls))[1:])
+    return by(3, script(calls))
 
 
 def of_model(calls):
@@ -85,10 +98,23 @@ def of_model(calls):
     return well("".join(f"{line}\n" for line in (*text, *tree.text())), counts(len(calls)))
 
 
+def long_names():
+    """Calls on as many names as a call answers, and one more, each as long as there are."""
+    names = [f"{number:0{THIRD_NAME}}" for number in range(ENTRIES + 1)]
+    yield from (f"mknod /{name}" for name in names[:ENTRIES])
+    yield from ("readdir /", f"list / / {ENTRIES}", f"mkdir /{names[0]}", f"mknod /{names[ENTRIES]}", "readdir /", f"list / / {ENTRIES}", f"list / /{names[ENTRIES - 2]} 9")
+    yield from (f"rename /{names[0]} /{names[1]}", f"rename /{names[1]} /{names[0]}", f"exchange /{names[2]} /{names[3]}", f"unlink /{names[ENTRIES]}", "stat /")
+
+
+def names_in_order(count):
+    """So many names of a full directory, in order."""
+    return ("".join(letters) for letters in itertools.islice(itertools.product(NAMES, repeat=4), count))
+
+
 def full_directory(entries, *more):
     """A journal that starts at a directory of so many entries."""
     yield from ("atomfs-journal 4", "start", "dir /")
-    yield from (f"file /{''.join(letters)} -" for letters in itertools.islice(itertools.product(NAMES, repeat=4), min(entries, THIRD_ENTRIES)))
+    yield from (f"file /{name} -" for name in names_in_order(min(entries, THIRD_ENTRIES)))
     yield from (f"file /W{number} -" for number in range(entries - THIRD_ENTRIES))
     yield from ("entries", *more)
 
@@ -214,6 +240,11 @@ class Limits(Case):
             made.seek(max(0, self.made.stat().st_size - length))
             return made.read()
 
+    def most_bytes(self):
+        """How long the text that was written may be."""
+        with open(self.made, "rb") as made:
+            return THIRD_TEXT if made.readline() == b"atomfs-journal 4\n" else TEXT
+
     def compare(self, words, wanted, room=None):
         status, told, seconds, kilobytes = self.measured(words, room)
         came = Outcome(status, self.end(len(wanted.output) or 4_096), told)
@@ -222,11 +253,11 @@ class Limits(Case):
             print(f"{self.row}, {words[0]}: status {status}, {seconds:.2f} seconds, {kilobytes} kilobytes", flush=True)
 
     def ends(self, lines, words, wanted, room=None):
-        """The outcome on these lines. A run text that is no longer than a text may be is checked."""
+        """The outcome on these lines. A run text that is no longer than a text may be by its first line is checked."""
         with open(self.given, "w") as given:
             given.writelines(f"{line}\n" for line in lines)
         self.compare(words, wanted, room)
-        if words == RUN and wanted.status == 0 and self.made.stat().st_size <= TEXT:
+        if words == RUN and wanted.status == 0 and self.made.stat().st_size <= self.most_bytes():
             self.made.replace(self.given)
             self.compare(CHECK, LAWFUL)
 
@@ -241,6 +272,56 @@ class Limits(Case):
                 (f"{words[0]}, {TEXT + 1} bytes", words, header.ljust(TEXT + 1, b"#"), refused(1, "TooLarge")),
             ), self.whole)
 
+    def filled(self, words, header, length, wanted):
+        """The outcome on a text of so many bytes: behind these lines a comment of bytes zero, of which the file holds none."""
+        with open(self.given, "wb") as given:
+            given.write(header + b"#")
+            given.truncate(length)
+        self.compare(words, wanted)
+
+    def test_lengths_by_first_lines(self):
+        """How long a text may be is told by its first line alone, whatever reads it."""
+        ran = {1: EMPTY_RUN, **{version: well(STARTED[version].decode(), finished(0)) for version in (2, 3)}}
+        of_version = [
+            (f"{name} {number}", most, words, header, wanted)
+            for version, most in ((1, TEXT), (2, TEXT), (3, THIRD_TEXT))
+            for name, number, words, header, wanted in (
+                ("atomfs", version, RUN, EMPTIES[version], ran[version]),
+                ("atomfs-journal", version + 1, CHECK, STARTED[version], LAWFUL),
+            )
+        ]
+        self.each((
+            *((f"{name}, {most} bytes", words, header, most, wanted) for name, most, words, header, wanted in of_version),
+            *((f"{name}, {most + 1} bytes", words, header, most + 1, refused(1, "TooLarge")) for name, most, words, header, _ in of_version),
+            (f"atomfs 3, {TEXT + 1} bytes", RUN, EMPTIES[3], TEXT + 1, ran[3]),
+            (f"atomfs 3, drawn, {TEXT + 1} bytes", SEEDS, EMPTIES[3], TEXT + 1, LAWFUL_SEEDS),
+            (f"atomfs 3, on real threads, {TEXT + 1} bytes", ("threads",), EMPTIES[3], TEXT + 1, well("lawful calls 0\n")),
+            (f"atomfs-journal 4, {TEXT + 1} bytes", CHECK, STARTED[3], TEXT + 1, LAWFUL),
+            (f"a history by the third limits, {TEXT + 1} bytes", ("linearize",), STARTED[3], TEXT + 1, well(STARTED[3].decode())),
+            (f"a history by the third limits, {THIRD_TEXT + 1} bytes", ("linearize",), STARTED[3], THIRD_TEXT + 1, refused(1, "TooLarge")),
+            (f"a history by the second limits, {TEXT + 1} bytes", ("linearize",), STARTED[2], TEXT + 1, refused(1, "TooLarge")),
+            (f"a script that is no journal, {TEXT + 1} bytes", CHECK, EMPTIES[3], TEXT + 1, refused(1, "BadHeader")),
+            (f"a journal that is no script, {TEXT + 1} bytes", RUN, STARTED[3], TEXT + 1, refused(1, "BadHeader")),
+            (f"atomfs 4, {TEXT + 1} bytes", RUN, b"atomfs 4\n", TEXT + 1, refused(1, "TooLarge")),
+            (f"atomfs 3 and a space, {TEXT + 1} bytes", RUN, b"atomfs 3 \n", TEXT + 1, refused(1, "TooLarge")),
+            (f"a first line that goes on, {TEXT + 1} bytes", RUN, b"atomfs 3", TEXT + 1, refused(1, "TooLarge")),
+            (f"an empty line first, {TEXT + 1} bytes", RUN, b"\natomfs 3\n", TEXT + 1, refused(1, "TooLarge")),
+        ), self.filled)
+
+    def test_lengths_through_a_pipe(self):
+        """What tells that a text is too long is read, and no more: the one that writes it is left with the rest."""
+        piece = b"#" * 999 + b"\n"
+        for version, most in ((2, TEXT), (3, THIRD_TEXT)):
+            with self.subTest(f"atomfs {version}"), subprocess.Popen([program(), *RUN], stdin=subprocess.PIPE, stdout=subprocess.PIPE, stderr=subprocess.PIPE) as child:
+                written = 0
+                with contextlib.suppress(BrokenPipeError):
+                    written += child.stdin.write(EMPTIES[version])
+                    while written < 2 * most:
+                        written += child.stdin.write(piece * 1_000)
+                output, message = child.communicate(timeout=MOST_SECONDS)
+                self.same(f"atomfs {version} without end", Outcome(child.returncode, output, message), refused(1, "TooLarge"))
+                self.assertLess(written, most + 4 * len(piece) * 1_000)
+
     def test_scripts(self):
         folders = [f"dir /{number}" for number in sorted(map(str, range(THREADS)))]
         first, last = (alone(number, "stat /", "stat dir 0") for number in (1, CALLS))
@@ -254,6 +335,8 @@ class Limits(Case):
             (f"{CALLS} calls", stats(CALLS), RUN, well(last, finished(CALLS))),
             (f"{CALLS} calls, on a real thread", stats(CALLS), ("threads",), well(f"lawful calls {CALLS}\n")),
             (f"{CALLS + 1} calls", stats(CALLS + 1), RUN, refused(CALLS + 3, "TooLarge")),
+            (f"{CALLS} calls by the second limits", by(2, stats(CALLS)), RUN, well(last, finished(CALLS))),
+            (f"{CALLS + 1} calls by the second limits", by(2, stats(CALLS + 1)), RUN, refused(CALLS + 3, "TooLarge")),
             (f"{EVENTS} events", script(["stat /"], f"t*{EVENTS}"), RUN, well(first, finished(1))),
             (f"{EVENTS + 1} events", script(["stat /"], f"t*{EVENTS} t"), RUN, refused(5, "TooLarge")),
         ), self.ends)
@@ -285,7 +368,8 @@ class Limits(Case):
         chain = [f"mkdir {path[: 2 * depth]}" for depth in range(1, THIRD_PATH + 1)]
         edge = THIRD_FILE - 1
         rows = (
-            (f"a name of {THIRD_NAME} bytes", [f"mkdir /{name}"]),
+            (f"names of {THIRD_NAME} bytes", [*long_names()]),
+            (f"a count of {MOST_COUNT}", ["mknod /a", f"list / / {MOST_COUNT}"]),
             (f"a path of {THIRD_PATH} names", [*chain, f"stat {path}", f"mknod {path[:-2]}/f", f"list {path[:-2]} / 9", "rename /n /m"]),
             (f"{ENTRIES} entries", [*(f"mknod /{number}" for number in range(ENTRIES)), "readdir /", "list / / 257"]),
             (f"{ENTRIES + 1} entries", [*(f"mknod /{number}" for number in range(ENTRIES + 1)), "readdir /", "list / / 257", "list / /97 257", "list / /98 257", "rmdir /", "unlink /5", "readdir /"]),
@@ -298,17 +382,38 @@ class Limits(Case):
         self.each((*((name, third(calls), RUN, of_model(calls)) for name, calls in rows), *(
             (f"a name of {THIRD_NAME + 1} bytes", third([f"mkdir /{name}n"]), RUN, refused(3, "BadPath NameTooLong")),
             (f"a path of {THIRD_PATH + 1} names", third([f"stat {path}/n"]), RUN, refused(3, "BadPath TooManyNames")),
+            (f"a list behind a name of {THIRD_NAME + 1} bytes", third([f"list / /{name}n 1"]), RUN, refused(3, "BadPath NameTooLong")),
             (f"a list behind a path of {THIRD_PATH + 1} names", third([f"list / {path}/n 1"]), RUN, refused(3, "BadPath TooManyNames")),
+            (f"a count of {MOST_COUNT + 1}", third([f"list / / {MOST_COUNT + 1}"]), RUN, refused(3, "BadNumber")),
+            (f"a count of {2**64}", third([f"list / / {2**64}"]), RUN, refused(3, "BadNumber")),
             (f"{CALLS} entries, on a real thread", third(f"mknod /{number}" for number in range(CALLS)), ("threads",), well(f"lawful calls {CALLS}\n")),
         )), self.ends)
 
+    def test_third_calls(self):
+        """More than the other limits have, as many as there are, and one more."""
+        last = {count: well(alone(count, "stat /", "stat dir 0"), finished(count)) for count in (CALLS + 1, THIRD_CALLS)}
+        halves = ("atomfs 3", "thread t", *["stat /"] * (CALLS // 2), "thread u", *["stat /"] * (CALLS // 2 + 1), "schedule", "finish")
+        self.each((
+            (f"{CALLS + 1} calls", by(3, stats(CALLS + 1)), RUN, last[CALLS + 1]),
+            (f"{CALLS + 1} calls of two threads", halves, RUN, well(finished(CALLS + 1))),
+            (f"{CALLS + 1} calls of two threads by the second limits", by(2, halves), RUN, refused(CALLS + 4, "TooLarge")),
+            (f"{CALLS + 1} calls, on a real thread", by(3, stats(CALLS + 1)), ("threads",), well(f"lawful calls {CALLS + 1}\n")),
+            (f"{THIRD_CALLS} calls", by(3, stats(THIRD_CALLS)), RUN, last[THIRD_CALLS]),
+            (f"{THIRD_CALLS + 1} calls", by(3, stats(THIRD_CALLS + 1)), RUN, refused(THIRD_CALLS + 3, "TooLarge")),
+        ), self.ends)
+
     def test_third_directories(self):
-        """No text has calls enough to fill one, but one may start there."""
+        """Journals that start at a full one, and calls that fill one."""
         entry, last = "begin 1 0 mknod /X", f"begin 2 1 list / /{4 * NAMES[-1]} 9"
         self.each((
             (f"{THIRD_ENTRIES} entries", full_directory(THIRD_ENTRIES, entry, "commit 1", "return 1 failed ENOSPC", last, "commit 2", "return 2 names"), CHECK, LAWFUL),
             (f"{THIRD_ENTRIES - 1} entries", full_directory(THIRD_ENTRIES - 1, entry, "commit 1", "return 1 ok", "begin 2 0 mknod /Y", "commit 2", "return 2 failed ENOSPC"), CHECK, LAWFUL),
             (f"{THIRD_ENTRIES + 1} entries", full_directory(THIRD_ENTRIES + 1), CHECK, refused(THIRD_ENTRIES + 4, "BadStart")),
+        ), self.ends)
+        full = *(f"mknod /{name}" for name in names_in_order(THIRD_ENTRIES)), "mknod /X", "unlink /0000", "mknod /X"
+        self.each((
+            (f"{THIRD_ENTRIES} entries that are made", third(full), RUN, well(f"file /{4 * NAMES[-1]} -\nfile /X -\n", counts(len(full)))),
+            (f"{THIRD_ENTRIES} entries that are made, on a real thread", third(full), ("threads",), well(f"lawful calls {len(full)}\n")),
         ), self.ends)
 
     def test_levels(self):
@@ -404,6 +509,7 @@ class Stack(Case):
             ("a deep tree", list(script(deep(300)))),
             ("a full file", list(script(["mknod /f", f"truncate /f {FILE}", f"read /f 0 {FILE}"]))),
             ("many threads", ["atomfs 1", *many, "schedule", "finish"]),
+            ("long names", list(third(long_names()))),
         )
         commands = RUN, ("run", "--robin"), ("run", "--seed", "7"), SEEDS, ("threads",), ("trace",), ("draw",), ("schedule", "--robin")
         self.each(((f"{' '.join(words)}, {name}", lines, *words) for name, lines in kinds for words in commands), self.ends)

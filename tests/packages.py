@@ -378,7 +378,10 @@ class Numbers(Case):
 
         sys.path.pop(0)
         self.same("_library.py", {what: [getattr(limits, what) for limits in Limits] for what in wanted}, wanted)
-        self.same("of the set where none is given", (NODE_LIMIT, PATH_LIMIT), (wanted["nodes"][1], wanted["path_names"][1]))
+        self.same("of the set where none is given", (NODE_LIMIT, PATH_LIMIT), (wanted["nodes"][2], wanted["path_names"][2]))
+        calls = re.search(r"^_CALLS, \w+ = \{(.*)\}", self.source("python", "src", "atomfs", "_script.py"), re.M)[1]
+        wanted = dict(zip(("V1", "V2", "V3"), harness.limits_of_texts()["call_limit"], strict=True))
+        self.same("_script.py", {name: int(value) for name, value in re.findall(r"Limits\.(V\d): ([\d_]+)", calls)}, wanted)
         names = [LISTED, int(re.search(r"LISTED: usize = ([\d_]+)", source)[1])]
         self.same("how many names a call answers", names, [constants("fs_names/src/limits.rt")["LIST_LIMIT"]] * 2)
 

@@ -20,7 +20,7 @@ from harness import ROOT, Case, run
 
 RECORD, STORED = ROOT / "examples" / "record", harness.DATA / "recorders"
 DIRECTORY = "/tmp/tree"
-OPENING = "atomfs-journal 3\nstart\ndir /\nentries\n"
+OPENING = "atomfs-journal 4\nstart\ndir /\nentries\n"
 # How many histories of one thread record.c makes.
 ALONE = 20
 

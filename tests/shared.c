@@ -17,7 +17,7 @@ static atomfs_shared *shared;
 static atomfs_session *session, *other_session;
 static uint64_t number, wrote, seat;
 static size_t count, entries;
-static char out[20000];
+static char out[70000];
 static struct atomfs_stat stat_;
 
 #ifdef COUNTED
@@ -157,15 +157,16 @@ static void nulls(void) {
 }
 
 /* A directory of as many and as long names as there may be: all are told, or none. */
-static void all_names(void) {
-    char path[] = "/0000000000000000000000000000000000000000000000000000000000000000";
-    size_t most = 256 * 65;
-    open_shared(300, ATOMFS_V2);
+static void all_names(uint8_t version, size_t longest) {
+    char path[2 + 255] = "/";
+    size_t each = longest + 1, most = 256 * each;
+    memset(path + 1, '0', longest);
+    open_shared(300, version);
     for (int i = 0; i < 256; i++) {
-        snprintf(path + 62, 4, "%03d", i);
-        IS(atomfs_shared_mknod(session, PATH(path), NULL), ATOMFS_OK);
+        snprintf(path + each - 3, 4, "%03d", i);
+        IS(atomfs_shared_mknod(session, path, each, NULL), ATOMFS_OK);
         IS(atomfs_shared_readdir(session, PATH("/"), NULL, 0, &count, NULL), ATOMFS_TOO_SMALL);
-        IS(count, 65 * ((size_t)i + 1));
+        IS(count, each * ((size_t)i + 1));
     }
     memset(out, '.', sizeof out);
     IS(atomfs_shared_readdir(session, PATH("/"), out, most - 1, &count, &number), ATOMFS_TOO_SMALL);
@@ -173,15 +174,15 @@ static void all_names(void) {
     IS(out[0], '.');
     IS(atomfs_shared_readdir(session, PATH("/"), out, most, &count, NULL), ATOMFS_OK);
     IS(count, most);
-    for (size_t i = 0; i < most; i += 65) {
-        snprintf(path + 62, 4, "%03d", (int)(i / 65));
-        IS(strcmp(out + i, path + 1), 0);
+    for (size_t i = 0; i < 256; i++) {
+        snprintf(path + each - 3, 4, "%03d", (int)i);
+        IS(strcmp(out + i * each, path + 1), 0);
     }
-    IS(atomfs_shared_mkdir(session, PATH("/more"), NULL), ATOMFS_FAILED + ENOSPC_);
+    if (version == ATOMFS_V2) IS(atomfs_shared_mkdir(session, PATH("/more"), NULL), ATOMFS_FAILED + ENOSPC_);
     atomfs *fs;
     IS(atomfs_shared_lock(shared, &fs), ATOMFS_OK);
-    IS(atomfs_reply_names(fs, number, NULL, 0, out, 70, &count), ATOMFS_OK);
-    IS(count, 65);
+    IS(atomfs_reply_names(fs, number, NULL, 0, out, each + 5, &count), ATOMFS_OK);
+    IS(count, each);
     IS(atomfs_shared_unlock(shared), ATOMFS_OK);
     close_shared();
 }
@@ -196,7 +197,7 @@ static void pieces(void) {
         IS(atomfs_shared_mknod(session, PATH(path), NULL), ATOMFS_OK);
     }
     FAILS(atomfs_shared_readdir(session, PATH("/"), out, sizeof out, &count, NULL), EOVERFLOW_);
-    IS(atomfs_shared_list(session, PATH("/"), PATH("/"), 600, NULL, 0, &count, NULL), ATOMFS_TOO_SMALL);
+    IS(atomfs_shared_list(session, PATH("/"), PATH("/"), UINT32_MAX, NULL, 0, &count, NULL), ATOMFS_TOO_SMALL);
     IS(count, 4 * 256);
     IS(atomfs_shared_list(session, PATH("/"), PATH("/"), 1, out, sizeof out, &count, NULL), ATOMFS_OK);
     SAYS(out, count, "000\000");
@@ -451,7 +452,8 @@ int main(int argc, char **argv) {
     each_call();
     sessions();
     nulls();
-    all_names();
+    all_names(ATOMFS_V2, 64);
+    all_names(ATOMFS_V3, 255);
     pieces();
 #ifdef COUNTED
     IS(sem_init(&gate, 0, 0) + sem_init(&stopped, 0, 0) + sem_init(&waited, 0, 0), 0);

@@ -2,6 +2,7 @@
 
 What a run from a tree writes is what a run writes that comes to the tree by calls and begins again there: tests/model.py says what that is.
 """
+import os
 import shlex
 import tempfile
 import unittest
@@ -14,7 +15,8 @@ from harness import DATA, Outcome, run, takes_a_process
 SCRIPTS = 100
 MOVED = DATA / "starts" / "moved"
 NODE_LIMIT = 1_048_576
-TEXT_LIMIT = 16_777_216
+# The most bytes of a text by the first two sets of limits, and by the third.
+TEXT_LIMIT, THIRD_TEXT_LIMIT = 16_777_216, 1_073_741_824
 ONE_CALL = b"atomfs 1\nthread t\nmkdir /b\nschedule\nfinish\n"
 # The files that have trees. They stand as long as the program answers.
 FOLDER = tempfile.TemporaryDirectory()
@@ -141,7 +143,7 @@ class Starts(harness.Case):
             ("a file of 65,537 bytes", tree_of(large), ONE_CALL, "line 3: BadStart"),
             ("a journal of the other version", journal_of(3, "dir /a"), ONE_CALL, "line 1: BadHeader"),
             ("a journal of the first version", journal_of(2, "dir /a"), second, "line 1: BadHeader"),
-            ("a name of 65 bytes by the third limits", tree_of("dir /" + "n" * 65), third, "line 3: BadStart"),
+            ("a name of 256 bytes by the third limits", tree_of("dir /" + "n" * 255, "dir /" + "n" * 256), third, "line 4: BadStart"),
             ("257 entries", tree_of(*CROWD[:257]), second, "line 259: BadStart"),
             ("a journal of the third limits", journal_of(4, "dir /a"), second, "line 1: BadHeader"),
             ("a journal of the second limits", journal_of(3, "dir /a"), third, "line 1: BadHeader"),
@@ -175,6 +177,21 @@ class Starts(harness.Case):
         self.refused(("run",), b"tree\n".ljust(TEXT_LIMIT + 1, b"#"), ONE_CALL, "line 1: TooLarge")
         self.row = "a byte too many in a journal"
         self.refused(("run",), b"atomfs-journal 2\n".ljust(TEXT_LIMIT + 1, b"#"), ONE_CALL, "line 1: TooLarge")
+
+    def test_third_texts(self):
+        """A tree of more nodes, and texts that would be too long by the others; and one that is too long."""
+        takes_a_process()
+        second, third = (ONE_CALL.replace(b"atomfs 1", b"atomfs %d" % version) for version in (2, 3))
+        self.same("a node more", run(third, "run", "--from", in_file("more", many(NODE_LIMIT + 1))).status, 0)
+        for name, head in (("a tree", tree_of("dir /a")), ("a journal", journal_of(4, "dir /a"))):
+            long = in_file(f"long, {name}", head.ljust(TEXT_LIMIT + 1, b"#"))
+            self.same(name, run(third, "run", "--from", long), run(third, "run", "--from", in_file(f"short, {name}", head)))
+        self.row = "a tree by the second limits"
+        self.refused(("run",), tree_of("dir /a").ljust(TEXT_LIMIT + 1, b"#"), second, "line 1: TooLarge")
+        for head in (tree_of("dir /a"), journal_of(4, "dir /a")):
+            path = in_file("too long", head + b"#")
+            os.truncate(path, THIRD_TEXT_LIMIT + 1)
+            self.ends(("run", "--from", path), third, Outcome(3, b"", f"atomfs: {path}: line 1: TooLarge\n".encode()))
 
 
 def run_of_one(*head, nodes=()):

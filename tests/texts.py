@@ -356,7 +356,7 @@ class Starts(Case):
         "a file below them": [*(f"dir {path}" for path in BRANCH), f"file {BRANCH[-1]}/f 00"],
     }
     # The most bytes of a name and of a file, by the version of the journal; a text has no file that is too large by the third limits.
-    LENGTHS = {2: (32, 65_536), 3: (64, 1_048_576), 4: (64, None)}
+    LENGTHS = {2: (32, 65_536), 3: (64, 1_048_576), 4: (255, None)}
     PAST = {
         "257 entries": [f"dir /{place:03}" for place in range(257)],
         "257 entries of a directory": ["dir /a", *(f"file /a/{place:03} -" for place in range(257))],
@@ -394,10 +394,11 @@ class Starts(Case):
         self.same(text, run(text, "check"), outcome_of(fault))
 
 
-# What texts are drawn from. A letter P, N, H, E or T that is a word, or the thread of a word, stands for one of these.
+# What texts are drawn from. A letter P, N, C, H, E or T that is a word, or the thread of a word, stands for one of these.
 WORDS_OF = {
     "P": ("/", "/a", "/b", "/a/b", "/a/a", "/b/a", "//a", "/%61/b", "/%C3%A9", "/a%20b", "/a%2Fb", "/c~"),
     "N": ("0", "1", "1", "2", "2", "3", "4", "10", "65535", "65536", "65537", "1048576", "1048577", "18446744073709551615"),
+    "C": ("0", "1", "1", "2", "2", "3", "10", "255", "256", "257", "4294967295"),
     "H": ("-", "00", "6869", "fFeE01"),
     "E": ("ENOENT", "ENOTDIR", "EEXIST", "ENOTEMPTY", "EISDIR", "EINVAL", "EBUSY", "EPERM", "ENOSPC", "EFBIG"),
     "T": ("t", "u_2", "thread"),
@@ -409,7 +410,7 @@ CALLS = (
     *("stat P", "readdir P", "read P N N", "write P N H", "truncate P N"),
 )
 # Of the third version alone, whose texts are drawn by themselves.
-LISTING = "list P P N", "list / / N", "list P P N"
+LISTING = "list P P C", "list / / C", "list P P C"
 OVERFLOWS = ("failed EOVERFLOW",)
 THIRD_JOURNAL = "atomfs-journal 4\nstart\ndir /\nentries"
 REPLIES = "ok", "stat dir N", "stat file N", "names", "names a", "names a b%20c %C3%A9", "bytes H", "wrote N", "failed E"
@@ -433,7 +434,7 @@ BYTES = b" \n/%#*-0159af.tr\r\t\0\xFF"
 
 
 def filled(draw, pattern):
-    return re.sub(r"\b[PNHET]\b", lambda letter: draw.choice(WORDS_OF[letter[0]]), pattern)
+    return re.sub(r"\b[PNCHET]\b", lambda letter: draw.choice(WORDS_OF[letter[0]]), pattern)
 
 
 def some(draw, patterns, most):

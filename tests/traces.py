@@ -720,11 +720,11 @@ class Schedules(Case):
     def test_a_text_without_room(self):
         """The words of its events are one byte more than the text has room for."""
         harness.takes_a_process()
-        head, tail = b"atomfs 1\nthread t\nmkdir /a\n#", b"\nschedule\n"
-        for more, wanted in ((0, (0, b"")), (1, (4, b"atomfs: the script would have more than 16777216 bytes\n"))):
-            script = head + b"-" * (16_777_216 - len(head + tail + b"t*5\n") + more) + tail
+        head, tail, refused = b"atomfs 1\nthread t\nmkdir /a\n#", b"\nschedule\n", (4, b"atomfs: the script would have more bytes than a text has\n")
+        for version, more, wanted in ((1, 0, (0, b"")), (1, 1, refused), (2, 1, refused), (3, 1, (0, b""))):
+            script = head.replace(b"1", b"%d" % version, 1) + b"-" * (16_777_216 - len(head + tail + b"t*5\n") + more) + tail
             came = run(script, "schedule", "--robin")
-            self.same(f"a script of {len(script)} bytes", (came.status, came.message), wanted)
+            self.same(f"a script by version {version} of {len(script)} bytes", (came.status, came.message), wanted)
 
     def test_a_schedule_is_named(self):
         self.same("atomfs schedule", run(CUT, "schedule").status, 2)

@@ -268,6 +268,15 @@ static void checked_paths(void) {
     }
     IS(atomfs_check_path(PATH("/"), 0), ATOMFS_BAD_VERSION);
     IS(atomfs_check_path(PATH("a"), 4), ATOMFS_BAD_VERSION);
+    /* The longest name by each set of limits, and one byte more. */
+    static const size_t longest[] = { 32, 64, 255 };
+    char name[2 + 255];
+    memset(name, 'n', sizeof name);
+    name[0] = '/';
+    for (uint8_t version = ATOMFS_V1; version <= ATOMFS_V3; version++) {
+        IS(atomfs_check_path(name, 1 + longest[version - 1], version), ATOMFS_OK);
+        IS(atomfs_check_path(name, 2 + longest[version - 1], version), ATOMFS_PATH_NAME_TOO_LONG);
+    }
     char many[2 * 2049];
     for (int i = 0; i < 2049; i++) memcpy(many + 2 * i, "/a", 2);
     IS(atomfs_check_path(many, 2 * 64, ATOMFS_V2), ATOMFS_OK);
@@ -953,7 +962,7 @@ static void closed(void) {
 
 /* A tree by the limits of a version: what a name and a file have at most, and how its journal begins. */
 static void by_limits(uint8_t version, size_t name, uint64_t file, const char *opening) {
-    char path[100];
+    char path[2 + 255];
     path[0] = '/';
     memset(path + 1, 'n', sizeof path - 1);
     IS(atomfs_open_with(&fs, 100, version), ATOMFS_OK);
@@ -974,7 +983,7 @@ static void by_limits(uint8_t version, size_t name, uint64_t file, const char *o
 static void each_set_of_limits(void) {
     by_limits(ATOMFS_V1, 32, 65536, ATOMFS_JOURNAL_HEADER);
     by_limits(ATOMFS_V2, 64, 1048576, "atomfs-journal 3\nstart\ndir /\nentries\n");
-    by_limits(ATOMFS_V3, 64, 2147483648u, "atomfs-journal 4\nstart\ndir /\nentries\n");
+    by_limits(ATOMFS_V3, 255, 2147483648u, "atomfs-journal 4\nstart\ndir /\nentries\n");
     IS(atomfs_open_with(&fs, 100, 0), ATOMFS_BAD_VERSION);
     IS(atomfs_open_with(&fs, 100, 4), ATOMFS_BAD_VERSION);
     IS(atomfs_open_with(&fs, 0, ATOMFS_V2), ATOMFS_BAD_LIMIT);
@@ -994,6 +1003,27 @@ static void each_set_of_limits(void) {
     IS(atomfs_close(&fs), ATOMFS_CLOSED);
 }
 
+/* What a request asks for beyond 32 bits counts as the greatest count, and a line has none beyond. */
+static void great_counts(atomfs_request *request) {
+    static const uint64_t sizes[] = { UINT32_MAX, (uint64_t)UINT32_MAX + 1, (uint64_t)UINT32_MAX + 2, UINT64_MAX };
+    static const char began[] = " 1 list /d /297 4294967295\n";
+    for (size_t i = 0; i < sizeof sizes / sizeof *sizes; i++) {
+        size_t before = entries_now();
+        request->size = sizes[i];
+        IS(atomfs_begin_call(&fs, other_seat, request, &number), ATOMFS_OK);
+        IS(atomfs_journal(&fs, before, out, sizeof out, &count, &entries), ATOMFS_OK);
+        IS(entries, before + 1);
+        IS(memcmp(out + count - (sizeof began - 1), began, sizeof began - 1), 0);
+        step_to_return(other_seat);
+        IS(atomfs_reply_names(&fs, number, NULL, 0, out, sizeof out, &count), ATOMFS_OK);
+        SAYS(out, count, "298\000" "299\000");
+    }
+    IS(atomfs_call(&fs, seat, PATH("list /d /298 4294967295"), out, sizeof out, &count, &number), ATOMFS_OK);
+    SAYS(out, count, "names 299");
+    IS(atomfs_call(&fs, seat, PATH("list /d /298 4294967296"), out, sizeof out, &count, &number), ATOMFS_BAD_NUMBER);
+    IS(atomfs_begin(&fs, seat, PATH("list /d /298 18446744073709551615"), &number), ATOMFS_BAD_NUMBER);
+}
+
 /* A directory of more names than a call answers: no readdir tells it, and lists tell it in pieces. */
 static void lists(void) {
     char name[] = "/d/000", last[] = "/255";
@@ -1009,7 +1039,7 @@ static void lists(void) {
     }
     FAILS(atomfs_readdir(&fs, seat, PATH("/d"), out, sizeof out, &count, &number), EOVERFLOW_);
     FAILS(atomfs_reply_names(&fs, number, NULL, 0, out, sizeof out, &count), EOVERFLOW_);
-    IS(atomfs_list(&fs, seat, PATH("/d"), PATH("/"), UINT64_MAX, out, sizeof out, &count, &number), ATOMFS_OK);
+    IS(atomfs_list(&fs, seat, PATH("/d"), PATH("/"), UINT32_MAX, out, sizeof out, &count, &number), ATOMFS_OK);
     IS(count, 4 * ATOMFS_LIST_LIMIT);
     SAYS(out, (size_t)8, "000\000" "001\000");
     IS(strcmp(out + count - 4, last + 1), 0);
@@ -1048,6 +1078,7 @@ static void lists(void) {
     SAYS(out, count, "298\000" "299\000");
     IS(atomfs_call(&fs, seat, PATH("list /d /298 9"), out, sizeof out, &count, &number), ATOMFS_OK);
     SAYS(out, count, "names 299");
+    great_counts(&request);
     request.other = NULL;
     IS(atomfs_begin_call(&fs, other_seat, &request, &number), ATOMFS_NULL);
     IS(atomfs_close(&fs), ATOMFS_OK);
@@ -1060,6 +1091,51 @@ static void lists(void) {
     IS(atomfs_begin_call(&fs, seat, &request, &number), ATOMFS_BAD_VERSION);
     IS(atomfs_call(&fs, seat, PATH("list / / 9"), out, sizeof out, &count, &number), ATOMFS_BAD_LINE);
     IS(entries_now(), 0);
+    IS(atomfs_close(&fs), ATOMFS_OK);
+}
+
+/* As many names as a call answers, each as long as there are. */
+static void long_names(void) {
+    enum { LONG = 255, ALL = ATOMFS_LIST_LIMIT * (LONG + 1) };
+    static char path[2 + LONG], all[ALL];
+    memset(path, '0', sizeof path - 1);
+    path[0] = '/';
+    IS(atomfs_open_with(&fs, 300, ATOMFS_V3), ATOMFS_OK);
+    IS(atomfs_seat(&fs, &seat), ATOMFS_OK);
+    IS(atomfs_seat(&fs, &other_seat), ATOMFS_OK);
+    for (int i = 0; i < ATOMFS_LIST_LIMIT; i++) {
+        snprintf(path + LONG - 2, 4, "%03d", i);
+        IS(atomfs_mknod(&fs, seat, path, 1 + LONG, &number), ATOMFS_OK);
+    }
+    IS(atomfs_readdir(&fs, seat, PATH("/"), all, ALL - 1, &count, &number), ATOMFS_TOO_SMALL);
+    IS(count, ALL);
+    IS(atomfs_list(&fs, seat, PATH("/"), PATH("/"), ATOMFS_LIST_LIMIT, all, ALL, &count, &number), ATOMFS_OK);
+    IS(count, ALL);
+    for (int i = 0; i < ATOMFS_LIST_LIMIT; i++) {
+        snprintf(path + LONG - 2, 4, "%03d", i);
+        IS(strcmp(all + i * (LONG + 1), path + 1), 0);
+    }
+    /* The last names come behind the one before them, through a buffer that has room for one. */
+    IS(atomfs_reply_names(&fs, number, all + ALL - 3 * (LONG + 1), LONG, out, LONG + 1, &count), ATOMFS_OK);
+    IS(count, LONG + 1);
+    IS(memcmp(out, all + ALL - 2 * (LONG + 1), LONG + 1), 0);
+    IS(atomfs_reply_names(&fs, number, all + ALL - 2 * (LONG + 1), LONG, out, LONG, &count), ATOMFS_TOO_SMALL);
+    IS(count, LONG + 1);
+    IS(atomfs_list(&fs, seat, PATH("/"), path, 1 + LONG, 9, all, ALL, &count, &number), ATOMFS_OK);
+    IS(count, 0);
+    /* A move, step by step, is found where it went, and not where it was. */
+    atomfs_request request = { ATOMFS_CALL_RENAME, path, 1 + LONG, PATH("/short"), 0, 0, NULL, 0 };
+    IS(atomfs_begin_call(&fs, other_seat, &request, &number), ATOMFS_OK);
+    step_to_return(other_seat);
+    FAILS(atomfs_stat(&fs, seat, path, 1 + LONG, &stat_, &number), ENOENT_);
+    IS(atomfs_rename(&fs, seat, PATH("/short"), path, 1 + LONG, &number), ATOMFS_OK);
+    IS(atomfs_stat(&fs, seat, path, 1 + LONG, &stat_, &number), ATOMFS_OK);
+    IS(atomfs_mkdirs(&fs, seat, path, LONG), ATOMFS_OK);
+    IS(atomfs_unlink(&fs, seat, path, 1 + LONG, &number), ATOMFS_OK);
+    uint64_t place;
+    uint8_t kind;
+    IS(atomfs_verdict(&fs, &place, &kind), ATOMFS_OK);
+    IS(kind, ATOMFS_FAULT_NONE);
     IS(atomfs_close(&fs), ATOMFS_OK);
 }
 
@@ -1123,6 +1199,7 @@ int main(void) {
     closed();
     each_set_of_limits();
     lists();
+    long_names();
     long_reads();
     words();
     puts("typed calls: as they are to be");

@@ -8,7 +8,7 @@ import zipfile
 
 import pytest
 
-SECTION = ["*- atom_tree -*", "<atomfs.Tree open: 3 of 1,048,576 nodes, 3 calls, Limits.V2>", "/", "└── a/", "    └── f (2 bytes)", "The last calls:"]
+SECTION = ["*- atom_tree -*", "<atomfs.Tree open: 3 of 16,777,216 nodes, 3 calls, Limits.V3>", "/", "└── a/", "    └── f (2 bytes)", "The last calls:"]
 
 
 def outcomes(pytester, text, *options, **counts):

@@ -8,7 +8,7 @@ from fs.test import FSTestCases
 from atomfs import Limits
 from atomfs.fs import AtomFS
 
-# What a test of the suite needs, and a tree has not.
+# What a test of the suite needs, and a tree by the second limits has not.
 LONG_FILES = "it stores files of up to 5,505,024 bytes, and a file has at most 1,048,576"
 LEFT_OUT = {f"test_{way}_{workers}": LONG_FILES for way in ("upload", "download") for workers in (0, 1, 2, 4)}
 
@@ -25,7 +25,7 @@ class Checked(AtomFS):
 
 
 class Conformance(FSTestCases, unittest.TestCase):
-    """Each test of the suite, and that the journal of its tree is lawful."""
+    """Each test of the suite passes, and the journal of its tree is lawful."""
 
     def make_fs(self):
         return Checked()
@@ -35,10 +35,10 @@ class Conformance(FSTestCases, unittest.TestCase):
         self.assertEqual(fs.verdict, "lawful")
 
 
-class OfTheThirdLimits(FSTestCases, unittest.TestCase):
-    """By these all tests of the suite pass."""
+class OfTheSecondLimits(FSTestCases, unittest.TestCase):
+    """By these all do but those that are left out."""
 
-    make_fs, destroy_fs = lambda self: Checked(limits=Limits.V3), Conformance.destroy_fs
+    make_fs, destroy_fs = lambda self: Checked(limits=Limits.V2), Conformance.destroy_fs
 
 
 class LeftOut(unittest.TestCase):
@@ -47,7 +47,7 @@ class LeftOut(unittest.TestCase):
     def test_each(self):
         for name in LEFT_OUT:
             with self.subTest(name), self.assertRaises((OSError, errors.BulkCopyFailed)) as raised:
-                suite = type("Suite", (FSTestCases, unittest.TestCase), {"make_fs": lambda self: AtomFS()})(name)
+                suite = type("Suite", (FSTestCases, unittest.TestCase), {"make_fs": lambda self: AtomFS(limits=Limits.V2)})(name)
                 suite.setUp()
                 getattr(suite, name)()
             causes = getattr(raised.exception, "errors", [raised.exception])
@@ -55,7 +55,7 @@ class LeftOut(unittest.TestCase):
 
 
 for name, reason in LEFT_OUT.items():
-    setattr(Conformance, name, unittest.skip(reason)(getattr(FSTestCases, name)))
+    setattr(OfTheSecondLimits, name, unittest.skip(reason)(getattr(FSTestCases, name)))
 
 if __name__ == "__main__":
     unittest.main()

@@ -108,22 +108,26 @@ class Runs(unittest.TestCase):
         self.assertEqual(explore({"t": ["mkdir /a"]}, lambda tree, replies: 0, runs=3), 3)
         self.assertEqual(explore({"t": []}, lambda tree, replies: replies == {"t": []}, runs=2), 2)
         self.assertEqual(explore({"t": []}, lambda tree, replies: False, runs=0), 0)
-        self.assertEqual(failed(self, {"t": []}).journal, "atomfs-journal 3\nstart\ndir /\nentries\n")
+        self.assertEqual(failed(self, {"t": []}).journal, "atomfs-journal 4\nstart\ndir /\nentries\n")
 
     def test_lists(self):
-        """By the third limits threads list directories, and the script is one of these."""
+        """By the third limits, which are those where none are named, threads list directories, and the script is one of these."""
         threads = {"m": ["mknod /b", "unlink /a"], "l": ["list / / 9", ("list", "/", "/a", 1)]}
         came = set()
 
         def check(tree, replies):
             came.add(tuple(map(tuple, replies["l"])))
 
-        explore(threads, check, runs=200, before=["mknod /a"], limits=atomfs.Limits.V3)
+        explore(threads, check, runs=200, before=["mknod /a"])
         self.assertLessEqual({(("a",), ("b",)), (("b",), ("b",)), (("a",), ())}, came)
-        error = failed(self, threads, before=["mknod /a"], limits=atomfs.Limits.V3)
+        error = failed(self, threads, before=["mknod /a"])
         self.assertTrue(error.script.startswith("atomfs 3\n"))
         self.assertIn("\nlist / / 9\nlist / /a 1\n", error.script)
         self.assertEqual(atomfs.run(error.script).partition("tree\n")[0], error.journal)
+        for count in (2**32 - 1, 2**32, 2**64):
+            error = failed(self, {"l": [("list", "/", "/", count), f"list / / {count}"]})
+            self.assertIn("\nlist / / 4294967295\nlist / / 4294967295\nschedule\n", error.script)
+            self.assertEqual(atomfs.run(error.script).partition("tree\n")[0], error.journal)
 
     def test_interrupted(self):
         def check(tree, replies):
@@ -142,17 +146,18 @@ class BadInput(unittest.TestCase):
             (TypeError, "mkdir takes path: 'mkdir /a /b'", "mkdir /a /b"),
             (TypeError, "read takes path, offset, count", ("read", "/a", 0)),
             (OSError, "Path does not begin with a slash: 'a'", "mkdir a"),
-            (OSError, "more than 64 bytes", ("rename", "/a", "/" + "n" * 65)),
+            (OSError, "more than 255 bytes", ("rename", "/a", "/" + "n" * 256)),
             (TypeError, "offset is a whole number, and this is str", ("read", "/a", "0", 0)),
             (ValueError, "a negative size", ("truncate", "/a", -1)),
             (TypeError, "write takes bytes, and this is str", ("write", "/a", 0, "text")),
             (ValueError, "non-hexadecimal", "write /a 0 xy"),
             (ValueError, "invalid literal", "truncate /a x"),
-            (ValueError, "no tree by Limits.V2 has the call list", "list / / 1"),
         ):
             with self.subTest(call):
                 self.assertRaisesRegex(kind, words, explore, {"t": [call]}, self.fail)
                 self.assertRaisesRegex(kind, words, explore, {"t": []}, self.fail, before=[call])
+        for limits in (Limits.V1, Limits.V2):
+            self.assertRaisesRegex(ValueError, f"no tree by {limits} has the call list", explore, {"t": ["list / / 1"]}, self.fail, limits=limits)
 
     def test_threads(self):
         for kind, threads in (
@@ -163,9 +168,12 @@ class BadInput(unittest.TestCase):
             (TypeError, {"t": "mkdir /a"}),
             (TypeError, {"t": [7]}),
             (ValueError, {f"t{at}": [] for at in range(257)}),
-            (ValueError, {"t": ["stat /"] * 65_537}),
         ):
             self.assertRaises(kind, explore, threads, self.fail)
+        for limits in (Limits.V1, Limits.V2):
+            words = "1 to 256 threads make at most 65,536 calls"
+            self.assertRaisesRegex(ValueError, words, explore, {"t": ["stat /"] * 65_537}, self.fail, limits=limits)
+        self.assertEqual(explore({"t": ["stat /"] * 65_537}, self.fail, runs=0), 0)
         self.assertRaisesRegex(ValueError, "thread before", explore, {"before": []}, self.fail, before=["mkdir /a"])
         self.assertRaises(ValueError, explore, {"t": []}, self.fail, runs=-1)
         self.assertRaises(TypeError, explore, {"t": []}, self.fail, seed="1")

@@ -14,7 +14,7 @@ from fs.opener.errors import OpenerError
 import atomfs
 from atomfs.fs import AtomFS
 
-LONG = "n" * 65
+LONG = "n" * 256
 
 
 class Files(unittest.TestCase):
@@ -41,10 +41,11 @@ class Files(unittest.TestCase):
         fs.open_fs("atomfs:///").close()
 
     def test_words_of_limits(self):
-        for at in range(256):
-            self.files.create(str(at))
-        with self.assertRaises(errors.InsufficientStorage) as raised:
-            self.files.create("x")
+        with AtomFS(limits=atomfs.Limits.V2) as files:
+            for at in range(256):
+                files.create(str(at))
+            with self.assertRaises(errors.InsufficientStorage) as raised:
+                files.create("x")
         self.assertEqual(str(raised.exception), "path 'x': The directory has 256 entries, and no more may be made in it")
 
     def test_given_tree(self):
@@ -64,28 +65,31 @@ class Files(unittest.TestCase):
         self.assertEqual(told, [])
 
     def test_limits(self):
-        self.assertEqual(self.files.getmeta("atomfs"), {"name_bytes": 64, "path_names": 64, "file_bytes": 1_048_576})
-        for path in (LONG, f"a/{LONG}/b", "n/" * 65):
+        self.assertEqual(self.files.getmeta("atomfs"), {"name_bytes": 255, "path_names": 2_048, "file_bytes": 2_147_483_648})
+        for path in (LONG, f"a/{LONG}/b", "n/" * 2_049):
             with self.subTest(path):
                 self.assertRaises(errors.InvalidPath, self.files.makedir, path)
                 self.assertRaises(errors.InvalidPath, self.files.validatepath, path)
                 self.assertRaises(errors.InvalidPath, self.files.exists, path)
-        self.files.makedir("n" * 64)
+        self.files.makedir("n" * 255)
 
-    def test_first_limits(self):
-        """A file system by the first limits refuses what one by the second takes."""
-        with AtomFS(limits=atomfs.Limits.V1) as files:
-            self.assertEqual(files.getmeta("atomfs"), {"name_bytes": 32, "path_names": 64, "file_bytes": 65_536})
-            self.assertRaises(errors.InvalidPath, files.makedir, "n" * 33)
-            files.makedir("n" * 32)
-            self.assertRaises(OSError, files.writebytes, "f", b"x" * 65_537)
-            files.writebytes("f", b"x" * 65_536)
+    def test_smaller_limits(self):
+        """A file system by the first two sets refuses what one by the third takes."""
+        for limits, name, size in ((atomfs.Limits.V1, 32, 65_536), (atomfs.Limits.V2, 64, 1_048_576)):
+            with self.subTest(limits), AtomFS(limits=limits) as files:
+                self.assertEqual(files.getmeta("atomfs"), {"name_bytes": name, "path_names": 64, "file_bytes": size})
+                self.assertRaises(errors.InvalidPath, files.makedir, "n" * (name + 1))
+                self.assertRaises(errors.InvalidPath, files.makedir, "n/" * 65)
+                files.makedir("n" * name)
+                self.assertRaises(OSError, files.writebytes, "f", bytes(size + 1))
+                files.writebytes("f", bytes(size))
 
     def test_full(self):
-        for at in range(256):
-            self.files.create(str(at))
-        self.assertRaises(errors.InsufficientStorage, self.files.makedir, "one_more")
-        self.assertRaises(errors.InsufficientStorage, self.files.create, "one_more")
+        with AtomFS(limits=atomfs.Limits.V2) as files:
+            for at in range(256):
+                files.create(str(at))
+            self.assertRaises(errors.InsufficientStorage, files.makedir, "one_more")
+            self.assertRaises(errors.InsufficientStorage, files.create, "one_more")
 
     def test_modes(self):
         """What each mode does to a file with bytes, and where it begins."""
@@ -157,12 +161,13 @@ class Files(unittest.TestCase):
 
     def test_too_long(self):
         """A write that passes the limit of a file writes nothing."""
-        with self.files.openbin("f", "w", 0) as file:
-            self.assertEqual(file.write(b"x" * 1_048_576), 1_048_576)
-            with self.assertRaises(OSError) as raised:
-                file.write(b"y")
-            self.assertEqual(raised.exception.errno, errno.EFBIG)
-        self.assertEqual(self.files.getsize("f"), 1_048_576)
+        with AtomFS(limits=atomfs.Limits.V2) as files:
+            with files.openbin("f", "w", 0) as file:
+                self.assertEqual(file.write(b"x" * 1_048_576), 1_048_576)
+                with self.assertRaises(OSError) as raised:
+                    file.write(b"y")
+                self.assertEqual(raised.exception.errno, errno.EFBIG)
+            self.assertEqual(files.getsize("f"), 1_048_576)
 
     def test_removed_meanwhile(self):
         """An open file is a path: behind its removal there is nothing to read."""
@@ -172,7 +177,7 @@ class Files(unittest.TestCase):
             self.assertRaises(FileNotFoundError, file.read)
 
     def test_one_call_for_a_file(self):
-        """A file of any length is written by one call; one that the room holds is read by one, behind the read that looks for it."""
+        """A file of up to 1,048,576 bytes is written by one call; one that the room holds is read by one, behind the read that looks for it."""
         for size, counts in ((65_536, (1, 2)), (1_048_576, (1, 3))):
             with AtomFS() as files:
                 files.writebytes("f", b"x" * size)
@@ -224,8 +229,8 @@ class Files(unittest.TestCase):
         self.assertTrue(self.files.exists("\udcff"))
 
     def test_large_directories(self):
-        """By the third limits a directory comes whole, by several calls."""
-        with AtomFS(limits=atomfs.Limits.V3) as files:
+        """A directory comes whole, by several calls."""
+        with AtomFS() as files:
             names = [f"{at:03}" for at in range(300)]
             for name in names:
                 files.create(f"d{name}" if name == "000" else name)
@@ -233,7 +238,6 @@ class Files(unittest.TestCase):
             self.assertEqual(files.listdir("/"), found)
             self.assertEqual([info.name for info in files.scandir("/")], found)
             self.assertEqual(files.atom_tree.journal().count(" list / "), 4)
-            self.assertEqual(files.getmeta("atomfs"), {"name_bytes": 64, "path_names": 2_048, "file_bytes": 2_147_483_648})
             files.makedirs("/n" * 2_048)
             self.assertRaises(errors.InvalidPath, files.exists, "/n" * 2_049)
 

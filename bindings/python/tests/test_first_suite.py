@@ -16,7 +16,7 @@ import threading
 import unittest
 import zipfile
 
-from atomfs import Tree, diff, patch
+from atomfs import Limits, Tree, diff, patch
 
 
 class FirstSuite(unittest.TestCase):
@@ -119,7 +119,7 @@ class FirstSuite(unittest.TestCase):
         self.assertEqual((len(self.tree), bool(self.tree)), (1, True))
         self.tree.mkdir("/a")
         self.assertEqual((len(self.tree), list(self.tree), "/a" in self.tree), (2, ["/", "/a"], True))
-        self.assertIn("2 of 1,048,576 nodes, 2 calls", repr(self.tree))
+        self.assertIn("2 of 16,777,216 nodes, 2 calls, Limits.V3", repr(self.tree))
         self.assertEqual(str(self.tree), "/\n└── a/")
 
     def test_stat(self):
@@ -200,16 +200,26 @@ class FirstSuite(unittest.TestCase):
         self.assertEqual(len(self.tree), 11)
 
     def test_limits(self):
-        """A file of 5.5 MB and a full directory: the error has the path and the limit, and the tree is as it was."""
-        before = self.tree.tree()
-        with self.assertRaisesRegex(OSError, "more than 1,048,576 bytes: '/large'") as raised:
-            self.tree.write_bytes("/large", bytes(5_505_024))
-        self.assertEqual((raised.exception.errno, self.tree.tree()), (errno.EFBIG, before))
-        for at in range(256):
-            self.tree.mknod(f"/{at}")
-        with self.assertRaisesRegex(OSError, "has 256 entries.*'/full'") as raised:
-            self.tree.write_text("/full", "")
-        self.assertEqual((raised.exception.errno, len(self.tree)), (errno.ENOSPC, 257))
+        """A file of 5.5 MB, a directory of 257 files and a long name are there, and by the second limits the error has the path and the
+        limit, and the tree is as it was."""
+        with Tree(limits=Limits.V2) as tree:
+            before = tree.tree()
+            with self.assertRaisesRegex(OSError, "more than 1,048,576 bytes: '/large'") as raised:
+                tree.write_bytes("/large", bytes(5_505_024))
+            self.assertEqual((raised.exception.errno, tree.tree()), (errno.EFBIG, before))
+            for at in range(256):
+                tree.mknod(f"/{at}")
+                self.tree.mknod(f"/{at}")
+            with self.assertRaisesRegex(OSError, "has 256 entries.*'/full'") as raised:
+                tree.write_text("/full", "")
+            self.assertEqual((raised.exception.errno, len(tree)), (errno.ENOSPC, 257))
+            with self.assertRaisesRegex(OSError, "a name of more than 64 bytes: '/nn") as raised:
+                tree.mkdir("/" + "n" * 255)
+            self.assertEqual((raised.exception.errno, len(tree)), (errno.ENAMETOOLONG, 257))
+        self.tree.write_text("/full", "")
+        self.tree.mkdir("/" + "n" * 255)
+        self.assertEqual(self.tree.write_bytes("/" + "n" * 255 + "/large", bytes(5_505_024)), 5_505_024)
+        self.assertEqual(len(self.tree.listdir("/")), 258)
 
     def test_closed(self):
         tree = Tree()

@@ -54,8 +54,8 @@ class Specs(unittest.TestCase):
         self.assertTrue(files.isdir("/a") and files.isfile("/a/f") and not files.exists("/a/f/g"))
 
     def test_large_directories(self):
-        """By the third limits a directory comes whole, by several calls."""
-        with atomfs.Tree(limits=atomfs.Limits.V3) as tree:
+        """A directory comes whole, by several calls."""
+        with atomfs.Tree() as tree:
             files, names = AtomFileSystem(tree=tree), [f"/d/{at:03}" for at in range(300)]
             files.makedirs("/d")
             for name in names:

@@ -59,6 +59,8 @@ class Linearize(unittest.TestCase):
             (Error, "line 4: BadNumber: ", lambda: atomfs.linearize(BEGUN + "return 2 stat file ?\n")),
             (Error, "line 2: BadPath: ", lambda: atomfs.linearize(HEADER + "begin 1 0 mkdir a\n")),
             (Error, "line 1: TooLarge: ", lambda: atomfs.linearize(HEADER + "#" * 2**24)),
+            (Error, "line 1: TooLarge: ", lambda: atomfs.linearize("atomfs-journal 3\n" + "#" * 2**24)),
+            (Error, "line 2: BadStart: ", lambda: atomfs.linearize("atomfs-journal 4\nend\n" + "#" * 2**24)),
             (ValueError, "a limit is 1 to 1,000,000,000 configurations, and not 0", lambda: atomfs.linearize(BEGUN, 0)),
             (ValueError, "a limit is 1 to 1,000,000,000 configurations, and not 1,000,000,001", lambda: atomfs.linearize(BEGUN, 10**9 + 1)),
             (ValueError, "a negative limit", lambda: atomfs.linearize(BEGUN, -1)),
@@ -196,7 +198,7 @@ class Texts(unittest.TestCase):
             ("readdir /", lambda answer: answer.names(["a/b"]), ValueError, "b'a/b' is no name"),
             ("readdir /", lambda answer: answer.names([".."]), ValueError, "b'..' is no name"),
             ("readdir /", lambda answer: answer.names([""]), ValueError, "b'' is no name"),
-            ("readdir /", lambda answer: answer.names(["a" * 65]), ValueError, "b'aaa"),
+            ("readdir /", lambda answer: answer.names(["a" * 256]), ValueError, "b'aaa"),
             ("readdir /", lambda answer: (answer.names([]), answer.names([])), TypeError, "the reply is told already: names"),
             ("stat /", lambda answer: answer.stat(os.stat("/")), TypeError, "stat takes whether there is a directory, and this is stat_result"),
             ("stat /", lambda answer: answer.stat(False), TypeError, "the size of a file is not told"),
@@ -209,8 +211,9 @@ class Texts(unittest.TestCase):
             self.assertEqual(str(raised.exception)[: len(words)], words)
 
     def test_lists(self):
-        """By the third limits a history has lists, and the error of a directory that is too large for one reply; others have neither."""
-        history = History(limits=Limits.V3)
+        """By the third limits, which are those where none are named, a history has lists, and the error of a directory that is too large for
+        one reply; others have neither."""
+        history = History()
         with history.call("mkdir /a"):
             pass
         with history.call("list", "/", "/x", 2) as answer:
@@ -222,11 +225,12 @@ class Texts(unittest.TestCase):
             raise OSError(errno.EOVERFLOW, "too many")
         self.assertEqual(lines(history)[2:], ["begin 2 0 list / /x 2", "return 2 names", "begin 3 0 list / / 2", "return 3 names a", "begin 4 0 readdir /a", "return 4 failed EOVERFLOW"])
         self.assertEqual(history.linearize(), NoOrder(8, 4))
+        history = History(limits=Limits.V2)
         with self.assertRaisesRegex(ValueError, "no tree by Limits.V2 has the call list"):
-            self.history.call("list / / 2")
-        with self.history.call("readdir /"):
+            history.call("list / / 2")
+        with history.call("readdir /"):
             raise OSError(errno.EOVERFLOW, "too many")
-        self.assertEqual(lines(self.history)[-1], "return 1 failed ?")
+        self.assertEqual(lines(history)[-1], "return 1 failed ?")
 
     def test_no_call(self):
         """What is no call is refused, by no error that looks like one of the tree; and nothing is recorded."""
@@ -234,7 +238,7 @@ class Texts(unittest.TestCase):
             (ValueError, "'touch /a' is no call: 'touch' is none of the twelve calls", ("touch /a",)),
             (ValueError, "'mkdir a' is no call: ", ("mkdir a",)),
             (ValueError, "('mkdir', '/..') is no call: ", ("mkdir", "/..")),
-            (ValueError, f"'mkdir /{'a' * 65}' is no call: ", (f"mkdir /{'a' * 65}",)),
+            (ValueError, f"'mkdir /{'a' * 256}' is no call: ", (f"mkdir /{'a' * 256}",)),
             (ValueError, "'read / 0 x' is no call: ", ("read / 0 x",)),
             (ValueError, "'write / 0 0' is no call: ", ("write / 0 0",)),
             (TypeError, "rename takes path, path", ("rename /a",)),
@@ -267,9 +271,11 @@ class Texts(unittest.TestCase):
             with self.assertRaisesRegex(ValueError, "the start tree is by Limits.V1, and not by Limits.V2"):
                 History(tree, limits=Limits.V2)
         self.assertEqual(History(limits=Limits.V1).text(), HEADER)
-        self.assertEqual(History().text(), "atomfs-journal 3\nstart\ndir /\nentries\n")
-        with self.assertRaisesRegex(ValueError, "is no call: "):
-            History(limits=Limits.V1).call("mkdir", "/" + "a" * 33)
+        for limits, number in ((None, 4), (Limits.V3, 4), (Limits.V2, 3)):
+            self.assertEqual(History(limits=limits).text(), f"atomfs-journal {number}\nstart\ndir /\nentries\n")
+        for limits in Limits:
+            with self.assertRaisesRegex(ValueError, "is no call: "):
+                History(limits=limits).call("mkdir", "/" + "a" * (limits.name_bytes + 1))
 
 
 class Threads(unittest.TestCase):

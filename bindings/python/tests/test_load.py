@@ -48,11 +48,12 @@ class Dictionaries(OfLoads):
             ({"/a": b"", "/a/b": b""}, NotADirectoryError, "'/a/b'"),
             ({"/a/..": b""}, OSError, "A name of the path is . or ..: '/a/..'"),
             ({"/a": bytes(1_048_577)}, OSError, "The file would have more than 1,048,576 bytes: '/a'"),
+            ({"/" + "n" * 65: b""}, OSError, "Path has a name of more than 64 bytes: '/nn"),
             ({"/a": 3}, TypeError, "int"),
             ({b"/a": b""}, TypeError, "a path is str, and this is bytes"),
         ):
             with self.subTest(words), self.assertRaisesRegex(kind, words):
-                Tree.from_dict(files)
+                Tree.from_dict(files, limits=Limits.V2)
         with self.assertRaisesRegex(OSError, "All 3 nodes of the tree are in use"):
             Tree.from_dict({"/a/b": b"", "/c": b""}, 3)
 
@@ -82,24 +83,31 @@ class Directories(OfLoads):
         """What a tree cannot have is raised with its path on the disk, left out, or told."""
         self.fill()
         with self.assertRaises(OSError) as raised:
-            Tree.from_directory(self.folder)
+            Tree.from_directory(self.folder, limits=Limits.V2)
         self.assertEqual((raised.exception.errno, raised.exception.filename), (errno.ENOTSUP, str(self.folder / "folder")))
         told = []
-        tree = self.kept(Tree.from_directory(self.folder, on_error=told.append))
+        tree = self.kept(Tree.from_directory(self.folder, on_error=told.append, limits=Limits.V2))
         self.assertEqual(tree.to_dict(), {"/file": b"f", "/sub/f": b"f"})
         wanted = {"folder": errno.ENOTSUP, "large": errno.EFBIG, "lost": errno.ENOENT, "pipe": errno.ENOTSUP}
         self.assertEqual({os.path.basename(error.filename): error.errno for error in told}, wanted)
-        self.assertEqual(Tree.from_directory(self.folder, on_error="skip").to_dict(), tree.to_dict())
+        self.assertEqual(Tree.from_directory(self.folder, on_error="skip", limits=Limits.V2).to_dict(), tree.to_dict())
+        more = self.kept(Tree.from_directory(self.folder, on_error="skip")).to_dict()
+        self.assertEqual(more, {**tree.to_dict(), "/large": bytes(1_048_577)})
         self.assertRaises(ValueError, Tree.from_directory, self.folder, "ignore")
         for on_error in ("raise", "skip"):
             self.assertRaises(FileNotFoundError, Tree.from_directory, self.folder / "none", on_error)
 
     def test_limits(self):
-        (self.folder / ("n" * 65)).touch()
-        with self.assertRaisesRegex(OSError, "Path has a name of more than 64 bytes: '" + str(self.folder)):
-            Tree.from_directory(self.folder)
+        """Names of 255 bytes, which are the longest of the disk too, are there."""
+        (self.folder / ("n" * 255)).touch()
+        for limits, most in ((Limits.V1, 32), (Limits.V2, 64)):
+            with self.assertRaisesRegex(OSError, f"Path has a name of more than {most} bytes: '{self.folder}"):
+                Tree.from_directory(self.folder, limits=limits)
+        tree = self.kept(Tree.from_directory(self.folder))
+        self.assertEqual(tree.to_dict(), {"/" + "n" * 255: b""})
+        tree.to_directory(self.folder / "out")
+        self.assertEqual(os.listdir(self.folder / "out"), ["n" * 255])
         with self.assertRaisesRegex(OSError, "All 1 nodes of the tree are in use: '" + str(self.folder)):
-            (self.folder / ("n" * 65)).rename(self.folder / "n")
             Tree.from_directory(self.folder, limit=1)
 
 
@@ -146,7 +154,7 @@ class Texts(OfLoads):
 
     def test_begins_there(self):
         """No call is made for it: the journal starts at the tree, whose seat 0 is this thread's."""
-        for limits, header in ((Limits.V1, "atomfs-journal 2"), (Limits.V2, "atomfs-journal 3")):
+        for limits, header in zip(Limits, ("atomfs-journal 2", "atomfs-journal 3", "atomfs-journal 4")):
             with self.subTest(limits):
                 text = "tree\ndir /\ndir /d\nfile /d/f 0068\n"
                 tree = self.kept(Tree.from_text(text, limits=limits))
@@ -176,11 +184,11 @@ class Texts(OfLoads):
 
     def test_a_long_text(self):
         """It may have more bytes than a script or a journal."""
-        tree = self.kept(Tree())
+        tree = self.kept(Tree(limits=Limits.V2))
         for name in "abcdefghi":
             tree.write_bytes(f"/{name}", name.encode() * 1_048_576)
         self.assertGreater(len(tree.tree()), 16_777_216)
-        self.assertEqual(self.kept(Tree.from_text(tree.tree())).tree(), tree.tree())
+        self.assertEqual(self.kept(Tree.from_text(tree.tree(), limits=Limits.V2)).tree(), tree.tree())
 
     def test_refused(self):
         start = "tree\ndir /\n"
@@ -290,13 +298,15 @@ class Copies(OfLoads):
             seat.finish()
 
     def test_deep(self):
-        """A path of more than 64 names, which a rename has made."""
-        tree = self.kept(Tree())
+        """More names than a path has, as a rename makes them."""
+        tree = self.kept(Tree(limits=Limits.V2))
         tree.makedirs("/a" * 40)
         tree.makedirs("/b" * 40)
         tree.rename("/a", "/b" * 40 + "/a")
-        for copied in (*COPIES, lambda tree: Tree.from_text(tree.tree())):
-            self.assertEqual(self.kept(copied(tree)).tree(), tree.tree())
+        deep = self.kept(Tree.from_text("tree\ndir /\n" + "".join(f"dir {'/n' * depth}\n" for depth in range(1, 2_051))))
+        for one in (tree, deep):
+            for copied in (*COPIES, lambda tree: Tree.from_text(tree.tree(), limits=tree.limits)):
+                self.assertEqual(self.kept(copied(one)).tree(), one.tree())
 
     def test_subclasses(self):
         """What a subclass does when it is made stays done, but for its tree; and it may reduce itself."""
@@ -334,7 +344,7 @@ class Snapshots(OfLoads):
         """A tree is what it was, whatever became of it."""
         tree = self.kept(Tree.from_dict(FILES))
         snapshot = tree.snapshot()
-        self.assertEqual((repr(snapshot), len(snapshot), snapshot.to_dict()), ("<atomfs.Snapshot of 8 nodes, Limits.V2>", 8, FILES))
+        self.assertEqual((repr(snapshot), len(snapshot), snapshot.to_dict()), ("<atomfs.Snapshot of 8 nodes, Limits.V3>", 8, FILES))
         changes = (
             lambda: None,
             lambda: tree.rmtree("/"),
@@ -378,7 +388,7 @@ class Snapshots(OfLoads):
 
     def test_a_full_tree(self):
         """What goes makes room for what comes: of nodes, and in a directory."""
-        tree = self.kept(Tree.from_dict({str(at): b"" for at in range(256)}, 257))
+        tree = self.kept(Tree.from_dict({str(at): b"" for at in range(256)}, 257, limits=Limits.V2))
         snapshot = tree.snapshot()
         for at in range(200):
             tree.rename(f"/{at}", f"/n{at}")
@@ -389,7 +399,7 @@ class Snapshots(OfLoads):
         """By other limits, of too many nodes, while a call is under way, and of a closed tree: the tree stays as it was."""
         tree = self.kept(Tree(3))
         self.assertEqual(Tree(limits=Limits.V1).snapshot().limits, Limits.V1)
-        with self.assertRaisesRegex(ValueError, "the snapshot is by Limits.V1, and the tree by Limits.V2"):
+        with self.assertRaisesRegex(ValueError, "the snapshot is by Limits.V1, and the tree by Limits.V3"):
             tree.restore(Tree(limits=Limits.V1).snapshot())
         with self.assertRaisesRegex(OSError, "All 3 nodes of the tree are in use"):
             tree.restore(Tree.from_dict(FILES).snapshot())

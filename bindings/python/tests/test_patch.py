@@ -724,7 +724,7 @@ class Errors(OfPatch):
 
     def test_limits(self):
         """The error has the path as it was given, and the limit."""
-        with atomfs.patch(self.tree, at=AT):
+        with atomfs.Tree(limits=atomfs.Limits.V2) as tree, atomfs.patch(tree, at=AT):
             with self.assertRaisesRegex(OSError, f"more than 1,048,576 bytes: '{AT}/f'") as raised:
                 with open(f"{AT}/f", "wb", 0) as file:
                     file.write(bytes(5_505_024))
@@ -901,9 +901,9 @@ class Open(OfPatch):
 
         self.compare(row)
 
-    def test_the_third_limits(self):
-        """Directories and files that one call does not tell come whole."""
-        with atomfs.Tree(limits=atomfs.Limits.V3) as tree, atomfs.patch(tree, at=AT):
+    def test_large_trees(self):
+        """Directories and files that one call does not tell come whole, and names are as long as those of the disk."""
+        with atomfs.Tree() as tree, atomfs.patch(tree, at=AT):
             os.mkdir(f"{AT}/d")
             names = [f"{at:03}" for at in range(300)]
             for name in names:
@@ -918,7 +918,11 @@ class Open(OfPatch):
             with descriptor(f"{AT}/f") as number:
                 self.assertEqual((os.read(number, 2_000_000), os.read(number, 2**31)), (data[:2_000_000], data[2_000_000:]))
             shutil.rmtree(f"{AT}/d")
-            self.assertEqual((sorted(os.listdir(AT)), tree.check()), (["f", "g"], "lawful"))
+            os.rename(f"{AT}/g", f"{AT}/{'n' * 255}")
+            with self.assertRaisesRegex(OSError, "a name of more than 255 bytes: '") as raised:
+                os.mkdir(f"{AT}/{'n' * 256}")
+            self.assertEqual((raised.exception.errno, raised.exception.filename), (errno.ENAMETOOLONG, f"{AT}/{'n' * 256}"))
+            self.assertEqual((sorted(os.listdir(AT)), tree.check()), (["f", "n" * 255], "lawful"))
 
     def test_calls(self):
         """A function is one call of the tree, where one is enough."""
@@ -928,7 +932,7 @@ class Open(OfPatch):
                 (["rename /f /n: ok"], lambda: os.rename(f"{AT}/f", f"{AT}/n")),
                 (["rename /n /f: ok"], lambda: os.replace(f"{AT}/n", f"{AT}/f")),
                 (["stat /f: stat file 5"], lambda: os.path.exists(f"{AT}/f")),
-                (["readdir /d: names e g"], lambda: os.listdir(f"{AT}/d")),
+                (["list /d / 256: names e g"], lambda: os.listdir(f"{AT}/d")),
                 (["stat /f: stat file 5", "read /f 0 65536: bytes 68656c6c6f"], lambda: text_of(f"{AT}/f")),
                 (["mknod /m: ok", "write /m 0 74657874: wrote 4"], lambda: written(f"{AT}/m")),
                 (["unlink /m: ok"], lambda: os.unlink(f"{AT}/m")),

@@ -161,6 +161,8 @@ class Refused(OfTools):
         error = self.look(Error, "line 1: BadHeader", lambda: atomfs.trace("atomfs-journal 1\n"))
         self.assertEqual((error.status, error.status.kind), (Status.BAD_HEADER, "BadHeader"))
         self.look(Error, "line 1: TooLarge", lambda: atomfs.draw(b"\n" * 16_777_217))
+        self.look(Error, "line 1: TooLarge", lambda: atomfs.draw(b"atomfs 2\nschedule\n" + b"\n" * 16_777_217))
+        elements(atomfs.draw(b"atomfs 3\nschedule\n" + b"\n" * 16_777_217))
 
     def test_runs_that_end_early(self):
         for tool in (atomfs.draw, atomfs.trace):
@@ -234,12 +236,15 @@ class OfTrees(OfTools):
 
     def test_too_large(self):
         """A journal that is no text any more is refused; of its last calls there is a picture."""
-        for _ in range(9):
-            self.tree.write_bytes("/f", bytes(1_000_000))
-        with self.assertRaisesRegex(Error, "line 1: TooLarge"):
-            self.tree.draw()
-        elements(self.tree.draw(last=2))
-        self.assertIsNone(self.tree._repr_svg_())
+        with Tree(1000, limits=Limits.V2) as tree:
+            for one in (tree, self.tree):
+                for _ in range(9):
+                    one.write_bytes("/f", bytes(1_000_000))
+                elements(one.draw(last=2))
+            with self.assertRaisesRegex(Error, "line 1: TooLarge"):
+                tree.draw()
+            self.assertIsNone(tree._repr_svg_())
+        elements(self.tree.draw())
 
     def test_notebook(self):
         """The last calls, at most 100; nothing where there is none, or where it would take long."""

@@ -69,7 +69,7 @@ class Calls(OfTree):
             (OSError, errno.EINVAL, lambda: tree.rename("/d", "/d/e/g"), "/d", "/d/e/g"),
             (OSError, errno.EBUSY, lambda: tree.exchange("/d", "/"), "/d", "/"),
             (PermissionError, errno.EPERM, lambda: tree.unlink("/d"), "/d"),
-            (OSError, errno.EFBIG, lambda: tree.truncate("/f", 1_048_577), "/f"),
+            (OSError, errno.EFBIG, lambda: tree.truncate("/f", 2**31 + 1), "/f"),
             (OSError, errno.EFBIG, lambda: tree.write("/f", 2**64, b"x"), "/f"),
         )
         for kind, number, call, *paths in rows:
@@ -77,10 +77,11 @@ class Calls(OfTree):
                 self.fails(kind, number, call, *paths)
 
     def test_full(self):
-        for at in range(256):
-            self.tree.mknod(f"/{at}")
-        self.fails(OSError, errno.ENOSPC, lambda: self.tree.mknod("/one_more"), "/one_more")
-        self.assertEqual(len(self.tree.readdir("/")), 256)
+        with atomfs.Tree(limits=atomfs.Limits.V2) as tree:
+            for at in range(256):
+                tree.mknod(f"/{at}")
+            self.fails(OSError, errno.ENOSPC, lambda: tree.mknod("/one_more"), "/one_more")
+            self.assertEqual(len(tree.readdir("/")), 256)
         with atomfs.Tree(1) as tree:
             self.fails(OSError, errno.ENOSPC, lambda: tree.mkdir("/a"), "/a")
 
@@ -92,15 +93,16 @@ class Calls(OfTree):
             ("/a/", errno.EINVAL),
             ("/a/../b", errno.EINVAL),
             ("/a\0b", errno.EINVAL),
-            ("/" + "n" * 65, errno.ENAMETOOLONG),
-            ("/n" * 65, errno.ENAMETOOLONG),
+            ("/" + "n" * 256, errno.ENAMETOOLONG),
+            ("/" + "n" * 300 + "/a", errno.ENAMETOOLONG),
+            ("/n" * 2_049, errno.ENAMETOOLONG),
         )
         for path, number in rows:
             with self.subTest(path):
                 self.fails(OSError, number, lambda path=path: self.tree.mkdir(path), path)
         self.fails(OSError, errno.EINVAL, lambda: self.tree.rename("/a", "b"), "b")
-        self.assertEqual(self.tree.journal(), "atomfs-journal 3\nstart\ndir /\nentries\n")
-        self.tree.mkdir("/" + "n" * 64)
+        self.assertEqual(self.tree.journal(), "atomfs-journal 4\nstart\ndir /\nentries\n")
+        self.tree.mkdir("/" + "n" * 255)
 
     def test_kinds_of_paths(self):
         """Paths may be strings, bytes and path objects, and names come as the path came."""
@@ -122,7 +124,7 @@ class Calls(OfTree):
             self.assertEqual(self.tree.write("/f", 0, data), 65_536)
             self.assertEqual(self.tree.read("/f"), every)
         self.assertEqual(self.tree.read("/f", 0, 2**64 - 1), every)
-        self.fails(OSError, errno.EFBIG, lambda: self.tree.write("/f", 1_048_576, b"x"), "/f")
+        self.fails(OSError, errno.EFBIG, lambda: self.tree.write("/f", 2**31, b"x"), "/f")
         self.assertEqual(self.tree.write("/f", 2**64 - 1, b""), 0)
         for call in (lambda: self.tree.read("/f", -1), lambda: self.tree.write("/f", -1, b""), lambda: self.tree.truncate("/f", -1)):
             self.assertRaises(ValueError, call)
@@ -131,7 +133,7 @@ class Calls(OfTree):
     def test_little_room(self):
         """Names and bytes for which there is no room at first come whole."""
         tree = atomfs.Tree(room=1)
-        names = [f"{at:032}" for at in range(100)]
+        names = [f"{at:0255}" for at in range(100)]
         for name in names:
             tree.mknod(f"/{name}")
         self.assertEqual(tree.readdir("/"), names)
@@ -142,10 +144,10 @@ class Calls(OfTree):
 
 
 class Lists(unittest.TestCase):
-    """Directories and files by the third limits: larger than what one call tells."""
+    """Directories and files that are larger than what one call tells."""
 
     def setUp(self):
-        self.tree = atomfs.Tree(limits=atomfs.Limits.V3)
+        self.tree = atomfs.Tree()
         self.names = [f"{at:03}" for at in range(600)]
         self.tree.mkdir("/d")
         for name in self.names:
@@ -168,6 +170,9 @@ class Lists(unittest.TestCase):
         self.assertEqual(tree.list("/d", b"/x/y/511", 1_000), names[512:])
         self.assertEqual(tree.list(b"/d", "/5", 2), [b"500", b"501"])
         self.assertEqual((tree.list("/d", "/599"), tree.list("/d", count=0)), ([], []))
+        for count in (2**32 - 1, 2**32, 2**32 + 1, 2**64):
+            self.assertEqual(tree.list("/d", "/597", count), ["598", "599"])
+            self.assertEqual(tree.last_calls(1), ["list /d /597 4294967295: names 598 599"])
         with self.assertRaises(OSError) as raised:
             tree.readdir("/d")
         self.assertEqual((raised.exception.errno, raised.exception.filename), (errno.EOVERFLOW, "/d"))
@@ -202,8 +207,28 @@ class Lists(unittest.TestCase):
         self.assertIn(f"begin {number} 1 list /d /597 9\n", self.tree.journal())
         seat.begin.list(b"/d", count=1)
         self.assertEqual(seat.finish(), [b"000"])
+        number = seat.begin.list("/d", "/598", 2**32)
+        self.assertEqual(seat.finish(), ["599"])
+        self.assertIn(f"begin {number} 1 list /d /598 4294967295\n", self.tree.journal())
         seat.begin.readdir("/d")
         self.assertRaises(OSError, seat.finish)
+
+    def test_long_names(self):
+        """As many names as a call answers, each as long as there are."""
+        tree, names = self.tree, [f"{at:0255}" for at in range(256)]
+        tree.mkdir("/long")
+        for name in names:
+            tree.mknod(f"/long/{name}")
+        self.assertEqual((tree.readdir("/long"), tree.list("/long"), tree.listdir("/long")), (names, names, names))
+        self.assertEqual(tree.list("/long", f"/{names[253]}"), names[254:])
+        seat = tree.seat()
+        seat.begin.readdir("/long")
+        self.assertEqual(seat.finish(), names)
+        tree.rename(f"/long/{names[0]}", f"/{names[0]}")
+        tree.exchange(f"/long/{names[1]}", f"/{names[0]}")
+        self.assertEqual((tree.listdir("/long"), tree.listdir("/")), (names[1:], [names[0], "d", "long"]))
+        self.assertEqual(atomfs.Tree.from_text(tree.tree()).listdir("/long"), names[1:])
+        tree.rmtree("/long")
 
     def test_long_files(self):
         """What is longer than one call reads comes by several, and a file may be far longer than what is in it."""
@@ -246,11 +271,11 @@ class Lists(unittest.TestCase):
 
     def test_copies_and_keeps(self):
         """A tree that forgets by itself notes these calls too, and a copy and a picture of the last calls have these limits."""
-        with atomfs.Tree(limits=atomfs.Limits.V3, journal=atomfs.LAST(2)) as tree:
+        with atomfs.Tree(journal=atomfs.LAST(2)) as tree:
             for _ in range(5):
                 tree.list("/")
             self.assertEqual(tree.calls_before + tree.calls, 5)
-            self.assertEqual(copy.copy(tree).limits, atomfs.Limits.V3)
+            self.assertEqual((tree.limits, copy.copy(tree).limits), (atomfs.Limits.V3, atomfs.Limits.V3))
             self.assertIn("<svg", tree.draw(last=1).svg)
         self.assertEqual(pickle.loads(pickle.dumps(self.tree)).listdir("/d"), self.names)
 
@@ -266,47 +291,46 @@ class Words(OfTree):
 
     def test_limits(self):
         """The message of a limit names it, and tells a full directory from a full tree."""
-        self.tree.mkdir("/d")
-        for at in range(256):
-            self.tree.mknod(f"/d/{at}")
-        full = "[Errno 28] The directory has 256 entries, and no more may be made in it: "
-        self.says(OSError, full + "'/d/x'", lambda: self.tree.mknod("/d/x"))
-        self.tree.mknod("/f")
-        self.says(OSError, full + "'/f' -> '/d/x'", lambda: self.tree.rename("/f", "/d/x"))
-        seat = self.tree.seat()
-        seat.begin.mkdir("/d/x")
-        self.says(OSError, full + "'/d/x'", seat.finish)
+        with atomfs.Tree(limits=atomfs.Limits.V2) as tree:
+            tree.mkdir("/d")
+            for at in range(256):
+                tree.mknod(f"/d/{at}")
+            full = "[Errno 28] The directory has 256 entries, and no more may be made in it: "
+            self.says(OSError, full + "'/d/x'", lambda: tree.mknod("/d/x"))
+            tree.mknod("/f")
+            self.says(OSError, full + "'/f' -> '/d/x'", lambda: tree.rename("/f", "/d/x"))
+            seat = tree.seat()
+            seat.begin.mkdir("/d/x")
+            self.says(OSError, full + "'/d/x'", seat.finish)
         with atomfs.Tree(1_000) as tree:
-            for at in range(998):
-                tree.mkdir(f"/{at}" if at < 200 else f"/{at % 200}/{at}")
-            tree.mknod("/0/f")
+            for at in range(999):
+                tree.mkdir(f"/{at}")
             none = "[Errno 28] All 1,000 nodes of the tree are in use: '/x'"
             self.says(OSError, none, lambda: tree.mknod("/x"))
             self.says(OSError, none, lambda: tree.seat().begin.mkdir("/x"))
-            large = "[Errno 27] The file would have more than 1,048,576 bytes: '/0/f'"
-            self.says(OSError, large, lambda: tree.truncate("/0/f", 1_048_577))
-        with atomfs.Tree(limits=atomfs.Limits.V1) as tree:
-            tree.mknod("/f")
-            self.says(OSError, "[Errno 27] The file would have more than 65,536 bytes: '/f'", lambda: tree.write("/f", 65_536, b"x"))
-            name = "/" + "n" * 33
-            self.says(OSError, f"[Errno 36] Path has a name of more than 32 bytes: {name!r}", lambda: tree.stat(name))
-        self.says(OSError, f"[Errno 36] Path has more than 64 names: {'/n' * 65!r}", lambda: self.tree.stat("/n" * 65))
-        with atomfs.Tree(limits=atomfs.Limits.V3) as tree:
-            self.assertRaises(FileNotFoundError, tree.stat, "/n" * 2_048)
-            self.says(OSError, f"[Errno 36] Path has more than 2,048 names: {'/n' * 2_049!r}", lambda: tree.stat("/n" * 2_049))
-            tree.mknod("/f")
-            self.says(OSError, "[Errno 27] The file would have more than 2,147,483,648 bytes: '/f'", lambda: tree.truncate("/f", 2**31 + 1))
+        sets = zip(atomfs.Limits, ("32", "64", "255"), ("64", "64", "2,048"), ("65,536", "1,048,576", "2,147,483,648"))
+        for limits, of_name, of_path, of_file in sets:
+            with self.subTest(limits), atomfs.Tree(limits=limits) as tree:
+                tree.mknod("/f")
+                words = f"[Errno 27] The file would have more than {of_file} bytes: '/f'"
+                self.says(OSError, words, lambda: tree.truncate("/f", limits.file_bytes + 1))
+                self.says(OSError, words, lambda: tree.write("/f", limits.file_bytes, b"x"))
+                name, deep = "/" + "n" * limits.name_bytes, "/n" * limits.path_names
+                self.says(OSError, f"[Errno 36] Path has a name of more than {of_name} bytes: {name + 'n'!r}", lambda: tree.stat(name + "n"))
+                self.says(OSError, f"[Errno 36] Path has more than {of_path} names: {deep + '/n'!r}", lambda: tree.stat(deep + "/n"))
+                self.assertRaises(FileNotFoundError, tree.stat, name)
+                self.assertRaises(FileNotFoundError, tree.stat, deep)
 
     def test_paths(self):
         """What the library says of bytes that are no path, the first check that they fail; of two paths, the one that is none."""
         for path, words in (
             ("a", "[Errno 22] Path does not begin with a slash: 'a'"),
-            ("a/" + "n" * 65, f"[Errno 22] Path does not begin with a slash: {'a/' + 'n' * 65!r}"),
+            ("a/" + "n" * 256, f"[Errno 22] Path does not begin with a slash: {'a/' + 'n' * 256!r}"),
             ("/a\0", "[Errno 22] Path has a byte 0: '/a\\x00'"),
             ("/./a", "[Errno 22] A name of the path is . or ..: '/./a'"),
             ("/a/..", "[Errno 22] A name of the path is . or ..: '/a/..'"),
             ("/a/", "[Errno 22] Path ends with a slash: '/a/'"),
-            (b"/" + b"n" * 65, f"[Errno 36] Path has a name of more than 64 bytes: {b'/' + b'n' * 65!r}"),
+            (b"/" + b"n" * 256, f"[Errno 36] Path has a name of more than 255 bytes: {b'/' + b'n' * 256!r}"),
         ):
             self.says(OSError, words, lambda: self.tree.stat(path))
             self.says(OSError, words, lambda: self.tree.rename("/a", path))
@@ -350,11 +374,13 @@ class Words(OfTree):
 
     def test_a_large_journal(self):
         """A journal that no text of the library could hold is checked as it stands."""
-        self.tree.mknod("/f")
-        for _ in range(9):
-            self.tree.write("/f", 0, bytes(1_048_576))
-        self.assertGreater(len(self.tree.journal()), 16_777_216)
-        self.assertEqual(self.tree.check(), "lawful")
+        with atomfs.Tree(limits=atomfs.Limits.V2) as tree:
+            tree.mknod("/f")
+            for _ in range(9):
+                tree.write("/f", 0, bytes(1_048_576))
+            self.assertGreater(len(tree.journal()), 16_777_216)
+            self.assertRaisesRegex(atomfs.Error, "line 1: TooLarge", atomfs.check, tree.journal())
+            self.assertEqual(tree.check(), "lawful")
 
 
 class Kept(OfTree):
@@ -524,7 +550,7 @@ class Journals(OfTree):
     def test_journal(self):
         self.tree.mkdir("/a")
         self.assertEqual(
-            self.tree.journal(), "atomfs-journal 3\nstart\ndir /\nentries\nbegin 1 0 mkdir /a\ncommit 1\nreturn 1 ok\n"
+            self.tree.journal(), "atomfs-journal 4\nstart\ndir /\nentries\nbegin 1 0 mkdir /a\ncommit 1\nreturn 1 ok\n"
         )
 
     def test_check(self):
@@ -546,7 +572,7 @@ class Journals(OfTree):
         """The journal in pieces: each of them is lawful, and the tree stays."""
         self.tree.mkdir("/a")
         first = self.tree.checkpoint()
-        self.assertEqual(first, "atomfs-journal 3\nstart\ndir /\nentries\nbegin 1 0 mkdir /a\ncommit 1\nreturn 1 ok\n")
+        self.assertEqual(first, "atomfs-journal 4\nstart\ndir /\nentries\nbegin 1 0 mkdir /a\ncommit 1\nreturn 1 ok\n")
         self.tree.mkdir("/a/b")
         second = self.tree.checkpoint()
         self.assertTrue(second.endswith("begin 1 0 mkdir /a/b\ncommit 1\nreturn 1 ok\n"))
@@ -638,7 +664,7 @@ class Seats(OfTree):
         writer.begin.mkdir("/a")
         writer.finish()
         begins = "begin 1 1 mkdir /a\ncommit 1\nreturn 1 ok\n"
-        self.assertEqual(self.tree.journal(), "atomfs-journal 3\n# seat 1 writer\nstart\ndir /\nentries\n" + begins)
+        self.assertEqual(self.tree.journal(), "atomfs-journal 4\n# seat 1 writer\nstart\ndir /\nentries\n" + begins)
         self.assertEqual((self.tree.check(), self.tree.checkpoint()), ("lawful", self.tree.journal().replace("dir /a\n", "") + begins))
         for name in ("", "Writer", "a b", "a\n", "finish", "a" * 17, "writer"):
             with self.subTest(name):

@@ -54,12 +54,12 @@ class OfTree(unittest.TestCase):
 class Looks(OfTree):
     def test_views(self):
         """`repr`, `str`, `len`, iteration and `in`: without a call, but for `in`."""
-        self.assertEqual(repr(self.tree), "<atomfs.Tree open: 1 of 1,000 nodes, 0 calls, Limits.V2>")
+        self.assertEqual(repr(self.tree), "<atomfs.Tree open: 1 of 1,000 nodes, 0 calls, Limits.V3>")
         self.assertEqual((str(self.tree), len(self.tree), list(self.tree)), ("/", 1, ["/"]))
         self.fill()
         calls = self.tree.calls
         self.assertEqual(str(self.tree), DRAWN)
-        self.assertEqual(repr(self.tree), f"<atomfs.Tree open: 6 of 1,000 nodes, {calls} calls, Limits.V2>")
+        self.assertEqual(repr(self.tree), f"<atomfs.Tree open: 6 of 1,000 nodes, {calls} calls, Limits.V3>")
         self.assertEqual(list(self.tree), ["/", "/a", "/a/b", "/a/b/f", "/a/g", "/z"])
         self.assertEqual((len(self.tree), self.tree.calls), (6, calls))
         self.assertTrue(all(path in self.tree for path in self.tree) and b"/a/g" in self.tree and "/x" not in self.tree)
@@ -128,7 +128,7 @@ class Directories(OfTree):
         self.tree.mknod("/f")
         self.fails(FileExistsError, errno.EEXIST, lambda: self.tree.makedirs("/f", exist_ok=True), "/f")
         self.fails(NotADirectoryError, errno.ENOTDIR, lambda: self.tree.makedirs("/f/g"), "/f/g")
-        self.fails(OSError, errno.ENAMETOOLONG, lambda: self.tree.makedirs("/x/" + "n" * 65), "/x/" + "n" * 65)
+        self.fails(OSError, errno.ENAMETOOLONG, lambda: self.tree.makedirs("/x/" + "n" * 256), "/x/" + "n" * 256)
         self.assertEqual(list(self.tree), ["/", "/a", "/a/b", "/a/b/c", "/f"])
         self.tree.makedirs("//s//t///u")
         self.assertEqual(list(self.tree)[5:], ["/s", "/s/t", "/s/t/u"])
@@ -269,6 +269,8 @@ class Files(OfTree):
 
     def test_a_write_that_fails(self):
         """The file is as it was, and one that was not there is not made."""
+        self.tree = atomfs.Tree(limits=atomfs.Limits.V2)
+        self.addCleanup(self.tree.close)
         self.tree.write_bytes("/f", b"abc")
         large = bytes(1_048_577)
         for path in ("/f", "/new"):

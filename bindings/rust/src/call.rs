@@ -83,7 +83,7 @@ pub enum Call<'a> {
     /// Tells the names of a directory.
     Readdir(&'a [u8]),
     /// Tells the names of a directory above the last name of the second path, at most so many.
-    List(&'a [u8], &'a [u8], u64),
+    List(&'a [u8], &'a [u8], u32),
     /// Reads from an offset on at most so many bytes.
     Read(&'a [u8], u64, u64),
     /// Writes bytes into a file at an offset.
@@ -138,7 +138,7 @@ impl<'a> Call<'a> {
     pub fn list(
         path: &'a (impl AsPath + ?Sized),
         after: &'a (impl AsPath + ?Sized),
-        count: u64,
+        count: u32,
     ) -> Self {
         Call::List(path.path_bytes(), after.path_bytes(), count)
     }
@@ -177,7 +177,7 @@ impl<'a> Call<'a> {
             Call::Read(path, offset, count) => (8, path, none, offset, count, none),
             Call::Write(path, offset, bytes) => (9, path, none, offset, 0, bytes),
             Call::Truncate(path, size) => (10, path, none, 0, size, none),
-            Call::List(path, after, count) => (11, path, after, 0, count, none),
+            Call::List(path, after, count) => (11, path, after, 0, u64::from(count), none),
         };
         Request {
             call,

@@ -160,7 +160,7 @@ extern "C" {
         length: usize,
         after: *const u8,
         after_length: usize,
-        most: u64,
+        most: u32,
         out: *mut u8,
         room: usize,
         count: *mut usize,

@@ -66,7 +66,7 @@ pub use tree::Tree;
 pub use whole::{Calls, Entry};
 
 /// The greatest limit of nodes of a tree whose limits are not told; [`Limits::nodes`] has that of each.
-pub const NODE_LIMIT: usize = Limits::V2.nodes();
+pub const NODE_LIMIT: usize = Limits::V3.nodes();
 
 /// The version of the library.
 pub fn version() -> &'static str {

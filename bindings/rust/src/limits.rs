@@ -22,9 +22,9 @@ pub enum Limits {
     /// Names of at most 32 bytes, paths of 64 names, directories of 256 entries, files of 65,536 bytes.
     V1 = 1,
     /// Names of at most 64 bytes, paths of 64 names, directories of 256 entries, files of 1,048,576 bytes.
-    #[default]
     V2 = 2,
-    /// Names of at most 64 bytes, paths of 2,048 names, directories of 1,048,576 entries, files of 2,147,483,648 bytes.
+    /// Names of at most 255 bytes, paths of 2,048 names, directories of 1,048,576 entries, files of 2,147,483,648 bytes.
+    #[default]
     V3 = 3,
 }
 
@@ -43,7 +43,7 @@ impl Limits {
         match self {
             Limits::V1 => 32,
             Limits::V2 => 64,
-            Limits::V3 => 64,
+            Limits::V3 => 255,
         }
     }
 

@@ -106,7 +106,7 @@ impl Session {
         &mut self,
         path: impl AsPath,
         after: impl AsPath,
-        count: u64,
+        count: u32,
     ) -> Result<Vec<Vec<u8>>, Error> {
         whole::list(self, path.path_bytes(), after.path_bytes(), count)
     }

@@ -120,7 +120,7 @@ impl SharedTree {
         &self,
         path: impl AsPath,
         after: impl AsPath,
-        count: u64,
+        count: u32,
     ) -> Result<Vec<Vec<u8>>, Error> {
         whole::list(&mut &*self, path.path_bytes(), after.path_bytes(), count)
     }

@@ -100,9 +100,9 @@ impl Tree {
     /// The same by these limits.
     ///
     /// ```
-    /// use atomfs::{Errno, ErrorKind, Limits, Tree, NODE_LIMIT};
+    /// use atomfs::{Errno, ErrorKind, Limits, Tree};
     ///
-    /// let mut tree = Tree::with_limits(NODE_LIMIT, Limits::V1)?;
+    /// let mut tree = Tree::with_limits(Limits::V1.nodes(), Limits::V1)?;
     /// tree.mknod("/f")?;
     /// assert_eq!(tree.truncate("/f", 65_537).unwrap_err(), ErrorKind::Failed(Errno::EFBIG));
     /// # Ok::<(), atomfs::Error>(())
@@ -122,10 +122,10 @@ impl Tree {
     /// ```
     /// use atomfs::{ErrorKind, Limits, Tree, NODE_LIMIT};
     ///
-    /// let mut tree = Tree::from_text("tree\ndir /\nfile /f 6869\n", NODE_LIMIT, Limits::V2)?;
+    /// let mut tree = Tree::from_text("tree\ndir /\nfile /f 6869\n", NODE_LIMIT, Limits::V3)?;
     /// assert_eq!(tree.read_to_end("/f")?, b"hi");
-    /// assert_eq!(tree.journal()?.lines().next(), Some("atomfs-journal 3"));
-    /// let error = Tree::from_text("tree\ndir /\ndir /a/b\n", NODE_LIMIT, Limits::V2).unwrap_err();
+    /// assert_eq!(tree.journal()?.lines().next(), Some("atomfs-journal 4"));
+    /// let error = Tree::from_text("tree\ndir /\ndir /a/b\n", NODE_LIMIT, Limits::V3).unwrap_err();
     /// assert!(matches!(error.kind(), ErrorKind::BadText(_, 3)));
     /// # Ok::<(), atomfs::Error>(())
     /// ```
@@ -278,9 +278,7 @@ impl Tree {
     /// `count`, and at most 256. Trees by [`Limits::V3`] alone have it.
     ///
     /// ```
-    /// use atomfs::{Limits, Tree};
-    ///
-    /// let mut tree = Tree::with_limits(Limits::V3.nodes(), Limits::V3)?;
+    /// let mut tree = atomfs::Tree::new()?;
     /// for name in ["/a", "/b", "/c"] {
     ///     tree.mknod(name)?;
     /// }
@@ -292,7 +290,7 @@ impl Tree {
         &mut self,
         path: impl AsPath,
         after: impl AsPath,
-        count: u64,
+        count: u32,
     ) -> Result<Vec<Vec<u8>>, Error> {
         let own = self.own()?;
         let (path, after, mut told, mut number) = (path.path_bytes(), after.path_bytes(), 0, 0);

@@ -161,7 +161,7 @@ pub(crate) fn list(
     calls: &mut impl Calls,
     path: &[u8],
     after: &[u8],
-    count: u64,
+    count: u32,
 ) -> Result<Vec<Vec<u8>>, Error> {
     match calls.call(&Call::List(path, after, count))? {
         Reply::Names(names) => Ok(names),
@@ -174,11 +174,11 @@ pub(crate) fn read_dir(calls: &mut impl Calls, path: &[u8]) -> Result<Vec<Vec<u8
     if !calls.limits().has_list() {
         return readdir(calls, path);
     }
-    let mut names = list(calls, path, b"/", LISTED as u64)?;
+    let mut names = list(calls, path, b"/", LISTED as u32)?;
     let mut told = names.len();
     while told == LISTED {
         let after = below(b"", names.last().map_or(&[][..], Vec::as_slice));
-        let more = list(calls, path, &after, LISTED as u64)?;
+        let more = list(calls, path, &after, LISTED as u32)?;
         told = more.len();
         names.extend(more);
     }

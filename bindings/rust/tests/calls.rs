@@ -48,7 +48,7 @@ fn each_call() {
 
 #[test]
 fn each_error() {
-    let mut tree = Tree::new().unwrap();
+    let mut tree = Tree::with_limits(Limits::V2.nodes(), Limits::V2).unwrap();
     tree.mkdir("/d").unwrap();
     tree.mkdir("/d/e").unwrap();
     tree.mknod("/f").unwrap();
@@ -131,8 +131,9 @@ fn each_error() {
 fn what_is_refused_is_not_in_the_journal() {
     assert_eq!(kind(Tree::with_limit(0)).err(), Some(ErrorKind::BadLimit));
     let mut tree = Tree::with_limit(1).unwrap();
-    let long = format!("/{}", "0123456789".repeat(7));
-    let deep = "/a".repeat(65);
+    let long = format!("/{}", "n".repeat(Limits::V3.name_bytes() + 1));
+    let longer = format!("/{}", "0123456789".repeat(30));
+    let deep = "/a".repeat(Limits::V3.path_names() + 1);
     let rows = [
         ("", PathFault::NotAbsolute),
         ("a", PathFault::NotAbsolute),
@@ -140,11 +141,8 @@ fn what_is_refused_is_not_in_the_journal() {
         ("/a/../b", PathFault::Dot),
         ("/.", PathFault::Dot),
         ("/a\0b", PathFault::Nul),
-        (
-            "/01234567890123456789012345678901234567890123456789012345678901234",
-            PathFault::NameTooLong,
-        ),
         (&long, PathFault::NameTooLong),
+        (&longer, PathFault::NameTooLong),
         (&deep, PathFault::TooManyNames),
     ];
     let mut words = Vec::new();
@@ -163,7 +161,7 @@ fn what_is_refused_is_not_in_the_journal() {
     assert_eq!(kind(tree.reply(seat)), Err(ErrorKind::NoReply));
     assert_eq!(
         tree.journal().unwrap(),
-        "atomfs-journal 3\nstart\ndir /\nentries\n"
+        "atomfs-journal 4\nstart\ndir /\nentries\n"
     );
     tree.begin(seat, &Call::stat("/")).unwrap();
     assert_eq!(
@@ -233,8 +231,9 @@ fn from_texts() {
             tree.mkdir("/b").unwrap();
             assert!(tree.journal().unwrap().contains("begin 1 0 unlink /a/f\n"));
             assert_eq!(tree.check().unwrap(), "lawful");
-            let long = "/".to_string() + &"n".repeat(limits.name_bytes() + 1);
-            let error = tree.rmdir(long.as_str()).unwrap_err();
+            let long = "/".to_string() + &"n".repeat(limits.name_bytes());
+            tree.rename("/b", &long).unwrap();
+            let error = tree.rename(&long, &(long.clone() + "n")).unwrap_err();
             assert_eq!(error, ErrorKind::BadPath(PathFault::NameTooLong));
         }
     }
@@ -257,18 +256,18 @@ fn from_texts_refused() {
         ("atomfs-journal 1\nbegin\n", "line 2: BadLine: "),
     ];
     for (text, words) in rows {
-        let error = Tree::from_text(text, NODE_LIMIT, Limits::V1).unwrap_err();
+        let error = Tree::from_text(text, 9, Limits::V1).unwrap_err();
         assert!(error.to_string().starts_with(words), "{text:?}: {error}");
         assert!(matches!(error.kind(), ErrorKind::BadText(..)));
     }
-    Tree::from_text(long, NODE_LIMIT, Limits::V2).unwrap();
+    Tree::from_text(long, 9, Limits::V2).unwrap();
     let text = "tree\ndir /\ndir /a\ndir /b\n";
     for (limit, wanted) in [
         (2, ErrorKind::Full),
         (0, ErrorKind::BadLimit),
         (NODE_LIMIT + 1, ErrorKind::BadLimit),
     ] {
-        let came = Tree::from_text(text, limit, Limits::V2);
+        let came = Tree::from_text(text, limit, Limits::V3);
         assert_eq!(kind(came.map(|_| ())), Err(wanted));
     }
 }
@@ -309,7 +308,7 @@ fn clones() {
 /// A journal that no text could hold is checked as it stands.
 #[test]
 fn a_large_journal() {
-    let mut tree = Tree::new().unwrap();
+    let mut tree = Tree::with_limits(Limits::V2.nodes(), Limits::V2).unwrap();
     tree.mknod("/f").unwrap();
     for _ in 0..9 {
         tree.write("/f", 0, [0; 1 << 20]).unwrap();
@@ -498,7 +497,7 @@ fn each_kind_of_path() {
 /// An error has the paths of its call, and says them.
 #[test]
 fn paths_of_errors() {
-    let mut tree = Tree::with_limits(NODE_LIMIT, Limits::V1).unwrap();
+    let mut tree = Tree::with_limits(Limits::V1.nodes(), Limits::V1).unwrap();
     let seat = tree.seat().unwrap();
     tree.begin(seat, &Call::rename("/b", "/c")).unwrap();
     let rows = [

@@ -4,9 +4,7 @@ use std::io::{self, BufRead, BufReader, Read, Seek, SeekFrom, Write};
 use std::path::Path;
 use std::sync::{Arc, Mutex};
 
-use atomfs::{
-    Errno, Error, ErrorKind, File, Limits, OpenOptions, PathFault, Session, Stat, Tree, NODE_LIMIT,
-};
+use atomfs::{Errno, Error, ErrorKind, File, Limits, OpenOptions, PathFault, Session, Stat, Tree};
 
 const FILE: Stat = Stat {
     is_dir: false,
@@ -225,7 +223,7 @@ fn directories_with_those_above_them() {
 
 #[test]
 fn whole_files() {
-    let mut tree = Tree::with_limits(NODE_LIMIT, Limits::V1).unwrap();
+    let mut tree = Tree::with_limits(Limits::V1.nodes(), Limits::V1).unwrap();
     let full = vec![7; Limits::V1.file_bytes()];
     tree.write_file("/f", &full).unwrap();
     assert_eq!(tree.read_to_end("/f").unwrap(), full);

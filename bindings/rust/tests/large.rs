@@ -1,16 +1,12 @@
-//! Trees by the third limits: directories and files that one call does not tell.
+//! Trees by the third limits, which are those where none are named: directories and files that one call does not tell, and long names.
 
 use std::io::{self, Read, Write};
 
 use atomfs::{Call, Errno, Error, ErrorKind, Limits, PathFault, Reply, SharedTree, Tree};
 
-fn large() -> Tree {
-    Tree::with_limits(Limits::V3.nodes(), Limits::V3).unwrap()
-}
-
 /// A tree with a directory of so many files, and their names.
 fn crowded(count: usize) -> (Tree, Vec<Vec<u8>>) {
-    let mut tree = large();
+    let mut tree = Tree::new().unwrap();
     tree.mkdir("/d").unwrap();
     let names: Vec<_> = (0..count)
         .map(|at| format!("{at:03}").into_bytes())
@@ -34,7 +30,7 @@ fn failed<T>(came: Result<T, Error>) -> Option<Errno> {
 fn pieces() {
     let (mut tree, names) = crowded(600);
     assert_eq!(tree.limits(), Limits::V3);
-    assert_eq!(tree.list("/d", "/", u64::MAX).unwrap(), names[..256]);
+    assert_eq!(tree.list("/d", "/", u32::MAX).unwrap(), names[..256]);
     assert_eq!(tree.list("/d", "/255", 256).unwrap(), names[256..512]);
     assert_eq!(tree.list("/d", "/x/y/511", 256).unwrap(), names[512..]);
     assert_eq!(tree.list("/d", "/5", 2).unwrap(), [b"500", b"501"]);
@@ -79,9 +75,45 @@ fn whole_directories() {
     }
 }
 
+/// As many names as a call answers, each as long as there are: a reply has no more bytes.
+#[test]
+fn long_names() {
+    let mut tree = Tree::new().unwrap();
+    tree.mkdir("/d").unwrap();
+    let most = Limits::V3.name_bytes();
+    let names: Vec<_> = (0..256)
+        .map(|at| format!("{at:0most$}").into_bytes())
+        .collect();
+    let path = |name: &[u8]| [b"/d/", name].concat();
+    for name in &names {
+        tree.mknod(path(name)).unwrap();
+    }
+    assert_eq!(tree.readdir("/d").unwrap(), names);
+    assert_eq!(tree.list("/d", "/", 256).unwrap(), names);
+    let after = path(&names[253]);
+    assert_eq!(tree.list("/d", &after, 256).unwrap(), names[254..]);
+    let error = tree
+        .mknod(path(&[&names[0][..], b"n"].concat()))
+        .unwrap_err();
+    assert_eq!(error, ErrorKind::BadPath(PathFault::NameTooLong));
+    let call = Call::readdir("/d");
+    let seat = tree.seat().unwrap();
+    tree.begin(seat, &call).unwrap();
+    assert_eq!(tree.finish(seat), Ok(Reply::Names(names.clone())));
+    let other = path(&[b'x'; 255]);
+    tree.rename(path(&names[0]), &other).unwrap();
+    tree.exchange(path(&names[1]), &other).unwrap();
+    let shared = SharedTree::from(tree);
+    let found = shared.read_dir("/d").unwrap();
+    assert_eq!((&found[..254], found.len()), (&names[1..255], 256));
+    assert_eq!(shared.call(&call), Ok(Reply::Names(found)));
+    shared.remove_dir_all("/d").unwrap();
+    assert_eq!(shared.lock().check().unwrap(), "lawful");
+}
+
 #[test]
 fn long_files() {
-    let mut tree = large();
+    let mut tree = Tree::new().unwrap();
     let most = Limits::V3.read_bytes();
     let data: Vec<u8> = (0..2 * most + 7).map(|at| (at % 251) as u8).collect();
     tree.write_file("/f", &data).unwrap();

@@ -213,7 +213,7 @@ pub extern "C" fn atomfs_list(
     seat: u64,
     path: &[u8],
     after: &[u8],
-    most: u64,
+    most: u32,
     out: &mut [u8],
     count: &mut usize,
     number: &mut u64,

@@ -2,12 +2,12 @@
 
 use crate::transcript::{bytes_of, shown};
 use anyhow::{Result, bail};
-use fs_names::{CallNo, Name, Path, PathFault, SeatNo};
+use fs_names::{CallNo, Limits, Name, Path, PathFault, SeatNo};
 use std::alloc::Global;
 
-/// The name that bytes are.
+/// The name that bytes are, of any length.
 fn name_of(alloc: Global, text: &str) -> Result<Name> {
-    match Name::read(&bytes_of(alloc, text)?) {
+    match Name::read_long(alloc, &bytes_of(alloc, text)?)? {
         Some(name) => Ok(name),
         None => bail!("{text}: no name"),
     }
@@ -17,13 +17,14 @@ fn name_of(alloc: Global, text: &str) -> Result<Name> {
 pub fn order(alloc: Global, first: &str, second: &str) -> Result<String> {
     let first = name_of(alloc, first)?;
     let second = name_of(alloc, second)?;
-    let (order, is_same, is_equal) = (first.cmp(&second), first.same(&second), first == second);
-    Ok(format!(in alloc; "{order:?} {is_same} {is_equal}")?)
+    let (order, is_same) = (first.cmp(&second), first.same(&second));
+    let is_above = first.is_above(second.bytes());
+    Ok(format!(in alloc; "{order:?} {is_same} {is_above}")?)
 }
 
 /// The path that bytes are.
 fn path_of(alloc: Global, text: &str) -> Result<Path> {
-    Ok(Path::parse(alloc, text.as_bytes())?)
+    Ok(Path::parse_with(alloc, text.as_bytes(), Limits::LARGEST)?)
 }
 
 /// How many names two paths have in common, and how the first stands to the second.
@@ -53,6 +54,13 @@ pub fn parent(alloc: Global, text: &str) -> Result<String> {
     shown(alloc, &[above.as_bytes(), path.last_name().bytes()])
 }
 
+/// Which bytes a copy of a name has.
+pub fn again(alloc: Global, text: &str) -> Result<String> {
+    let name = name_of(alloc, text)?;
+    let copy = name.copy()?;
+    shown(alloc, &[copy.bytes()])
+}
+
 /// How many names a copy has, and in common with its path.
 pub fn copy(alloc: Global, text: &str) -> Result<String> {
     let path = path_of(alloc, text)?;
@@ -72,7 +80,7 @@ pub fn numbers(alloc: Global, first: u64, second: u64) -> Result<String> {
 
 /// What no bytes are, as a path and as a name.
 pub fn nothing(alloc: Global) -> Result<String> {
-    let is_name = Name::read(b"").is_some();
+    let is_name = Name::read(b"").is_some() || Name::read_long(alloc, b"")?.is_some();
     match Path::parse(alloc, b"") {
         Ok(_path) => Ok(format!(in alloc; "a path, a name: {is_name}")?),
         Err(fault) => Ok(format!(in alloc; "{fault}, a name: {is_name}")?),

@@ -1,11 +1,11 @@
 //! Files of lines, each of which is written with its answer. Bytes stand in a line with escapes; a line that begins with `#`
 //! is a comment.
 //!
-//! `order NAME NAME` compares names (by `cmp`, `same` and `==`), `paths PATH PATH` paths, and `numbers N N` numbers (by `cmp`
-//! and `==`); `copy PATH` compares a path with its copy, `parent PATH` tells how many names the parent has, and the last name,
+//! `order NAME NAME` compares names (by `cmp`, `same` and `is_above`), `paths PATH PATH` paths, and `numbers N N` numbers (by
+//! `cmp` and `==`); `again NAME` tells the bytes of a copy of a name; `copy PATH` compares a path with its copy, `parent PATH` tells how many names the parent has, and the last name,
 //! `nothing` what no bytes are, as a path and as a name, and `faults` the words of all faults. `same REPLY = REPLY` and `calls
 //! CALL = CALL` compare, `errno NAME` gives the number of an error, `parts AT BYTES` two parts of a word, `held BYTES` puts
-//! bytes and names into lists and takes them out, `added BYTES` appends in each way, and `back BYTES` takes it back.
+//! bytes and names into lists and tells them, `added BYTES` appends in each way, and `back BYTES` takes it back.
 
 use crate::{names, words};
 use anyhow::{Result, bail};
@@ -45,6 +45,7 @@ fn answer(alloc: Global, line: &str) -> Result<String> {
         "order" => names::order(alloc, first, second),
         "paths" => names::paths(alloc, first, second),
         "parent" => names::parent(alloc, rest),
+        "again" => names::again(alloc, rest),
         "copy" => names::copy(alloc, rest),
         "numbers" => names::numbers(alloc, first.parse()?, second.parse()?),
         "nothing" => names::nothing(alloc),

@@ -112,16 +112,24 @@ fn compare_cancel(alloc: Global, mkdir: &Call) -> Result<()> {
     Ok(())
 }
 
-/// The same of a call.
-fn compare_call(alloc: Global) -> Result<()> {
-    let mkdir = Call::Mkdir(Path::parse(alloc, b"/a")?);
+/// The paths of calls that are cancelled: the name of the second one shares its bytes with its copies.
+const CANCELLED: [&[u8]; 2] = [
+    b"/a",
+    b"/mmmmmmmmmmmmmmmmmmmmmmmmmmmmmmmmmmmmmmmmmmmmmmmmmmmmmmmmmmmmmmmmmmmmmm",
+];
+
+/// The same of a call on a path.
+fn compare_call(alloc: Global, text: &[u8]) -> Result<()> {
+    let mkdir = Call::Mkdir(Path::parse_with(alloc, text, Limits::LARGEST)?);
     compare_cancel(alloc, &mkdir)
 }
 
 /// All of these.
 pub fn compare(alloc: Global) -> Result<()> {
     compare_walk()?;
-    compare_call(alloc)?;
+    for path in CANCELLED {
+        compare_call(alloc, path)?;
+    }
     let source = Path::parse(alloc, b"/a/b/c/x")?;
     let dest = Path::parse(alloc, b"/a/y")?;
     compare_fork(&source, &dest)

@@ -4,7 +4,8 @@ use crate::transcript::shown;
 use anyhow::{Result, bail, ensure};
 use check_cores::spelled::{calls_of, reply_in, return_of};
 use fs_calls::{Bytes, Data, NameList, Reply};
-use fs_names::Name;
+use fs_memory::Memory;
+use fs_names::{Name, NameRoom};
 use fs_text::Addition;
 use fs_text::words::parts;
 use std::alloc::{AllocError, Global};
@@ -58,22 +59,31 @@ fn are_shared(alloc: Global, bytes: &[u8]) -> Result<bool> {
     Ok(copy.same(&written) && copy.same(&other) && copy.as_slice() == bytes)
 }
 
-/// Bytes, and their name, put into lists, copied and taken out again.
+/// The list of the name that bytes are, or of none.
+fn listed(alloc: Global, bytes: &[u8]) -> Result<NameList> {
+    let mut room = NameRoom::new(alloc, &mut Memory::new(), 0)?;
+    if let Some(name) = Name::read_long(alloc, bytes)? {
+        room.push(&name)?;
+    }
+    Ok(room.into_list())
+}
+
+/// Whether a list, and a copy of it, tell this name alone, and are the same.
+fn tells(list: &NameList, name: &[u8]) -> Result<bool> {
+    let copy = list.copy()?;
+    let (mut names, mut again) = (list.names(), copy.names());
+    let is_told = names.next() == Some(name) && again.next() == Some(name);
+    Ok(is_told && names.next().is_none() && again.next().is_none() && copy.same(list))
+}
+
+/// Bytes, and their name, put into lists, copied and told again.
 pub fn held(alloc: Global, bytes: &[u8]) -> Result<String> {
     let list = Bytes::new(Vec::from_slice(alloc, bytes)?);
     let copy = list.copy()?;
-    let mut names = Vec::new(alloc);
-    if let Some(name) = Name::read(bytes) {
-        names.push(name)?;
-    }
-    let names = NameList::new(names);
-    let are_same = copy.same(&list)
-        && names.same(&names)
-        && copy.as_slice() == bytes
-        && are_shared(alloc, bytes)?;
-    let (length, count) = (list.into_vec().len(), names.as_slice().len());
-    let taken = names.into_vec().len();
-    Ok(format!(in alloc; "{length} bytes, {count} name, {taken} taken, same: {are_same}")?)
+    let are_same = copy.same(&list) && copy.as_slice() == bytes && are_shared(alloc, bytes)?;
+    let is_told = tells(&listed(alloc, bytes)?, bytes)?;
+    let length = list.into_vec().len();
+    Ok(format!(in alloc; "{length} bytes, same: {are_same}, the name alone: {is_told}")?)
 }
 
 /// Bytes behind `|`: as they are, their count, as hex digits, and with escapes.

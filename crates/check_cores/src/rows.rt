@@ -43,7 +43,7 @@ const TABLE: [(&[Line], Option<usize>); 15] = [
 /// The names of a path.
 fn names_of(path: &Path, key: &mut Vec<Name>) -> Result<()> {
     for i in 0..path.len() {
-        key.push(path.name(i).copy())?;
+        key.push(path.name(i).copy()?)?;
     }
     Ok(())
 }
@@ -55,7 +55,7 @@ fn row_of(alloc: Global, text: &[u8], kind: Kind, bytes: Vec<u8>) -> Result<Row>
         kind,
         bytes,
     };
-    let path = Path::parse(alloc, text)?;
+    let path = Path::parse_with(alloc, text, Limits::LARGEST)?;
     let named = names_of(&path, &mut row.key);
     named.map(|()| row)
 }
@@ -69,8 +69,17 @@ pub fn rows_of(alloc: Global, lines: &[Line]) -> Result<Vec<Row>> {
     Ok(rows)
 }
 
+/// Whether these are the same names, in the same order.
+fn same_names(names: &[Name], others: &[Name]) -> bool {
+    names.len() == others.len()
+        && names
+            .iter()
+            .zip(others)
+            .all(|(name, other)| name.same(other))
+}
+
 fn same_row(row: &Row, other: &Row) -> bool {
-    row.key == other.key && row.kind == other.kind && row.bytes == other.bytes
+    same_names(&row.key, &other.key) && row.kind == other.kind && row.bytes == other.bytes
 }
 
 /// Whether these are the same rows.
@@ -117,12 +126,15 @@ fn numbered(number: usize) -> Option<Name> {
     Name::read(&letters)
 }
 
+/// A name that shares its bytes with its copies.
+const LONG: &[u8] = b"dddddddddddddddddddddddddddddddddddddddddddddddddddddddddddddddddddddd";
+
 /// What stands in a tree beside the root.
 #[derive(Clone, Copy)]
 enum Shape {
     /// So many directories in the root.
     Wide,
-    /// A branch of so many directories, each in the one before.
+    /// A branch of so many directories of one long name, each in the one before.
     Deep,
     /// A file of so many bytes.
     Long,
@@ -134,7 +146,7 @@ fn add_names(row: &mut Row, name: Option<&Name>, times: usize) -> Result<()> {
         bail!("a name");
     };
     for _ in 0..times {
-        row.key.push(name.copy())?;
+        row.key.push(name.copy()?)?;
     }
     Ok(())
 }
@@ -163,7 +175,11 @@ fn bytes_of(alloc: Global, size: usize) -> Result<Vec<u8>> {
 fn next_row(alloc: Global, shape: Shape, number: usize) -> Result<Row> {
     match shape {
         Shape::Wide => dir_row(alloc, numbered(number).as_ref(), 1),
-        _ => dir_row(alloc, Name::read(b"d").as_ref(), number.wrapping_add(1)),
+        _ => dir_row(
+            alloc,
+            Name::read_long(alloc, LONG)?.as_ref(),
+            number.wrapping_add(1),
+        ),
     }
 }
 

@@ -15,23 +15,66 @@ use fs_seq::Row;
 use fs_timeline::Entry;
 use std::alloc::Global;
 
-/// A tree with directories and files, with entries and bytes and without.
+/// A tree with directories and files, with entries and bytes and without, and with a long name, as the calls have too.
 const TREE: [Line; 6] = [
     ROOT,
     A,
     A_F,
-    (b"/a/g", Kind::File, b""),
+    (
+        b"/a/gggggggggggggggggggggggggggggggggggggggggggggggggggggggggggggggggggggg",
+        Kind::File,
+        b"",
+    ),
     B,
     (b"/c", Kind::File, b"\x00\xff"),
 ];
 
 /// Calls that look at it and change it, with their replies.
-const CALLS: [(&str, &str); 12] = [
+const CALLS: [(&str, &str); 21] = [
     ("readdir /", "names a b c"),
     ("stat /a", "stat dir 2"),
     ("stat /b", "stat dir 0"),
     ("read /a/f 0 9", "bytes 6869"),
-    ("stat /a/g", "stat file 0"),
+    (
+        "stat /a/gggggggggggggggggggggggggggggggggggggggggggggggggggggggggggggggggggggg",
+        "stat file 0",
+    ),
+    (
+        "readdir /a",
+        "names f gggggggggggggggggggggggggggggggggggggggggggggggggggggggggggggggggggggg",
+    ),
+    (
+        "list /a /ggggggggggggggggggggggggggggggggggggggggggggggggggggggggggggggggggggg 9",
+        "names gggggggggggggggggggggggggggggggggggggggggggggggggggggggggggggggggggggg",
+    ),
+    (
+        "mkdir /a/gggggggggggggggggggggggggggggggggggggggggggggggggggggggggggggggggggggg",
+        "failed EEXIST",
+    ),
+    (
+        "mkdir /hhhhhhhhhhhhhhhhhhhhhhhhhhhhhhhhhhhhhhhhhhhhhhhhhhhhhhhhhhhhhhhhhhhhhh",
+        "ok",
+    ),
+    (
+        "mknod /hhhhhhhhhhhhhhhhhhhhhhhhhhhhhhhhhhhhhhhhhhhhhhhhhhhhhhhhhhhhhhhhhhhhhh/hhhhhhhhhhhhhhhhhhhhhhhhhhhhhhhhhhhhhhhhhhhhhhhhhhhhhhhhhhhhhhhhhhhhhh",
+        "ok",
+    ),
+    (
+        "rename /hhhhhhhhhhhhhhhhhhhhhhhhhhhhhhhhhhhhhhhhhhhhhhhhhhhhhhhhhhhhhhhhhhhhhh/hhhhhhhhhhhhhhhhhhhhhhhhhhhhhhhhhhhhhhhhhhhhhhhhhhhhhhhhhhhhhhhhhhhhhh /a/gggggggggggggggggggggggggggggggggggggggggggggggggggggggggggggggggggggg",
+        "ok",
+    ),
+    (
+        "exchange /hhhhhhhhhhhhhhhhhhhhhhhhhhhhhhhhhhhhhhhhhhhhhhhhhhhhhhhhhhhhhhhhhhhhhh /a/gggggggggggggggggggggggggggggggggggggggggggggggggggggggggggggggggggggg",
+        "ok",
+    ),
+    (
+        "exchange /hhhhhhhhhhhhhhhhhhhhhhhhhhhhhhhhhhhhhhhhhhhhhhhhhhhhhhhhhhhhhhhhhhhhhh /a/gggggggggggggggggggggggggggggggggggggggggggggggggggggggggggggggggggggg",
+        "ok",
+    ),
+    (
+        "rmdir /hhhhhhhhhhhhhhhhhhhhhhhhhhhhhhhhhhhhhhhhhhhhhhhhhhhhhhhhhhhhhhhhhhhhhh",
+        "ok",
+    ),
     ("read /c 0 9", "bytes 00ff"),
     ("mknod /a/f", "failed EEXIST"),
     ("mkdir /b/d", "ok"),
@@ -48,7 +91,11 @@ const BEHIND: [Line; 6] = [
     (b"/b/d", Kind::Dir, b""),
     (b"/b/x", Kind::Dir, b""),
     (b"/b/x/f", Kind::File, b"hi!"),
-    (b"/b/x/g", Kind::File, b""),
+    (
+        b"/b/x/gggggggggggggggggggggggggggggggggggggggggggggggggggggggggggggggggggggg",
+        Kind::File,
+        b"",
+    ),
 ];
 
 /// Why no core begins at rows, for at most so many nodes.
@@ -142,7 +189,7 @@ fn refuse_second(alloc: Global, core: &Core) -> Result<()> {
 /// A checkpoint comes behind the calls: the core begins again at the tree that they left.
 fn begin_again(alloc: Global, core: &mut Core, rows: &[Row]) -> Result<()> {
     match core.checkpoint(alloc) {
-        Ok(entries) => ensure!(entries.len() == 36, "the entries of twelve calls"),
+        Ok(entries) => ensure!(entries.len() == 63, "the entries of all calls"),
         Err(_) => bail!("a checkpoint"),
     }
     ensure!(begins_at(alloc, core, rows)?, "the tree behind them");

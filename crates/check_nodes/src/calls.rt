@@ -64,8 +64,8 @@ impl Linked {
     }
 
     /// A node becomes an entry, with what is below it. It answers whether it could.
-    pub fn link(&mut self, dir: NodeNo, name: &Name, node: NodeNo) -> bool {
-        let is_free = self.store.find(dir, name).is_none() && self.store.parent(node).is_none();
+    pub fn link(&mut self, dir: NodeNo, name: Name, node: NodeNo) -> bool {
+        let is_free = self.store.find(dir, &name).is_none() && self.store.parent(node).is_none();
         let is_other = node.get() != 0 && self.store.is_used(node);
         if !(is_free && is_other && self.store.is_dir(dir) && self.is_apart(node, dir)) {
             return false;
@@ -84,11 +84,11 @@ impl Linked {
     }
 
     /// An entry gets another name or another directory, with what is below it. It answers whether it could.
-    pub fn move_entry(&mut self, from: NodeNo, name: &Name, to: NodeNo, new_name: &Name) -> bool {
+    pub fn move_entry(&mut self, from: NodeNo, name: &Name, to: NodeNo, new_name: Name) -> bool {
         let Some(node) = self.store.find(from, name) else {
             return false;
         };
-        let is_free = self.store.find(to, new_name).is_none();
+        let is_free = self.store.find(to, &new_name).is_none();
         if !(is_free && self.store.is_dir(to) && self.is_apart(node, to)) {
             return false;
         }
@@ -189,8 +189,8 @@ impl Plain {
     }
 
     /// A node becomes an entry, with what is below it. It answers whether it could.
-    pub fn link(&mut self, dir: NodeNo, name: &Name, node: NodeNo) -> bool {
-        let is_free = self.store.find(dir, name).is_none() && self.store.parent(node).is_none();
+    pub fn link(&mut self, dir: NodeNo, name: Name, node: NodeNo) -> bool {
+        let is_free = self.store.find(dir, &name).is_none() && self.store.parent(node).is_none();
         let is_other = node.get() != 0 && self.store.is_used(node);
         if !(is_free && is_other && self.store.is_dir(dir) && self.is_apart(node, dir)) {
             return false;
@@ -209,11 +209,11 @@ impl Plain {
     }
 
     /// An entry gets another name or another directory, with what is below it. It answers whether it could.
-    pub fn move_entry(&mut self, from: NodeNo, name: &Name, to: NodeNo, new_name: &Name) -> bool {
+    pub fn move_entry(&mut self, from: NodeNo, name: &Name, to: NodeNo, new_name: Name) -> bool {
         let Some(node) = self.store.find(from, name) else {
             return false;
         };
-        let is_free = self.store.find(to, new_name).is_none();
+        let is_free = self.store.find(to, &new_name).is_none();
         if !(is_free && self.store.is_dir(to) && self.is_apart(node, to)) {
             return false;
         }

@@ -41,6 +41,15 @@ enum Deed {
 /// A deed, and what it says.
 type Row = (Deed, &'static str);
 
+/// A name of a byte more than stand in place.
+const LONG_A: &[u8] = &[b'a'; 65];
+
+/// One that differs in its last byte.
+const LONG_B: &[u8] = b"aaaaaaaaaaaaaaaaaaaaaaaaaaaaaaaaaaaaaaaaaaaaaaaaaaaaaaaaaaaaaaaab";
+
+/// A name of as many bytes as there may be.
+const LONGEST: &[u8] = &[b'a'; 255];
+
 /// The one free number of a store of two nodes becomes a directory's, which gets an entry and another name, and goes; then it is
 /// had again.
 const TWO_NUMBERS: &[Row] = &[
@@ -83,6 +92,39 @@ const NAMES_IN_ORDER: &[Row] = &[
     (Deed::Unlink((0, b"a"), None), "an entry below it"),
 ];
 
+/// Of two names of more bytes than stand in place, which differ in their last one, the first is found and goes; and then the
+/// longest one.
+const LONG_NAMES: &[Row] = &[
+    (Deed::Reserve(Kind::File, Some(1)), "a first number"),
+    (Deed::Reserve(Kind::Dir, Some(2)), "a second number"),
+    (Deed::Link((0, LONG_B), 1, true), "a long name"),
+    (
+        Deed::Link((0, LONG_A), 2, true),
+        "one less in its last byte",
+    ),
+    (
+        Deed::FindSteps((0, LONG_A), 2, 1),
+        "the node of the lesser one",
+    ),
+    (
+        Deed::FindSteps((0, LONG_B), 1, 1),
+        "the node of the other one",
+    ),
+    (
+        Deed::Next(0, None, Some((LONG_A, 2))),
+        "the lesser is the first",
+    ),
+    (Deed::After(2, Some((LONG_B, 1))), "the other is the next"),
+    (
+        Deed::Move((0, LONG_B), (2, LONGEST), true),
+        "the longest name",
+    ),
+    (Deed::Find((2, LONGEST), Some(1)), "its node"),
+    (Deed::After(2, None), "one is left"),
+    (Deed::Unlink((2, LONGEST), Some(1)), "it goes"),
+    (Deed::Find((2, LONGEST), None), "no longest name"),
+];
+
 /// The bytes of a file are handed over and handed out.
 const BYTES_OF_A_FILE: &[Row] = &[
     (Deed::Reserve(Kind::File, Some(1)), "a file"),
@@ -107,63 +149,77 @@ fn reserves(used: &mut Linked, kind: Kind, due: Option<usize>) -> bool {
     }
 }
 
+/// A name of these bytes.
+fn name(alloc: Global, bytes: &[u8]) -> Option<Name> {
+    Name::read_long(alloc, bytes).ok()?
+}
+
 /// Whether a node becomes an entry.
-fn link(used: &mut Linked, at: At, of: usize) -> Option<bool> {
-    let name = Name::read(at.1)?;
-    Some(used.link(node(at.0), &name, node(of)))
+fn link(alloc: Global, used: &mut Linked, at: At, of: usize) -> Option<bool> {
+    let name = name(alloc, at.1)?;
+    Some(used.link(node(at.0), name, node(of)))
 }
 
 /// The node whose entry goes.
-fn unlink(used: &mut Linked, at: At) -> Option<Option<usize>> {
-    let name = Name::read(at.1)?;
+fn unlink(alloc: Global, used: &mut Linked, at: At) -> Option<Option<usize>> {
+    let name = name(alloc, at.1)?;
     Some(number(used.unlink(node(at.0), &name)))
 }
 
 /// Whether an entry goes elsewhere.
-fn move_entry(used: &mut Linked, at: At, to: NodeNo, new_name: &Name) -> Option<bool> {
-    let name = Name::read(at.1)?;
-    Some(used.move_entry(node(at.0), &name, to, new_name))
-}
-
-/// The same by the name there.
-fn move_to(used: &mut Linked, at: At, to: At) -> Option<bool> {
-    let name = Name::read(to.1)?;
-    move_entry(used, at, node(to.0), &name)
+fn move_to(alloc: Global, used: &mut Linked, at: At, to: At) -> Option<bool> {
+    let (old_name, new_name) = (name(alloc, at.1)?, name(alloc, to.1)?);
+    Some(used.move_entry(node(at.0), &old_name, node(to.0), new_name))
 }
 
 /// The node of an entry, and at how many entries was looked.
-fn find(used: &Linked, at: At) -> Option<(Option<usize>, usize)> {
-    let name = Name::read(at.1)?;
+fn find(alloc: Global, used: &Linked, at: At) -> Option<(Option<usize>, usize)> {
+    let name = name(alloc, at.1)?;
     let (found, steps) = used.store.find_steps(node(at.0), &name);
     Some((number(found), steps))
 }
 
 /// Whether this is the node of an entry, in both ways of looking for it.
-fn finds(used: &Linked, at: At, due: Option<usize>) -> Option<bool> {
-    let name = Name::read(at.1)?;
+fn finds(alloc: Global, used: &Linked, at: At, due: Option<usize>) -> Option<bool> {
+    let name = name(alloc, at.1)?;
     Some(number(used.store.find(node(at.0), &name)) == due)
 }
 
-/// Whether an entry that was read is this one.
-fn is_entry(entry: &Option<(Name, NodeNo)>, due: Entry) -> bool {
-    match (entry, due) {
-        (Some((name, node)), Some((text, number))) => name.bytes() == text && node.get() == number,
-        (None, None) => true,
-        _ => false,
+/// Whether an entry of this name and this node is the one that is due.
+fn is_due(name: &Name, node: NodeNo, due: Entry) -> bool {
+    match due {
+        Some((text, number)) => name.bytes() == text && node.get() == number,
+        None => false,
     }
 }
 
-/// Whether the next entry behind a name is this one.
-fn is_behind(used: &Linked, dir: usize, name: &'static [u8], due: Entry) -> Option<bool> {
-    let name = Name::read(name)?;
-    Some(is_entry(&used.store.next_name(node(dir), Some(&name)), due))
+/// Whether the first entry above a name, if one is given, is the one that is due.
+fn is_above(used: &Linked, dir: usize, low: Option<&Name>, due: Entry) -> bool {
+    match used.store.next_name(node(dir), low) {
+        Some((name, node)) => is_due(name, node, due),
+        None => due.is_none(),
+    }
+}
+
+/// Whether the entry after a node's is the one that is due.
+fn is_after(used: &Linked, of: usize, due: Entry) -> bool {
+    match used.store.next_entry_after(node(of)) {
+        Some((name, node)) => is_due(name, node, due),
+        None => due.is_none(),
+    }
 }
 
 /// Whether the first entry of a directory, or the next one, is this one.
-fn is_next(used: &Linked, dir: usize, low: Option<&'static [u8]>, due: Entry) -> Option<bool> {
+fn is_next(
+    alloc: Global,
+    used: &Linked,
+    dir: usize,
+    low: Option<&'static [u8]>,
+    due: Entry,
+) -> Option<bool> {
     match low {
-        Some(name) => is_behind(used, dir, name, due),
-        None => Some(is_entry(&used.store.next_name(node(dir), None), due)),
+        Some(bytes) => Some(is_above(used, dir, Some(&name(alloc, bytes)?), due)),
+        None => Some(is_above(used, dir, None, due)),
     }
 }
 
@@ -202,28 +258,28 @@ fn is_swapped(
 }
 
 /// Whether a look answers so; none where the deed is no look.
-fn is_seen(used: &Linked, deed: Deed) -> Option<bool> {
+fn is_seen(alloc: Global, used: &Linked, deed: Deed) -> Option<bool> {
     match deed {
-        Deed::Find(at, due) => finds(used, at, due),
-        Deed::FindSteps(at, due, steps) => Some(find(used, at)? == (Some(due), steps)),
+        Deed::Find(at, due) => finds(alloc, used, at, due),
+        Deed::FindSteps(at, due, steps) => Some(find(alloc, used, at)? == (Some(due), steps)),
         Deed::Parent(of, due) => Some(number(used.store.parent(node(of))) == due),
         Deed::Entries(dir, due) => Some(used.store.entries(node(dir)) == due),
         Deed::IsFile(file) => Some(used.store.is_file(node(file))),
-        Deed::Next(dir, low, due) => is_next(used, dir, low, due),
-        Deed::After(of, due) => Some(is_entry(&used.store.next_entry_after(node(of)), due)),
+        Deed::Next(dir, low, due) => is_next(alloc, used, dir, low, due),
+        Deed::After(of, due) => Some(is_after(used, of, due)),
         _ => None,
     }
 }
 
 /// Whether a change answers so, or a look.
-fn is_done(used: &mut Linked, deed: Deed) -> Option<bool> {
+fn is_done(alloc: Global, used: &mut Linked, deed: Deed) -> Option<bool> {
     match deed {
         Deed::Reserve(kind, due) => Some(reserves(used, kind, due)),
-        Deed::Link(at, of, due) => Some(link(used, at, of)? == due),
-        Deed::Unlink(at, due) => Some(unlink(used, at)? == due),
-        Deed::Move(at, to, due) => Some(move_to(used, at, to)? == due),
+        Deed::Link(at, of, due) => Some(link(alloc, used, at, of)? == due),
+        Deed::Unlink(at, due) => Some(unlink(alloc, used, at)? == due),
+        Deed::Move(at, to, due) => Some(move_to(alloc, used, at, to)? == due),
         Deed::Release(of) => Some(is_released(used, of)),
-        look => is_seen(used, look),
+        look => is_seen(alloc, used, look),
     }
 }
 
@@ -231,7 +287,7 @@ fn is_done(used: &mut Linked, deed: Deed) -> Option<bool> {
 fn comes_out(alloc: Global, used: &mut Linked, deed: Deed) -> Result<bool, AllocError> {
     match deed {
         Deed::Swap(file, bytes, due) => is_swapped(alloc, used, file, bytes, due),
-        other => Ok(is_done(used, other) == Some(true)),
+        other => Ok(is_done(alloc, used, other) == Some(true)),
     }
 }
 
@@ -256,5 +312,6 @@ fn use_new(alloc: Global, limit: usize, rows: &[Row]) -> Result<()>
 pub fn use_stores(alloc: Global) -> Result<()> {
     use_new(alloc, 2, TWO_NUMBERS)?;
     use_new(alloc, 8, NAMES_IN_ORDER)?;
+    use_new(alloc, 8, LONG_NAMES)?;
     use_new(alloc, 2, BYTES_OF_A_FILE)
 }

@@ -67,7 +67,7 @@ fn name(order: Order, random: &mut Pcg32, node: u32) -> Option<Name> {
 }
 
 /// An empty file in the root.
-fn add(linked: &mut Linked, name: &Name) -> Result<()> {
+fn add(linked: &mut Linked, name: Name) -> Result<()> {
     let Ok(node) = linked.store.reserve(Kind::File) else {
         bail!("no number is left");
     };
@@ -80,7 +80,7 @@ fn fill(order: Order, entries: u32, linked: &mut Linked) -> Result<()> {
     let mut random = Pcg32::seed_from_u64(4);
     for node in 1..entries {
         if let Some(name) = name(order, &mut random, node) {
-            add(linked, &name)?;
+            add(linked, name)?;
         }
     }
     Ok(())
@@ -118,7 +118,7 @@ fn of_one_home(at: usize) -> Option<Name> {
 fn add_colliding(linked: &mut Linked) -> Result<()> {
     for at in 0..OF_ONE_HOME.len() {
         if let Some(name) = of_one_home(at) {
-            add(linked, &name)?;
+            add(linked, name)?;
         }
     }
     Ok(())

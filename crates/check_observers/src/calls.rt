@@ -131,9 +131,10 @@ fn look<N: Named>(
 }
 
 /// Whether there is this one name, of one byte.
-fn is_one_name(names: &NameList, byte: u8) -> bool {
-    match names.as_slice() {
-        [name] => name.bytes() == [byte].as_slice(),
+fn is_one_name(list: &NameList, byte: u8) -> bool {
+    let mut names = list.names();
+    match (names.next(), names.next()) {
+        (Some(name), None) => name == [byte].as_slice(),
         _ => false,
     }
 }

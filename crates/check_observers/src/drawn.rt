@@ -1,9 +1,8 @@
 //! Four observers during drawn calls: each answer is compared with the sequential tree after as many calls as were shown.
 
-use crate::calls::path;
 use crate::waiting::reaches;
 use fs_calls::{Call, Data, Reply};
-use fs_names::Path;
+use fs_names::{Limits, Path};
 use fs_seq::SeqTree;
 use fs_share::{AtomFs, Named, Observer, Open, Session};
 use rand_core::{Rng, SeedableRng};
@@ -23,16 +22,22 @@ fn letter(random: &mut Pcg32) -> u8 {
     (random.next_u32() % 4) as u8 + b'a'
 }
 
+/// Adds a name to the text of a path: a letter, or a hundred times the last one of four, which copies of the name share.
+fn add_name(text: &mut Vec<u8>, letter: u8) -> Option<()> {
+    let count = if letter == b'd' { 100 } else { 1 };
+    text.push(b'/').ok()?;
+    text.resize(text.len() + count, letter).ok()
+}
+
 /// A path of one or two of four names.
 fn drawn_path(alloc: Global, random: &mut Pcg32) -> Option<Path> {
-    let mut text = *b"/a/a";
-    text[1] = letter(random);
-    text[3] = letter(random);
-    if random.next_u32() % 2 == 0 {
-        path(alloc, &text[..2])
-    } else {
-        path(alloc, &text)
+    let letters = [letter(random), letter(random)];
+    let count = if random.next_u32() % 2 == 0 { 1 } else { 2 };
+    let mut text = Vec::new(alloc);
+    for letter in &letters[..count] {
+        add_name(&mut text, *letter)?;
     }
+    Path::parse_with(alloc, &text, Limits::V3).ok()
 }
 
 fn write_call(alloc: Global, path: Path) -> Option<Call> {
@@ -144,16 +149,18 @@ fn reply<N: Named>(alloc: Global, observer: &mut Observer<'_, N>, look: &Call) -
     match look {
         Call::Stat(path) => observer.stat(alloc, path).ok(),
         Call::Readdir(path) => observer.readdir(alloc, path).ok(),
+        Call::ListAfter(path, after, count) => observer.list(alloc, path, after, *count).ok(),
         Call::Read(path, off, count) => observer.read(alloc, path, *off, *count).ok(),
         _ => None,
     }
 }
 
-/// One of the three looks at a path.
-fn look(path: Path, number: usize) -> Call {
+/// One of the four looks at a path; names are listed behind the last one of another path, two at the most.
+fn look(path: Path, after: Path, number: usize) -> Call {
     match number {
         0 => Call::Stat(path),
         1 => Call::Readdir(path),
+        2 => Call::ListAfter(path, after, 2),
         _ => Call::Read(path, 0, 9),
     }
 }
@@ -175,11 +182,12 @@ fn ask<N: Named>(
     alloc: Global,
     observer: &mut Observer<'_, N>,
     path: &Path,
+    after: &Path,
     notes: &mut Vec<Note>,
 ) -> Option<()> {
     let count = observer.count();
-    for number in 0..3 {
-        let look = look(path.copy().ok()?, number);
+    for number in 0..4 {
+        let look = look(path.copy().ok()?, after.copy().ok()?, number);
         notes.push(note_of(alloc, observer, count, look)?).ok()?;
     }
     Some(())
@@ -201,7 +209,8 @@ fn takes_notes<N: Named>(
         return Some(false);
     }
     let kept = notes.len();
-    ask(alloc, observer, &drawn_path(alloc, random)?, notes)?;
+    let path = drawn_path(alloc, random)?;
+    ask(alloc, observer, &path, &drawn_path(alloc, random)?, notes)?;
     let is_one_list = last_count(notes) == Some(observer.count());
     if !is_one_list {
         notes.truncate(kept);
@@ -278,7 +287,7 @@ fn fit(alloc: Global, tree: &mut SeqTree, calls: &[Call], notes: &[Note]) -> Opt
 
 /// The same on a tree of the root alone.
 fn are_those_of(alloc: Global, calls: &[Call], notes: &[Note]) -> Option<bool> {
-    match SeqTree::new(alloc) {
+    match SeqTree::with_limits(alloc, Limits::V3) {
         Ok(mut tree) => fit(alloc, &mut tree, calls, notes),
         Err(_) => None,
     }

@@ -4,6 +4,7 @@ ghost use Rattle.std.specs.Prelude.{◌≡◌, ◌^◌};
 
 use crate::told::{BOTH_STAMPS, FIRST, UNTOLD, WRITTEN, comes_out};
 use crate::{busy, drawn, held, places};
+use fs_names::Limits;
 use fs_share::{AtomFs, Named, Opened};
 use std::alloc::Global;
 use std::marker::Brand;
@@ -45,6 +46,14 @@ fn holds<N: Named + Send + Sync, R: Threads + Wait + Clock + Sync>(
     }
 }
 
+/// The limits of a row's tree: drawn calls have long names.
+fn limits_of(row: Row) -> Limits {
+    match row {
+        Row::Drawn => Limits::V3,
+        _ => Limits::V2,
+    }
+}
+
 fn on_named<N: Named + Send + Sync, R: Threads + Wait + Clock + Sync>(
     rt: &R,
     alloc: Global,
@@ -57,7 +66,7 @@ fn on_named<N: Named + Send + Sync, R: Threads + Wait + Clock + Sync>(
     requires parts { blank.parts ≡ N.parts }
     requires all { blank.parts ≡ 2 ^ 63 }
 {
-    let fs = AtomFs::<N>::open(rt, alloc, opened, blank).ok()?;
+    let fs = AtomFs::<N>::open_with(rt, alloc, opened, blank, limits_of(row)).ok()?;
     let holds = holds(rt, alloc, &fs, row);
     let _closed = fs.close(rt, Vec::new(alloc));
     holds

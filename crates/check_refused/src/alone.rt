@@ -4,7 +4,7 @@ ghost use Rattle.std.specs.Prelude.{IsTrue};
 ghost use Rattle.fs_seq.specs.Looks.{is_look};
 
 use anyhow::bail;
-use fs_calls::{Call, Reply};
+use fs_calls::{Call, NameList, Reply};
 use fs_names::{Kind, Limits};
 use fs_seq::{NotTree, Row, SeqTree};
 use std::alloc::{AllocError, Global};
@@ -125,6 +125,16 @@ fn in_all(bytes: &[u8]) -> u64 {
     sum
 }
 
+/// How many names a list has.
+pub fn count_of(list: &NameList) -> usize {
+    let mut names = list.names();
+    let mut count = 0usize;
+    while names.next().is_some() {
+        count = count.wrapping_add(1);
+    }
+    count
+}
+
 pub fn show_bytes(rt: &impl Print, bytes: &[u8]) -> io::Result<()> {
     println!(rt; "bytes: {}, in all {}", bytes.len(), in_all(bytes))
 }
@@ -134,7 +144,7 @@ pub fn show(rt: &impl Print, reply: &Reply) -> io::Result<()> {
         Reply::Done => println!(rt; "done"),
         Reply::Stat(Kind::Dir, entries) => println!(rt; "a directory of {entries}"),
         Reply::Stat(Kind::File, size) => println!(rt; "a file of {size}"),
-        Reply::Names(names) => println!(rt; "names: {}", names.as_slice().len()),
+        Reply::Names(names) => println!(rt; "names: {}", count_of(names)),
         Reply::Bytes(bytes) => show_bytes(rt, bytes.as_slice()),
         Reply::Wrote(count) => println!(rt; "wrote {count}"),
         Reply::Failed(errno) => println!(rt; "error {}", errno.number()),

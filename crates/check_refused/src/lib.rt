@@ -24,7 +24,8 @@ use std::thread::Threads;
 use std::time::Clock;
 
 /// The calls of a session, those of which others are told, and those of the sequential tree, which grow all that it holds:
-/// nodes, entries, bytes and replies; looks at that tree; and those of a file in blocks, at their edges and the limit.
+/// nodes, entries, bytes and replies; looks at that tree; and those of a file in blocks, at their edges and the limit. Names of
+/// 70 bytes are shared by what holds them.
 const CALLS: &[u8] = b"\
 atomfs 3
 thread session
@@ -39,6 +40,16 @@ list /a / 9
 stat /a
 exchange /a /g
 exchange /g /a
+mkdir /a/mmmmmmmmmmmmmmmmmmmmmmmmmmmmmmmmmmmmmmmmmmmmmmmmmmmmmmmmmmmmmmmmmmmmmm
+mknod /a/llllllllllllllllllllllllllllllllllllllllllllllllllllllllllllllllllllll
+mknod /a/nnnnnnnnnnnnnnnnnnnnnnnnnnnnnnnnnnnnnnnnnnnnnnnnnnnnnnnnnnnnnnnnnnnnnn
+rename /a/llllllllllllllllllllllllllllllllllllllllllllllllllllllllllllllllllllll /a/nnnnnnnnnnnnnnnnnnnnnnnnnnnnnnnnnnnnnnnnnnnnnnnnnnnnnnnnnnnnnnnnnnnnnn
+exchange /a/nnnnnnnnnnnnnnnnnnnnnnnnnnnnnnnnnnnnnnnnnnnnnnnnnnnnnnnnnnnnnnnnnnnnnn /a/mmmmmmmmmmmmmmmmmmmmmmmmmmmmmmmmmmmmmmmmmmmmmmmmmmmmmmmmmmmmmmmmmmmmmm
+readdir /a
+list /a /llllllllllllllllllllllllllllllllllllllllllllllllllllllllllllllllllllll 9
+rename /a/mmmmmmmmmmmmmmmmmmmmmmmmmmmmmmmmmmmmmmmmmmmmmmmmmmmmmmmmmmmmmmmmmmmmmm /llllllllllllllllllllllllllllllllllllllllllllllllllllllllllllllllllllll
+unlink /llllllllllllllllllllllllllllllllllllllllllllllllllllllllllllllllllllll
+rmdir /a/nnnnnnnnnnnnnnnnnnnnnnnnnnnnnnnnnnnnnnnnnnnnnnnnnnnnnnnnnnnnnnnnnnnnnn
 unlink /g
 mkdir /b
 rmdir /b
@@ -71,6 +82,16 @@ rename /d/a /a
 rename /a /d/e/a
 rename /d/b /d/e/f/a
 rename /d/c /d/e/f/a
+mkdir /d/mmmmmmmmmmmmmmmmmmmmmmmmmmmmmmmmmmmmmmmmmmmmmmmmmmmmmmmmmmmmmmmmmmmmmm
+mknod /d/llllllllllllllllllllllllllllllllllllllllllllllllllllllllllllllllllllll
+rename /d/llllllllllllllllllllllllllllllllllllllllllllllllllllllllllllllllllllll /d/nnnnnnnnnnnnnnnnnnnnnnnnnnnnnnnnnnnnnnnnnnnnnnnnnnnnnnnnnnnnnnnnnnnnnn
+mknod /d/llllllllllllllllllllllllllllllllllllllllllllllllllllllllllllllllllllll
+rename /d/llllllllllllllllllllllllllllllllllllllllllllllllllllllllllllllllllllll /d/nnnnnnnnnnnnnnnnnnnnnnnnnnnnnnnnnnnnnnnnnnnnnnnnnnnnnnnnnnnnnnnnnnnnnn
+exchange /d/nnnnnnnnnnnnnnnnnnnnnnnnnnnnnnnnnnnnnnnnnnnnnnnnnnnnnnnnnnnnnnnnnnnnnn /d/mmmmmmmmmmmmmmmmmmmmmmmmmmmmmmmmmmmmmmmmmmmmmmmmmmmmmmmmmmmmmmmmmmmmmm
+readdir /d
+list /d /llllllllllllllllllllllllllllllllllllllllllllllllllllllllllllllllllllll 9
+rmdir /d/nnnnnnnnnnnnnnnnnnnnnnnnnnnnnnnnnnnnnnnnnnnnnnnnnnnnnnnnnnnnnnnnnnnnnn
+unlink /d/mmmmmmmmmmmmmmmmmmmmmmmmmmmmmmmmmmmmmmmmmmmmmmmmmmmmmmmmmmmmmmmmmmmmmm
 unlink /d/h
 rmdir /d/e/f/g
 mknod /d/i

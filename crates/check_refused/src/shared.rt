@@ -5,6 +5,7 @@ ghost use Rattle.std.specs.Prelude.{◌≡◌, ◌^◌};
 mod again;
 mod begins;
 
+use crate::alone::count_of;
 use again::{call, path, readdir, submit, told};
 use begins::begin_again;
 use fs_calls::{Call, Reply};
@@ -98,7 +99,7 @@ fn shown<N: Named, R: Wait + Clock>(
     let mut observer = observer(rt, fs)?;
     observer.learn(stamp);
     match readdir(alloc, &mut observer, &root)? {
-        Reply::Names(names) => Some(names.as_slice().len()),
+        Reply::Names(names) => Some(count_of(&names)),
         _ => None,
     }
 }

@@ -2,7 +2,7 @@
 
 use fs_calls::Call;
 use fs_journal::check;
-use fs_names::{CallNo, Path, SeatNo};
+use fs_names::{CallNo, Limits, Path, SeatNo};
 use fs_script::{CallLists, read_script};
 use fs_share::{Answer, Closed};
 use fs_timeline::{Entry, Verdict};
@@ -10,7 +10,7 @@ use std::alloc::Global;
 
 /// The path that a text is; none where it is none, or there is no memory.
 pub fn path(alloc: Global, text: &[u8]) -> Option<Path> {
-    Path::parse(alloc, text).ok()
+    Path::parse_with(alloc, text, Limits::LARGEST).ok()
 }
 
 /// The calls of the threads of a script.

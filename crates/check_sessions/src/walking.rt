@@ -49,16 +49,16 @@ fn entry(alloc: Global, dir: &[u8], name: &Name, node: NodeNo) -> Option<Place> 
 
 /// Puts the entries of a directory on the stack.
 fn add_entries(alloc: Global, store: &Store, dir: &Place, stack: &mut Vec<Place>) -> Option<()> {
-    let mut low: Option<Name> = None;
+    let mut low: Option<&Name> = None;
     for _ in 0..=store.entries(dir.node) {
         if !store.is_used(dir.node) || !store.is_dir(dir.node) {
             return None;
         }
-        let Some((name, node)) = store.next_name(dir.node, low.as_ref()) else {
+        let Some(next) = store.next_name(dir.node, low) else {
             return Some(());
         };
-        stack.push(entry(alloc, &dir.text, &name, node)?).ok()?;
-        low = Some(name);
+        stack.push(entry(alloc, &dir.text, next.0, next.1)?).ok()?;
+        low = Some(next.0);
     }
     None
 }

@@ -86,7 +86,7 @@ fn add_dir(twins: &mut Twins, name: &[u8]) -> Result<()> {
     ensure!(twins.reserve(Kind::Dir)?, "no number is left");
     let (root, node) = (twins.node(0), twins.node(position));
     if let Some(name) = Name::read(name) {
-        ensure!(twins.link(&root, &name, &node).is_some(), "no entry");
+        ensure!(twins.link(&root, &name, &node)?.is_some(), "no entry");
     }
     Ok(())
 }
@@ -112,20 +112,20 @@ fn call(
     twins: &mut Twins,
     (dir, name, there): (&Twin, &Name, &Name),
     (to, new_name, other): (&Twin, &Name, &Name),
-) {
+) -> Result<()> {
     match below(random, 32) {
         0 => {
             twins.unlink(dir, there);
         }
         1..6 if dir == to || has_room(twins, to) => {
-            twins.move_entry(dir, there, to, new_name);
+            twins.move_entry(dir, there, to, new_name)?;
         }
         6..9 => {
             twins.swap_entries(dir, there, to, other);
         }
         9..24 if has_room(twins, dir) => {
             let node = twins.node(3 + below(random, FILES) as usize);
-            twins.link(dir, name, &node);
+            twins.link(dir, name, &node)?;
         }
         24..27 => {
             twins.find(dir, there);
@@ -134,30 +134,31 @@ fn call(
             twins.find(dir, name);
         }
     }
+    Ok(())
 }
 
 /// The same in drawn directories.
-fn call_in(random: &mut Pcg32, twins: &mut Twins, name: &Name, new_name: &Name) {
+fn call_in(random: &mut Pcg32, twins: &mut Twins, name: &Name, new_name: &Name) -> Result<()> {
     let (dir, to) = (directory(random, twins), directory(random, twins));
-    let there = twins.name_above(&dir, name);
-    let other = twins.name_above(&to, new_name);
-    call(random, twins, (&dir, name, &there), (&to, new_name, &other));
+    let there = twins.name_above(&dir, name)?;
+    let other = twins.name_above(&to, new_name)?;
+    call(random, twins, (&dir, name, &there), (&to, new_name, &other))
 }
 
 /// Drawn calls with such names, and at how many places their look-ups have looked.
-fn draw(random: &mut Pcg32, names: Names, twins: &mut Twins) -> Looks {
+fn draw(random: &mut Pcg32, names: Names, twins: &mut Twins) -> Result<Looks> {
     twins.looks = Looks::default();
     for _ in 0..CALLS {
         if let (Some(name), Some(new_name)) = (name(random, names), name(random, names)) {
-            call_in(random, twins, &name, &new_name);
+            call_in(random, twins, &name, &new_name)?;
         }
     }
-    twins.looks
+    Ok(twins.looks)
 }
 
 /// Drawn calls on full directories, of which it writes what was counted.
 fn count_full(rt: &impl Print, random: &mut Pcg32, twins: &mut Twins) -> Result<()> {
-    let looks = draw(random, Names::Ordinary, twins);
+    let looks = draw(random, Names::Ordinary, twins)?;
     let (a, b) = (twins.node(1), twins.node(2));
     let (entries, others) = (twins.entries(&a), twins.entries(&b));
     println!(rt; "full directories: {entries} and {others} entries")?;
@@ -166,7 +167,7 @@ fn count_full(rt: &impl Print, random: &mut Pcg32, twins: &mut Twins) -> Result<
 
 /// Drawn calls whose names collide.
 fn count_colliding(rt: &impl Print, random: &mut Pcg32, twins: &mut Twins) -> Result<()> {
-    let looks = draw(random, Names::Colliding, twins);
+    let looks = draw(random, Names::Colliding, twins)?;
     looks.write(rt, "find_steps", "names that collide")?;
     let (a, b) = (twins.node(1), twins.node(2));
     twins.read(&a);

@@ -1,8 +1,10 @@
-//! What is drawn: few names, short ones and ones that differ past their eighth byte, so that calls meet.
+//! What is drawn: few names, short ones, ones that differ past their eighth byte and ones that differ past all that stand in
+//! place, so that calls meet.
 
 use fs_names::Name;
 use rand_core::Rng;
 use rand_pcg::Pcg32;
+use std::alloc::{AllocError, Global};
 
 /// A number below the given one, or 0.
 pub fn below(random: &mut Pcg32, limit: u32) -> u32 {
@@ -14,25 +16,26 @@ fn letter(random: &mut Pcg32) -> u8 {
     if below(random, 2) == 0 { b'a' } else { b'b' }
 }
 
-/// A name of one, two, nine or ten letters.
-pub fn name(random: &mut Pcg32) -> Option<Name> {
-    let mut text = [b'a'; 10];
+/// A name of one, two, nine, ten or seventy letters.
+pub fn name(alloc: Global, random: &mut Pcg32) -> Result<Option<Name>, AllocError> {
+    let mut text = [b'a'; 70];
     text[0] = letter(random);
-    let length = below(random, 4);
-    match length {
-        0 => Name::read(&text[..1]),
+    let length = match below(random, 4) {
+        0 => 1,
         1 => {
             text[1] = letter(random);
-            Name::read(&text[..2])
+            2
         }
         2 => {
             text[8] = letter(random);
-            Name::read(&text[..9])
+            9
         }
         _ => {
             text[8] = letter(random);
-            text[9] = letter(random);
-            Name::read(&text)
+            let length = if text[8] == b'a' { 10 } else { 70 };
+            text[length - 1] = letter(random);
+            length
         }
-    }
+    };
+    Name::read_long(alloc, &text[..length])
 }

@@ -65,15 +65,16 @@ fn directory(random: &mut Pcg32, twins: &Twins) -> Twin {
 }
 
 /// A call that changes nothing.
-fn look(random: &mut Pcg32, name: &Name, twins: &mut Twins, tally: &mut Tally) {
+fn look(random: &mut Pcg32, name: &Name, twins: &mut Twins, tally: &mut Tally) -> Result<()> {
     let dir = directory(random, twins);
     let node = node(random, twins);
     match below(random, 4) {
         0 => tally.find.count(Some(twins.find(&dir, name))),
-        1 => tally.find.count(Some(twins.find_above(&dir, name))),
+        1 => tally.find.count(Some(twins.find_above(&dir, name)?)),
         2 => tally.look.count(Some(twins.look(&node))),
         _ => tally.read.count(Some(twins.read(&dir))),
     }
+    Ok(())
 }
 
 /// A call that changes the entries. What goes or moves has the name of an entry, if there is one.
@@ -82,16 +83,17 @@ fn change(
     (name, new_name): (&Name, &Name),
     twins: &mut Twins,
     tally: &mut Tally,
-) {
+) -> Result<()> {
     let (dir, to) = (directory(random, twins), directory(random, twins));
     let node = node(random, twins);
     match below(random, 6) {
-        0 => tally.unlink.count(twins.unlink_above(&dir, name)),
+        0 => tally.unlink.count(twins.unlink_above(&dir, name)?),
         1..4 => tally
             .move_entry
-            .count(twins.move_above(&dir, name, &to, new_name)),
-        _ => tally.link.count(twins.link(&dir, name, &node)),
+            .count(twins.move_above(&dir, name, &to, new_name)?),
+        _ => tally.link.count(twins.link(&dir, name, &node)?),
     }
+    Ok(())
 }
 
 /// A drawn call.
@@ -113,15 +115,15 @@ fn call(
             let swapped = twins.swap_content(alloc, &file, name.bytes())?;
             tally.swap_content.count(swapped);
         }
-        5..13 => change(random, (name, new_name), twins, tally),
-        _ => look(random, name, twins, tally),
+        5..13 => change(random, (name, new_name), twins, tally)?,
+        _ => look(random, name, twins, tally)?,
     }
     Ok(())
 }
 
 /// A call with drawn names.
 fn draw(alloc: Global, random: &mut Pcg32, twins: &mut Twins, tally: &mut Tally) -> Result<()> {
-    if let (Some(name), Some(new_name)) = (name(random), name(random)) {
+    if let (Some(name), Some(new_name)) = (name(alloc, random)?, name(alloc, random)?) {
         call(alloc, random, (&name, &new_name), twins, tally)?;
     }
     Ok(())

@@ -38,7 +38,7 @@ fn add(twins: &mut Twins, kind: Kind, dir: usize, name: &Name) -> Result<()> {
     let position = twins.len();
     ensure!(twins.reserve(kind)?, "no number is left");
     let (dir, node) = (twins.node(dir), twins.node(position));
-    ensure!(twins.link(&dir, name, &node).is_some(), "no entry");
+    ensure!(twins.link(&dir, name, &node)?.is_some(), "no entry");
     Ok(())
 }
 
@@ -151,21 +151,28 @@ fn swap_above(
     tally: &mut Tally,
     (dir, name): (&Twin, &Name),
     (other, other_name): (&Twin, &Name),
-) {
-    let name = twins.name_above(dir, name);
-    let other_name = twins.name_above(other, other_name);
+) -> Result<()> {
+    let name = twins.name_above(dir, name)?;
+    let other_name = twins.name_above(other, other_name)?;
     let swapped = twins.swap_entries(dir, &name, other, &other_name);
     tally.swap_entries.count(swapped);
     twins.read(dir);
     twins.read(other);
+    Ok(())
 }
 
 /// The same of drawn names, if there are two.
-fn swap_drawn(random: &mut Pcg32, twins: &mut Twins, tally: &mut Tally) {
-    if let (Some(name), Some(other_name)) = (name(random), name(random)) {
+fn swap_drawn(
+    alloc: Global,
+    random: &mut Pcg32,
+    twins: &mut Twins,
+    tally: &mut Tally,
+) -> Result<()> {
+    if let (Some(name), Some(other_name)) = (name(alloc, random)?, name(alloc, random)?) {
         let (dir, other) = (directory(random, twins), directory(random, twins));
-        swap_above(twins, tally, (&dir, &name), (&other, &other_name));
+        swap_above(twins, tally, (&dir, &name), (&other, &other_name))?;
     }
+    Ok(())
 }
 
 /// A drawn swap after each drawn call, until enough of them were made.
@@ -176,7 +183,7 @@ fn swap_all_drawn(alloc: Global, twins: &mut Twins, tally: &mut Tally) -> Result
             return Ok(());
         }
         draw(alloc, &mut random, twins, tally)?;
-        swap_drawn(&mut random, twins, tally);
+        swap_drawn(alloc, &mut random, twins, tally)?;
     }
     bail!("too few of the swaps could be made")
 }

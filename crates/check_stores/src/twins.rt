@@ -71,11 +71,13 @@ impl Twins {
     }
 
     /// The name of the directory's entry above this name, or of its first one; this name where there are no entries.
-    pub fn name_above(&self, dir: &Twin, name: &Name) -> Name {
+    pub fn name_above(&self, dir: &Twin, name: &Name) -> Result<Name, AllocError> {
         let store = &self.linked.store;
-        let above = store.next_name(dir.linked, Some(name));
-        match above.or(store.next_name(dir.linked, None)) {
-            Some((above, _)) => above,
+        if let Some((above, _)) = store.next_name(dir.linked, Some(name)) {
+            return above.copy();
+        }
+        match store.next_name(dir.linked, None) {
+            Some((first, _)) => first.copy(),
             None => name.copy(),
         }
     }
@@ -127,12 +129,18 @@ impl Twins {
     }
 
     /// A node becomes an entry, if it can. It answers whether it has entries.
-    pub fn link(&mut self, dir: &Twin, name: &Name, node: &Twin) -> Option<bool> {
+    pub fn link(
+        &mut self,
+        dir: &Twin,
+        name: &Name,
+        node: &Twin,
+    ) -> Result<Option<bool>, AllocError> {
         let has_entries = self.has_entries(node.linked);
-        let done = self.linked.link(dir.linked, name, node.linked);
-        let same = done == self.plain.link(dir.plain, name, node.plain);
+        let (one, other) = (name.copy()?, name.copy()?);
+        let done = self.linked.link(dir.linked, one, node.linked);
+        let same = done == self.plain.link(dir.plain, other, node.plain);
         self.expect(same);
-        if done { Some(has_entries) } else { None }
+        Ok(if done { Some(has_entries) } else { None })
     }
 
     /// An entry goes, if it can. It answers whether it was a directory's.
@@ -151,25 +159,26 @@ impl Twins {
         name: &Name,
         to: &Twin,
         new_name: &Name,
-    ) -> Option<bool> {
-        let node = self.linked.store.find(from.linked, name)?;
+    ) -> Result<Option<bool>, AllocError> {
+        let Some(node) = self.linked.store.find(from.linked, name) else {
+            return Ok(None);
+        };
         let has_entries = self.has_entries(node);
-        let done = self
-            .linked
-            .move_entry(from.linked, name, to.linked, new_name);
-        let same = done == self.plain.move_entry(from.plain, name, to.plain, new_name);
+        let (one, other) = (new_name.copy()?, new_name.copy()?);
+        let done = self.linked.move_entry(from.linked, name, to.linked, one);
+        let same = done == self.plain.move_entry(from.plain, name, to.plain, other);
         self.expect(same);
-        if done {
+        Ok(if done {
             Some(has_entries && from != to)
         } else {
             None
-        }
+        })
     }
 
     /// The entry above a name goes, if it can.
-    pub fn unlink_above(&mut self, dir: &Twin, name: &Name) -> Option<bool> {
-        let there = self.name_above(dir, name);
-        self.unlink(dir, &there)
+    pub fn unlink_above(&mut self, dir: &Twin, name: &Name) -> Result<Option<bool>, AllocError> {
+        let there = self.name_above(dir, name)?;
+        Ok(self.unlink(dir, &there))
     }
 
     /// The entry above a name moves, if it can.
@@ -179,8 +188,8 @@ impl Twins {
         name: &Name,
         to: &Twin,
         new_name: &Name,
-    ) -> Option<bool> {
-        let there = self.name_above(from, name);
+    ) -> Result<Option<bool>, AllocError> {
+        let there = self.name_above(from, name)?;
         self.move_entry(from, &there, to, new_name)
     }
 
@@ -250,9 +259,9 @@ impl Twins {
     }
 
     /// Looks up the entry above a name. It answers whether there is one.
-    pub fn find_above(&mut self, dir: &Twin, name: &Name) -> bool {
-        let there = self.name_above(dir, name);
-        self.find(dir, &there)
+    pub fn find_above(&mut self, dir: &Twin, name: &Name) -> Result<bool, AllocError> {
+        let there = self.name_above(dir, name)?;
+        Ok(self.find(dir, &there))
     }
 
     /// Whether the two stores say the same of a node.
@@ -279,35 +288,42 @@ impl Twins {
     /// Reads a directory to its end, in one store from node to node and in the other from name to name. It answers
     /// whether there are entries.
     pub fn read(&mut self, dir: &Twin) -> bool {
-        let mut entry = self.linked.store.next_name(dir.linked, None);
-        let mut other = self.plain.store.next_name(dir.plain, None);
-        let has_entries = entry.is_some();
-        for _ in 0..self.limit {
-            let same = self.are_one_entry(&entry, &other);
-            self.expect(same);
-            let (Some((name, node)), Some((low, _))) = (entry, other) else {
-                return has_entries;
-            };
-            let same = self.linked.store.next_name(dir.linked, Some(&name))
-                == self.linked.store.next_entry_after(node);
-            self.expect(same);
-            entry = self.linked.store.next_entry_after(node);
-            other = self.plain.store.next_name(dir.plain, Some(&low));
-        }
-        has_entries
+        let others = self.others_read(dir);
+        self.others = self.others.wrapping_add(others);
+        self.linked.store.next_name(dir.linked, None).is_some()
     }
 
-    /// Whether the two stores answered the same entry.
-    fn are_one_entry(
-        &self,
-        linked: &Option<(Name, NodeNo)>,
-        plain: &Option<(Name, NodeNo)>,
-    ) -> bool {
-        match (linked, plain) {
-            (Some((name, node)), Some((other_name, other))) => name.same(other_name)
-                && self.are_one(Some(*node), Some(*other)),
-            (None, None) => true,
-            _ => false,
+    /// How many answers differ, when a directory is read so.
+    fn others_read(&self, dir: &Twin) -> u32 {
+        let mut others: u32 = 0;
+        let mut entry = self.linked.store.next_name(dir.linked, None);
+        let mut other = self.plain.store.next_name(dir.plain, None);
+        for _ in 0..self.limit {
+            let Some((name, node)) = entry else {
+                return others.wrapping_add(other.is_some() as u32);
+            };
+            let Some((low, twin)) = other else {
+                return others.wrapping_add(1);
+            };
+            let same = name.same(low) && self.are_one(Some(node), Some(twin));
+            others = others.wrapping_add(!same as u32);
+            let same = self.goes_on(dir.linked, name, node);
+            others = others.wrapping_add(!same as u32);
+            entry = self.linked.store.next_entry_after(node);
+            other = self.plain.store.next_name(dir.plain, Some(low));
+        }
+        others
+    }
+
+    /// Whether the entry after a node's is the one above its name.
+    fn goes_on(&self, dir: NodeNo, name: &Name, node: NodeNo) -> bool {
+        let after = self.linked.store.next_entry_after(node);
+        let Some((above, next)) = self.linked.store.next_name(dir, Some(name)) else {
+            return after.is_none();
+        };
+        match after {
+            Some((name, node)) => above.same(name) && next == node,
+            None => false,
         }
     }
 }

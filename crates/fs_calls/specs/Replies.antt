@@ -1,7 +1,6 @@
 -- When two replies are the same.
-use Rattle.std.specs.Prelude.{ℕ, Bool, true, false, ◌&&◌, ◌==◌, List}
-use lib.Pointwise.{pointwise}
-use Rattle.fs_names.specs.Names.{Name, same_bytes}
+use Rattle.std.specs.Prelude.{ℕ, Bool, true, false, ◌&&◌, ◌==◌}
+use Rattle.fs_names.specs.Names.{same_bytes, same_names}
 use Rattle.fs_names.specs.declared.kind.Kind.{Kind}
 use Rattle.fs_names.specs.declared.kind.Kind.TheVariants as kind
 use Rattle.fs_calls.specs.declared.errno.Errno.{Errno}
@@ -29,10 +28,6 @@ number_of Eperm = 8
 number_of Enospc = 9
 number_of Efbig = 10
 number_of Eoverflow = 11
-
--- whether two lists of names are the same
-abbrev pub same_names : List Name → List Name → Bool
-same_names = pointwise same_bytes
 
 -- of one form, with the same parts
 abbrev pub same_reply : Reply → Reply → Bool

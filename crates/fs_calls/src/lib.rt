@@ -12,7 +12,6 @@ pub mod call;
 pub mod errno;
 pub mod examples;
 pub mod laws;
-pub mod name_list;
 pub mod path_errors;
 pub mod ranges;
 pub mod reply;
@@ -22,8 +21,7 @@ pub mod target;
 
 pub use call::Call;
 pub use errno::Errno;
-pub use fs_names::{Bytes, Data};
-pub use name_list::NameList;
+pub use fs_names::{Bytes, Data, NameList};
 pub use path_errors::{exchange_error, rename_error};
 pub use reply::Reply;
 pub use rows::Sight;

@@ -4,8 +4,7 @@ ghost use Rattle.std.specs.Prelude.{◌≡◌};
 ghost use Rattle.fs_calls.specs.Replies.{same_kind, same_reply};
 
 use crate::errno::Errno;
-use crate::name_list::NameList;
-use fs_names::{Bytes, Kind};
+use fs_names::{Bytes, Kind, NameList};
 
 /// The reply of a call.
 #[derive(Drop)]

@@ -1,9 +1,10 @@
 //! The rows of errors, by what is seen where a call stands: the table's last column, which decides for every tree.
 
-ghost use Rattle.std.specs.Prelude.{◌≡◌, Option, None, if◌then◌else◌};
+ghost use Rattle.std.specs.Prelude.{◌≡◌, List, Option, Some, None, if◌then◌else◌, length};
+ghost use Rattle.fs_names.specs.Names.{Name};
 ghost use Rattle.fs_names.specs.Failures.{first_failure};
 ghost use Rattle.fs_names.specs.Limits.{entry_limit};
-ghost use Rattle.fs_names.specs.Shapes.{Shape, is_there, is_missing, is_dir, is_file, has_entries, is_crowded, is_full};
+ghost use Rattle.fs_names.specs.Shapes.{Shape, Dir as IsDir, is_there, is_missing, is_dir, is_file, has_entries, is_crowded, is_full};
 ghost use Rattle.fs_names.specs.declared.limits.Limits.{Limits};
 ghost use Rattle.fs_names.specs.declared.limits.Limits.TheVariants.{V1};
 ghost use Rattle.fs_calls.specs.declared.errno.Errno.TheVariants.{Enotdir, Enoent};
@@ -15,7 +16,7 @@ use crate::calls;
 use crate::errno::Errno;
 use crate::ranges::{fits, fits_size};
 use crate::target::{EntryCall, NodeCall, PairCall};
-use fs_names::Limits;
+use fs_names::{LIST_LIMIT, Limits};
 
 /// What a row of errors asks of a place: what stands there.
 #[derive(Clone, Copy, Debug, PartialEq, Eq)]
@@ -33,6 +34,19 @@ pub enum Sight {
 }
 
 impl Sight {
+    /// What is seen of a directory with so many entries.
+    pub fn of_dir(entries: usize) -> Sight
+        ensures { (names : List Name) → entries ≡ length names → result ≡ sight (Some (IsDir names)) }
+    {
+        if entries == 0 {
+            Sight::EmptyDir
+        } else if entries <= LIST_LIMIT {
+            Sight::Dir
+        } else {
+            Sight::CrowdedDir
+        }
+    }
+
     /// Whether a node is there.
     pub fn is_there(self) -> bool
         ensures { (there : Option Shape) → sight there ≡ self → result ≡ is_there there }

@@ -44,7 +44,7 @@ pub enum NodeCall<'a> {
     /// Its names are told.
     Readdir,
     /// Its names above a path's last name are told, no more than a count.
-    ListAfter(&'a Path, u64),
+    ListAfter(&'a Path, u32),
     /// Bytes from an offset on are told, no more than a count.
     Read(u64, u64),
     /// Bytes are written at an offset.

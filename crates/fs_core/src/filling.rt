@@ -123,9 +123,12 @@ fn add_node(store: &mut Store, row: &Row) -> Result<NodeNo, NoNode>
     let Some((name, above)) = row.key.split_last() else {
         unreachable!();
     };
+    let Ok(copy) = name.copy() else {
+        return Err(NoNode::OutOfMemory);
+    };
     let dir = reached(store, above).unwrap();
     let node = new_node(store, row)?;
-    store.link(dir, name, node);
+    store.link(dir, copy, node);
     Ok(node)
 }
 

@@ -1,2 +1,3 @@
+mod ShownLemmas
 mod Running
 mod Progress

@@ -6,3 +6,4 @@ pub mod Numbered
 pub mod Texts
 pub mod Statuses
 pub mod Told
+pub mod code

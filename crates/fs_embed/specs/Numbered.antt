@@ -1,5 +1,5 @@
 -- What a caller asks for by a number.
-use Rattle.std.specs.Prelude.{ℕ, ◌==◌, eqb, Bool, true, false, List, Option, Some, None, Err, if◌then◌else◌}
+use Rattle.std.specs.Prelude.{ℕ, ◌-◌, ◌^◌, min, ◌==◌, eqb, Bool, true, false, List, Option, Some, None, Err, if◌then◌else◌}
 use Rattle.fs_names.specs.declared.limits.Limits.{Limits}
 use Rattle.fs_names.specs.declared.limits.Limits.TheVariants.{V1, V2, V3}
 use Rattle.fs_calls.specs.declared.call.Call.TheVariants.{Mkdir, Mknod, Unlink, Rmdir, Rename, Exchange, Stat, Readdir, ListAfter, Read, Write, Truncate}
@@ -9,6 +9,10 @@ use Rattle.fs_sched.specs.declared.schedule.Schedule.TheVariants.{Given, RoundRo
 use Rattle.fs_embed.specs.Requests.{Asked, on_path, on_both}
 use Rattle.fs_embed.specs.declared.numbered.TheConstants.{KEEP_ALL}
 
+-- the count of a list by a size: one of more than 32 bits counts as the greatest of 32
+abbrev pub count_of : ℕ → ℕ
+count_of size = min size (2 ^ 32 - 1)
+
 -- the call of a number that has more than one path, or more than a path
 abbrev pub asked_with_more : ℕ → List ℕ → List ℕ → ℕ → ℕ → List ℕ → Asked
 asked_with_more number path other off size bytes =
@@ -17,7 +21,7 @@ asked_with_more number path other off size bytes =
     else (if number == 8 then on_path (λ p. Read p off size) path
     else (if number == 9 then on_path (λ p. Write p off bytes) path
     else (if number == 10 then on_path (λ p. Truncate p size) path
-    else (if number == 11 then on_both (λ p q. ListAfter p q size) path other
+    else (if number == 11 then on_both (λ p q. ListAfter p q (count_of size)) path other
     else λ limits. Err kind.BadLine)))))
 
 -- the call of a number, with the parts that it has of those that may stand with it

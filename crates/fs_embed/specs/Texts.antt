@@ -58,3 +58,7 @@ pub record IsShown (names : List Name) (after : Name) (room : ℕ) (shown : List
   pub count : ℕ
   pub fit : IsMostThatFits (drop place names) room count
   pub shown_is : shown ≡ take (max 1 count) (drop place names)
+
+-- the text of names that are shown so
+abbrev pub IsShownText : List Name → Name → ℕ → List ℕ → Type 0
+IsShownText names after room text = (shown : List Name) × IsShown names after room shown × (text ≡ names_text shown)

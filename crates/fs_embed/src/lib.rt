@@ -5,7 +5,7 @@
 //! return, or as far as it goes before it waits for a call of another seat. `begin_kept` and `run_kept` do so in a core that
 //! forgets by itself (`keep_last`). A request that is refused leaves the core as it
 //! was, and the answer says why: `status` has its number. `reply_text`, `names_text`, `journal_text`, `opening_text`,
-//! `whole_journal` and `tree_text` are texts of a core, and `names_behind` the part of a reply's names that fits. `told` and
+//! `whole_journal` and `tree_text` are texts of a core, and `behind_text` that of the part of a reply's names that fits. `told` and
 //! `replies` tell texts, replies and faults in a caller's memory by a status; `hand_out` so tells a journal that begins again.
 //! A script or a journal in memory is run and checked by `run_bytes` and `check_bytes` of `fs_sched`, and a script by drawn
 //! schedules by `seeds_bytes`, which alone has a `requires`.
@@ -35,7 +35,7 @@ pub use calls::{
 pub use checkpoint::{again, hand_out, tell_why_not};
 pub use keeping::{begin_kept, keep_last, run_kept};
 pub use looks::kind_of;
-pub use names::{names_behind, names_text};
+pub use names::{behind_text, names_text};
 pub use pieces::{opening_text, whole_journal};
 pub use request::{Request, path_fault};
 pub use seeds::seeds_bytes;

@@ -1,7 +1,7 @@
 //! What a caller of another language asks for by a number.
 
 ghost use Rattle.std.specs.Prelude.{◌≡◌};
-ghost use Rattle.fs_embed.specs.Numbered.{asked_by, is_set, limits_of, schedule_of, to_keep};
+ghost use Rattle.fs_embed.specs.Numbered.{asked_by, count_of, is_set, limits_of, schedule_of, to_keep};
 ghost use Rattle.fs_embed.specs.Requests.{asked};
 
 use crate::request::Request;
@@ -11,7 +11,14 @@ use fs_sched::Schedule;
 /// By this number all calls are kept.
 pub const KEEP_ALL: u32 = 4_294_967_295;
 
-/// The call that a number and what may stand with it ask for.
+/// The count of a list by a size: one of more than 32 bits counts as the greatest of 32.
+fn count_of(size: u64) -> u32
+    ensures { result ≡ count_of size }
+{
+    u32::try_from(size).unwrap_or(u32::MAX)
+}
+
+/// The call that a number and what may stand with it ask for. A list of more than 4,294,967,295 names is one of so many.
 pub fn request_of<'a>(
     call: u8,
     path: &'a [u8],
@@ -34,7 +41,7 @@ pub fn request_of<'a>(
         8 => Request::Read(path, off, size),
         9 => Request::Write(path, off, bytes),
         10 => Request::Truncate(path, size),
-        11 => Request::ListAfter(path, other, size),
+        11 => Request::ListAfter(path, other, count_of(size)),
         _ => Request::Nothing,
     }
 }

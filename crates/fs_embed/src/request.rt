@@ -35,7 +35,7 @@ pub enum Request<'a> {
     /// Asks for all names of a directory.
     Readdir(&'a [u8]),
     /// Asks for the names of a directory above the last name of the second path, and for no more than a count.
-    ListAfter(&'a [u8], &'a [u8], u64),
+    ListAfter(&'a [u8], &'a [u8], u32),
     /// Asks for the bytes of a file from an offset on, and for no more than a count.
     Read(&'a [u8], u64, u64),
     /// Writes bytes into a file at an offset.

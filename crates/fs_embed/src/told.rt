@@ -5,7 +5,7 @@ ghost use Rattle.fs_embed.specs.Statuses.{IsReturned, IsRefusal, IsToldFault, Is
 ghost use Rattle.fs_embed.specs.Told.{Tells, LeavesText, IsToldText, IsToldStat, IsToldNames, IsToldBytes, IsToldWrote, IsToldBehind, IsToldVerdict, done_status, is_dir, kind_number};
 
 use crate::calls::NotReturned;
-use crate::names::{names_behind, names_text};
+use crate::names::{behind_text, names_text};
 use crate::status::{
     NO_MEMORY, OK, TOO_SMALL, UNDER_WAY, UNTOLD, WAITS, begin_status, failed_status, fault_status,
 };
@@ -93,7 +93,7 @@ pub fn tell_names(alloc: Global, reply: &Reply, out: &mut [u8], count: &mut usiz
     ensures untouched { LeavesText result count.old count.new out.old out.new }
 {
     match reply {
-        Reply::Names(names) => match names_text(alloc, names.as_slice()) {
+        Reply::Names(names) => match names_text(alloc, names) {
             Ok(text) => tell(text.as_slice(), out, count),
             Err(_) => UNTOLD,
         },
@@ -144,13 +144,10 @@ pub fn tell_behind(
     ensures untouched { LeavesText result count.old count.new out.old out.new }
 {
     match reply {
-        Reply::Names(names) => {
-            let shown = names_behind(names.as_slice(), after, out.len());
-            match names_text(alloc, shown) {
-                Ok(text) => tell(text.as_slice(), out, count),
-                Err(_) => UNTOLD,
-            }
-        }
+        Reply::Names(names) => match behind_text(alloc, names, after, out.len()) {
+            Ok(text) => tell(text.as_slice(), out, count),
+            Err(_) => UNTOLD,
+        },
         Reply::Failed(errno) => failed_status(*errno),
         _ => UNTOLD,
     }

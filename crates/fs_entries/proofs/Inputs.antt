@@ -1,7 +1,7 @@
 -- What is said of the input by what was read of it.
-use Rattle.std.proofs.Common.{◌≡◌, ℕ, ◌<◌, ◌≤◌, ⊎_elim, Bool, true, false, List, length, Option, Some, None, Err, ap, sym, subst, ◌∙◌}
+use Rattle.std.proofs.Common.{◌≡◌, ℕ, ⊎_elim, Bool, true, false, List, Option, Some, None, Err, ap, sym, subst, ◌∙◌}
 use Rattle.std.specs.Prelude.{IfSome}
-use Rattle.std.proofs.lemmas.Bool.{lt-ltb}
+use Rattle.fs_words.specs.Headers.{is_too_long}
 use Rattle.fs_words.specs.Reading.{fault_at}
 use Rattle.fs_words.specs.declared.fault.FaultKind.TheVariants as kind
 use Rattle.fs_words.specs.declared.fault.ScriptFault.{ScriptFault}
@@ -19,28 +19,28 @@ use Rattle.fs_replay.specs.Replays.{HasFault, HasFaultAs, IsUntold, is_journal}
 use Rattle.fs_entries.specs.Entries.{IsTraceAs, IsTraceOfInput}
 
 -- what has a trace is not too long
-traced_short : (journal : Bool) (schedule : Schedule) (every : Bool) (text items out : List ℕ) (well : Bool) → text ≡ items → IsTraceAs journal schedule every text well out → length items ≤ 16777216
+traced_short : (journal : Bool) (schedule : Schedule) (every : Bool) (text items out : List ℕ) (well : Bool) → text ≡ items → IsTraceAs journal schedule every text well out → is_too_long items ≡ false
 traced_short true schedule every text items out well e is = verdict_short text items (verdict is.0 is.1) e (ap judged is.3)
 traced_short false schedule every text items out well e is = script_short text items is.1.0 e is.1.1
 
-pub trace_short : (schedule : Schedule) (every : Bool) (text items out : List ℕ) (well : Bool) → text ≡ items → IsTraceOfInput schedule every text well out → length items ≤ 16777216
+pub trace_short : (schedule : Schedule) (every : Bool) (text items out : List ℕ) (well : Bool) → text ≡ items → IsTraceOfInput schedule every text well out → is_too_long items ≡ false
 trace_short schedule every text items out well e is = traced_short (is_journal text) schedule every text items out well e is
 
 -- what is too long is neither a journal nor a script, by one and the same fault
-long_fault : (journal : Bool) (text : List ℕ) (f : ScriptFault) → 16777216 < length text → HasFaultAs journal text f → f ≡ fault_at 1 kind.TooLarge
-long_fault true text f h is = let long : verdict_of text ≡ Err (fault_at 1 kind.TooLarge) = ap judged (long_journal text (lt-ltb 16777216 (length text) h)) in cc
-long_fault false text f h is = let long : script_of text ≡ Err (fault_at 1 kind.TooLarge) = long_script text (lt-ltb 16777216 (length text) h) in cc
+long_fault : (journal : Bool) (text : List ℕ) (f : ScriptFault) → is_too_long text ≡ true → HasFaultAs journal text f → f ≡ fault_at 1 kind.TooLarge
+long_fault true text f h is = let long : verdict_of text ≡ Err (fault_at 1 kind.TooLarge) = ap judged (long_journal text h) in cc
+long_fault false text f h is = let long : script_of text ≡ Err (fault_at 1 kind.TooLarge) = long_script text h in cc
 
-long_has : (journal : Bool) (text : List ℕ) (f : ScriptFault) → 16777216 < length text → f ≡ fault_at 1 kind.TooLarge → HasFaultAs journal text f
-long_has true text f h e = let long : verdict_of text ≡ Err (fault_at 1 kind.TooLarge) = ap judged (long_journal text (lt-ltb 16777216 (length text) h)) in cc
-long_has false text f h e = let long : script_of text ≡ Err (fault_at 1 kind.TooLarge) = long_script text (lt-ltb 16777216 (length text) h) in cc
+long_has : (journal : Bool) (text : List ℕ) (f : ScriptFault) → is_too_long text ≡ true → f ≡ fault_at 1 kind.TooLarge → HasFaultAs journal text f
+long_has true text f h e = let long : verdict_of text ≡ Err (fault_at 1 kind.TooLarge) = ap judged (long_journal text h) in cc
+long_has false text f h e = let long : script_of text ≡ Err (fault_at 1 kind.TooLarge) = long_script text h in cc
 
 -- what was read has the fault of the input
 pub known_fault : (r : Option (List ℕ)) (text items : List ℕ) (f : ScriptFault) → text ≡ items → IfSome r (IsSameText items) → HasFault text f → IfSome r (λ input. HasFault input f)
 known_fault None text items f e s has = tt
 known_fault (Some input) text items f e s has =
     ⊎_elim (λ same. subst (λ (t : List ℕ). HasFault t f) (e ∙ same) has)
-    (λ long. long_has (is_journal input) input f long.1 (long_fault (is_journal text) text f (subst (λ (t : List ℕ). 16777216 < length t) (sym e) long.0) has)) s
+    (λ long. long_has (is_journal input) input f long.1 (long_fault (is_journal text) text f (subst (λ (t : List ℕ). is_too_long t ≡ true) (sym e) long.0) has)) s
 
 -- ---- why an input tells nothing
 

@@ -98,11 +98,11 @@ because             no name has a byte zero, and `%25` is a `%`
 ";
 
 const NAME_TOO_LONG: &str = "\
-NameTooLong: a name in a path has more than 32 bytes, in a text of version 2 or 3 more than 64
+NameTooLong: a name in a path has more than 32 bytes, in a text of version 2 more than 64, of version 3 more than 255
 
 In a script, for    stat /abcdefghijklmnopqrstuvwxyz0123456
 write               stat /abcdefghijklmnopqrstuvwxyz012345
-because             a name has at most 32 bytes, in a text of version 2 or 3 at most 64
+because             a name has at most 32 bytes, in a text of version 2 at most 64, of version 3 at most 255
 ";
 
 const TOO_MANY_NAMES: &str = "\
@@ -130,7 +130,7 @@ because             a path ends with a name
 ";
 
 const BAD_NUMBER: &str = "\
-BadNumber: a word is no NUMBER, a decimal number below 2^64
+BadNumber: a word is no NUMBER, a decimal number below 2^64, or a list counts 2^32 or more
 
 In a script, for    truncate /a 0x10
 write               truncate /a 16
@@ -186,7 +186,7 @@ because             `finish` is the last word
 ";
 
 const TOO_LARGE: &str = "\
-TooLarge: a limit is exceeded: 16,777,216 bytes of a text, 256 threads, 65,536 calls, 1,000,000 given events or 1,048,576 nodes
+TooLarge: a limit is exceeded: 16,777,216 bytes of a text, 256 threads, 65,536 calls, 1,000,000 given events or 1,048,576 nodes; in version 3 1,073,741,824 bytes, 4,194,304 calls or 16,777,216 nodes
 
 In a script, for    t*1000000 t*9
 write               t*1000000

@@ -4,7 +4,7 @@ ghost use Rattle.std.specs.Prelude.{◌≡◌, ◌≢◌, ◌+◌, ◌-◌, ◌<
 ghost use Rattle.std.specs.Io.KnownBytes.{Appends, IsAtEnd};
 ghost use Rattle.fs_words.specs.declared.fault.ScriptFault.{ScriptFault};
 ghost use Rattle.fs_script.specs.Script.{script_of};
-ghost use Rattle.fs_script.specs.declared.limits.TheConstants.{CALL_LIMIT};
+ghost use Rattle.fs_script.specs.Limits.{call_limit};
 ghost use Rattle.fs_sched.specs.Devices.{KeepsDevices, WritesBeginning};
 ghost use Rattle.fs_sched.specs.Runs.{calls_in};
 ghost use Rattle.fs_sched.specs.code.Done.{IsStop};
@@ -33,7 +33,7 @@ pub fn run_has(
     schedule: Schedule,
     what: &[Clause],
 ) -> Result<bool, RunFault>
-    requires few { calls_in script.now.lists ≤ CALL_LIMIT }
+    requires few { calls_in script.now.lists ≤ call_limit script.now.limits }
     ensures has { IfOk result (RunHas schedule script.now what.now) }
     ensures fault { IfErr result (IsStop schedule script.now) }
 {
@@ -57,7 +57,7 @@ fn first_seed<Listener: Witness>(
     runs: u64,
     witness: &mut Listener,
 ) -> Result<Option<u64>, RunFault>
-    requires few { calls_in script.now.lists ≤ CALL_LIMIT }
+    requires few { calls_in script.now.lists ≤ call_limit script.now.limits }
     requires seed { seed ≤ SEED_LIMIT }
     requires runs { runs ≤ SEARCH_LIMIT }
     ensures found { IfOk result (IsFound script.now what.now seed runs) }

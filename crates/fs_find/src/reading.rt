@@ -108,11 +108,11 @@ fn return_text(alloc: Global, words: &[&[u8]]) -> Result<Vec<u8>, AllocError>
 }
 
 /// The reply of the only entry.
-fn only_reply(alloc: Global, entries: &[Entry]) -> Result<Reply, WhatFault>
+fn only_reply(entries: &[Entry]) -> Result<Reply, WhatFault>
     ensures { Says (λ reply. reply) result (only_reply (Ok entries.now)) }
 {
     match entries {
-        [Entry::Return(_, reply)] => Ok(copy_of_reply(alloc, reply)?),
+        [Entry::Return(_, reply)] => Ok(copy_of_reply(reply)?),
         _ => Err(WhatFault::BadReply),
     }
 }
@@ -140,7 +140,7 @@ fn reply_in(alloc: Global, text: &[u8]) -> Result<Reply, WhatFault>
     ensures { Says (λ reply. reply) result (only_reply (entries_behind text.now)) }
 {
     match entries_behind(alloc, text) {
-        Ok(entries) => only_reply(alloc, entries.as_slice()),
+        Ok(entries) => only_reply(entries.as_slice()),
         Err(fault) if is_memory(fault.kind) => Err(WhatFault::OutOfMemory),
         Err(_) => Err(WhatFault::BadReply),
     }

@@ -1,5 +1,5 @@
 -- On names that are told one after another.
-use Rattle.std.proofs.Common.{◌≡◌, ◌≢◌, ℕ, ◌+◌, ◌-◌, ◌<◌, ◌≤◌, Bool, true, false, IsTrue, List, [], ◌∷◌, ◌++◌, length, take, Option, Some, None, refl, ap, sym, ◌∙◌, arith, append_assoc, append-nil, length-append, subst}
+use Rattle.std.proofs.Common.{◌≡◌, ◌≢◌, ℕ, ◌+◌, ◌<◌, ◌≤◌, Bool, true, false, IsTrue, List, [], ◌∷◌, ◌++◌, length, take, Option, Some, None, refl, ap, sym, ◌∙◌, arith, append_assoc, append-nil, length-append, subst}
 use Rattle.std.specs.Prelude.{option_map, nat_lt}
 use Rattle.std.proofs.lemmas.Bool.Decides.{nat_tests}
 use Rattle.std.specs.List.{find}
@@ -7,6 +7,7 @@ use Rattle.std.specs.Ordering.{is_lt}
 use Rattle.std.proofs.lemmas.List.{take_all, take_at}
 use Rattle.fs_names.specs.Names as orders
 use Rattle.fs_names.specs.Names.{Name, name_cmp, can_name}
+use Rattle.fs_names.specs.Rooms.{RoomForNames}
 use Rattle.fs_names.specs.Shapes.{Shape, Dir, File, names_of}
 use Rattle.fs_names.specs.Failures.{check, first_failure}
 use Rattle.fs_names.specs.declared.limits.TheConstants.{LIST_LIMIT}
@@ -19,6 +20,8 @@ use Rattle.fs_nodes.specs.Seen.{Ascends}
 use Rattle.fs_nodes.specs.Stores.{is_above, names_above, next_entry, IsNextName, IsEntryAfter, IsNameAfter}
 use Rattle.fs_nodes.proofs.EntryLemmas.{entry_child}
 use Rattle.fs_finish.specs.Lows.{bytes_above}
+use Rattle.fs_finish.specs.Rooms.{IsRoomFor}
+use Rattle.fs_finish.specs.declared.room.TheConstants.{NAME_TEXT}
 use Rattle.fs_finish.proofs.Listing.{last_listed, IsListed, IsListing}
 
 -- all names are above none
@@ -101,38 +104,42 @@ told_most low most told names h e = sym (take_at told (names_above (last_listed 
 
 -- ---- the same of a directory
 
-pub listing_first : (graph : Graph) (dir : ℕ) (low : Option Name) (most room : ℕ) (told : List Name) (next : Option (Name × ℕ)) → told ≡ [] → most ≤ room → next ≡ next_entry graph dir low → IsNextName (names_of (graph.shape dir)) low (option_map (λ entry. entry.0) next)
-    → IsListing graph dir low most told room next
-listing_first graph dir low most room told next none h entry rest = subst (λ (l : List Name). IsListing graph dir low most l room next) (sym none) (record { is_told = told_first low most (names_of (graph.shape dir)); fits = h; next_is = entry; rest = rest })
-
--- where fewer are told, there is room for one
-pub listing_room : (graph : Graph) (dir : ℕ) (low : Option Name) (most : ℕ) (told : List Name) (room : ℕ) (next : Option (Name × ℕ)) → IsListing graph dir low most told room next → length told ≢ most → length told < room
-listing_room graph dir low most told room next l fewer = let w = l.is_told.within in let f = l.fits in omega (arith, w, f, fewer)
-
-pub listing_pushed : (graph : Graph) (dir : ℕ) (low : Option Name) (most : ℕ) (told new : List Name) (room room' : ℕ) (next after : Option (Name × ℕ)) (x : Name) (n : ℕ) → IsListing graph dir low most told room next → next ≡ Some (x, n) → length told ≢ most → new ≡ told ++ x ∷ [] → room' ≡ room
-    → IsEntryAfter graph n after → IsNameAfter graph n (option_map (λ entry. entry.0) after) → IsListing graph dir low most new room' after
-listing_pushed graph dir low most told new room room' next after x n l is fewer pushed same entry rest =
-    let names : List Name = names_of (graph.shape dir) in
-    let child : graph.child dir x ≡ Some n = entry_child (graph.child dir) (find (is_above (last_listed low told)) names) x n (sym is ∙ l.next_is) in
-    let name : names_above (last_listed low told) names ≡ x ∷ names_above (Some x) names = subst (λ (o : Option (Name × ℕ)). IsNextName names (last_listed low told) (option_map (λ entry. entry.0) o)) is l.rest in
-    let last : last_listed low new ≡ Some x = ap (last_listed low) pushed ∙ last_pushed low told x in
+pub listing_first : (graph : Graph) (dir : ℕ) (low : Option Name) (most : ℕ) (list : RoomForNames) (next : Option (Name × ℕ)) → IsRoomFor most list → next ≡ next_entry graph dir low → IsNextName (names_of (graph.shape dir)) low (option_map (λ entry. entry.0) next)
+    → IsListing graph dir low most list most next
+listing_first graph dir low most list next h entry rest =
     record {
-      is_told = subst (λ (z : List Name). IsListed low most z names) (sym pushed) (told_more low most told names x l.is_told fewer name);
-      fits = subst (λ (k : ℕ). most ≤ k) (sym same) l.fits;
+      is_told = subst (λ (l : List Name). IsListed low most l (names_of (graph.shape dir))) (sym h.0) (told_first low most (names_of (graph.shape dir)));
+      count = (let e : length list.names ≡ 0 = ap length h.0 in omega (arith, e));
+      fits = h.1;
+      next_is = entry ∙ ap (λ (l : List Name). next_entry graph dir (last_listed low l)) (sym h.0);
+      rest = subst (λ (l : List Name). IsNextName (names_of (graph.shape dir)) (last_listed low l) (option_map (λ entry. entry.0) next)) (sym h.0) rest;
+    }
+
+-- where more may be told, there is room for one
+pub listing_room : (graph : Graph) (dir : ℕ) (low : Option Name) (most : ℕ) (list : RoomForNames) (left : ℕ) (next : Option (Name × ℕ)) → IsListing graph dir low most list left next → 0 < left → NAME_TEXT ≤ list.room
+listing_room graph dir low most list left next l some = let f = l.fits in omega (arith, f, some)
+
+pub listing_pushed : (graph : Graph) (dir : ℕ) (low : Option Name) (most : ℕ) (list new : RoomForNames) (left fewer : ℕ) (next after : Option (Name × ℕ)) (x : Name) (n : ℕ) → IsListing graph dir low most list left next → next ≡ Some (x, n) → left ≡ fewer + 1
+    → new.names ≡ list.names ++ x ∷ [] → list.room ≤ new.room + NAME_TEXT → IsEntryAfter graph n after → IsNameAfter graph n (option_map (λ entry. entry.0) after) → IsListing graph dir low most new fewer after
+listing_pushed graph dir low most list new left fewer next after x n l is one pushed room entry rest =
+    let names : List Name = names_of (graph.shape dir) in
+    let child : graph.child dir x ≡ Some n = entry_child (graph.child dir) (find (is_above (last_listed low list.names)) names) x n (sym is ∙ l.next_is) in
+    let name : names_above (last_listed low list.names) names ≡ x ∷ names_above (Some x) names = subst (λ (o : Option (Name × ℕ)). IsNextName names (last_listed low list.names) (option_map (λ entry. entry.0) o)) is l.rest in
+    let last : last_listed low new.names ≡ Some x = ap (last_listed low) pushed ∙ last_pushed low list.names x in
+    let longer : length new.names ≡ length list.names + 1 = ap length pushed ∙ length-append list.names (x ∷ []) in
+    let c = l.count in
+    let f = l.fits in
+    record {
+      is_told = subst (λ (z : List Name). IsListed low most z names) (sym pushed) (told_more low most list.names names x l.is_told (omega (arith, c, one)) name);
+      count = omega (arith, longer, c, one);
+      fits = omega (arith, f, room, one);
       next_is = entry dir x child ∙ ap (next_entry graph dir) (sym last);
       rest = subst (λ (o : Option Name). IsNextName names o (option_map (λ entry. entry.0) after)) (sym last) (rest dir x child);
     }
 
-pub listing_all : (graph : Graph) (dir : ℕ) (low : Option Name) (most : ℕ) (told : List Name) (room : ℕ) (next : Option (Name × ℕ)) → IsListing graph dir low most told room next → next ≡ None → told ≡ take most (names_above low (names_of (graph.shape dir)))
-listing_all graph dir low most told room next l is =
-    told_all low most told (names_of (graph.shape dir)) l.is_told (subst (λ (o : Option (Name × ℕ)). IsNextName (names_of (graph.shape dir)) (last_listed low told) (option_map (λ entry. entry.0) o)) is l.rest)
+pub listing_all : (graph : Graph) (dir : ℕ) (low : Option Name) (most : ℕ) (list : RoomForNames) (left : ℕ) (next : Option (Name × ℕ)) → IsListing graph dir low most list left next → next ≡ None → list.names ≡ take most (names_above low (names_of (graph.shape dir)))
+listing_all graph dir low most list left next l is =
+    told_all low most list.names (names_of (graph.shape dir)) l.is_told (subst (λ (o : Option (Name × ℕ)). IsNextName (names_of (graph.shape dir)) (last_listed low list.names) (option_map (λ entry. entry.0) o)) is l.rest)
 
-pub listing_most : (graph : Graph) (dir : ℕ) (low : Option Name) (most : ℕ) (told : List Name) (room : ℕ) (next : Option (Name × ℕ)) → IsListing graph dir low most told room next → length told ≡ most → told ≡ take most (names_above low (names_of (graph.shape dir)))
-listing_most graph dir low most told room next l e = told_most low most told (names_of (graph.shape dir)) l.is_told e
-
--- fewer are left to tell after each one
-pub listing_nearer : (graph : Graph) (dir : ℕ) (low : Option Name) (most : ℕ) (told new : List Name) (room : ℕ) (next : Option (Name × ℕ)) (x : Name) → IsListing graph dir low most told room next → length told ≢ most → new ≡ told ++ x ∷ [] → most - length new < most - length told
-listing_nearer graph dir low most told new room next x l fewer pushed =
-    let more : length new ≡ length told + 1 = ap length pushed ∙ length-append told (x ∷ []) in
-    let w = l.is_told.within in
-    omega (arith, more, w, fewer)
+pub listing_most : (graph : Graph) (dir : ℕ) (low : Option Name) (most : ℕ) (list : RoomForNames) (left : ℕ) (next : Option (Name × ℕ)) → IsListing graph dir low most list left next → left ≡ 0 → list.names ≡ take most (names_above low (names_of (graph.shape dir)))
+listing_most graph dir low most list left next l none = let c = l.count in told_most low most list.names (names_of (graph.shape dir)) l.is_told (omega (arith, c, none))

@@ -9,7 +9,7 @@ use Rattle.fs_calls.specs.Forms.{Form, AtNode, AtEntry, AtPair}
 use Rattle.fs_calls.specs.Rows.{node_row}
 use Rattle.fs_calls.specs.declared.errno.Errno.{Errno}
 use Rattle.fs_calls.specs.declared.reply.Reply.TheVariants.{Done, Failed}
-use Rattle.fs_finish.specs.Paths.{first_path, second_path}
+use Rattle.fs_finish.specs.Paths.{first_path, second_path, new_name}
 use Rattle.fs_finish.specs.declared.plan.Route.{Route}
 use Rattle.fs_finish.specs.declared.plan.Moving.{Moving}
 use Rattle.fs_finish.specs.declared.plan.Swapping.{Swapping}
@@ -152,13 +152,13 @@ pub record CanSwap (store : Seen) (s : Swapping) (x y : Name) : Type 0 where
   pub there_too : store.graph.child s.dest y ≡ Some s.second
   pub apart : (IsReached store.graph.child s.first s.second → ⊥) × (IsReached store.graph.child s.second s.first → ⊥)
 
--- a plan that can be carried out, of a call whose paths have names where it needs them
+-- a plan that can be carried out, of a call whose paths have names where it needs them, and that gives an entry such a name
 abbrev pub CanCarryOut : Seen → Form → Route → Option ℕ → Plan → Type 0
 CanCarryOut store call route reserved (Fails e) = Unit {0}
 CanCarryOut store call route reserved Stays = Unit {0}
 CanCarryOut store call route reserved (Answers n) = Unit {0}
-CanCarryOut store call route reserved (Adds dir) = (0 < length (first_path call)) × CanAdd store dir (last_of (first_path call)) reserved
+CanCarryOut store call route reserved (Adds dir) = (0 < length (first_path call)) × (new_name call ≡ Some (last_of (first_path call))) × CanAdd store dir (last_of (first_path call)) reserved
 CanCarryOut store call route reserved (Removes dir) = (0 < length (first_path call)) × CanRemove store dir (last_of (first_path call))
-CanCarryOut store call route reserved (Moves n) = (0 < length (first_path call)) × (0 < length (second_path call)) × CanMove store (along route n false) (last_of (first_path call)) (last_of (second_path call))
-CanCarryOut store call route reserved (Replaces n) = (0 < length (first_path call)) × (0 < length (second_path call)) × CanMove store (along route n true) (last_of (first_path call)) (last_of (second_path call))
+CanCarryOut store call route reserved (Moves n) = (0 < length (first_path call)) × (0 < length (second_path call)) × (new_name call ≡ Some (last_of (second_path call))) × CanMove store (along route n false) (last_of (first_path call)) (last_of (second_path call))
+CanCarryOut store call route reserved (Replaces n) = (0 < length (first_path call)) × (0 < length (second_path call)) × (new_name call ≡ Some (last_of (second_path call))) × CanMove store (along route n true) (last_of (first_path call)) (last_of (second_path call))
 CanCarryOut store call route reserved (Swaps n m) = (0 < length (first_path call)) × (0 < length (second_path call)) × CanSwap store (between route n m) (last_of (first_path call)) (last_of (second_path call))

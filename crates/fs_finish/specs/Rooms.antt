@@ -1,10 +1,15 @@
--- The room that a call makes when it begins, so that its finish takes no memory.
-use Rattle.std.specs.Prelude.{ℕ, Bool, true, false, ◌≤◌, ◌<◌, ◌+◌, ◌^◌, length, min}
+-- What a call takes when it begins, so that its finish takes no memory.
+use Rattle.std.specs.Prelude.{ℕ, Bool, true, false, ◌≡◌, ◌≤◌, ◌<◌, ◌+◌, ◌*◌, ◌^◌, [], length, min, Option, Some, None}
 use Rattle.fs_blocks.specs.Spares.{SpareValue, FitsWrite, FitsSize}
+use Rattle.fs_names.specs.Names as names
+use Rattle.fs_names.specs.Names.{shared_bytes}
+use Rattle.fs_names.specs.Rooms.{RoomForNames}
 use Rattle.fs_names.specs.declared.limits.TheConstants.{LIST_LIMIT}
 use Rattle.fs_calls.specs.Forms.{NodeCall, Stat, Readdir, ListAfter, Read, Write, Truncate, Form, AtNode, AtEntry, AtPair}
+use Rattle.fs_finish.specs.Paths.{new_name}
+use Rattle.fs_finish.specs.declared.room.TheConstants.{NAME_TEXT}
 use Rattle.fs_finish.specs.declared.room.Room.{Room}
-use Rattle.fs_finish.specs.declared.room.Room.TheVariants.{Nothing, Content, Blocks, Copies, Lists}
+use Rattle.fs_finish.specs.declared.room.Room.TheVariants.{Nothing, Content, Blocks, Copies, Lists, Name}
 
 -- a buffer for a file's new bytes, where they are not more than the most
 abbrev pub FitsContent : ℕ → ℕ → Room → Type 0
@@ -13,6 +18,7 @@ FitsContent most n Nothing = ⊥
 FitsContent most n (Blocks spare) = ⊥
 FitsContent most n (Copies a b) = ⊥
 FitsContent most n (Lists a b) = ⊥
+FitsContent most n (Name owner) = ⊥
 
 -- what a change of a file in blocks may use, where its bytes are not more than the most
 abbrev pub FitsBlocks : ℕ → ℕ → (SpareValue → Type 0) → Room → Type 0
@@ -21,6 +27,7 @@ FitsBlocks most n Fits Nothing = ⊥
 FitsBlocks most n Fits (Content room) = ⊥
 FitsBlocks most n Fits (Copies a b) = ⊥
 FitsBlocks most n Fits (Lists a b) = ⊥
+FitsBlocks most n Fits (Name owner) = ⊥
 
 -- what a change of a file needs, by whether files are in blocks
 abbrev pub FitsChange : Bool → ℕ → ℕ → (SpareValue → Type 0) → Room → Type 0
@@ -34,14 +41,34 @@ FitsCopies n Nothing = ⊥
 FitsCopies n (Content room) = ⊥
 FitsCopies n (Blocks spare) = ⊥
 FitsCopies n (Lists a b) = ⊥
+FitsCopies n (Name owner) = ⊥
 
--- two buffers for this many names
+-- a list without names, with room for this many of any length
+abbrev pub IsRoomFor : ℕ → RoomForNames → Type 0
+IsRoomFor n list = (list.names ≡ []) × (n * NAME_TEXT ≤ list.room)
+
+-- two lists for this many names
 abbrev pub FitsLists : ℕ → Room → Type 0
-FitsLists n (Lists a b) = (n ≤ a) × (n ≤ b)
+FitsLists n (Lists a b) = IsRoomFor n a × IsRoomFor n b
 FitsLists n Nothing = ⊥
 FitsLists n (Content room) = ⊥
 FitsLists n (Blocks spare) = ⊥
 FitsLists n (Copies a b) = ⊥
+FitsLists n (Name owner) = ⊥
+
+-- what a copy of a name needs: one more owner of the bytes that it shares
+abbrev pub FitsName : names.Name → Room → Type 0
+FitsName x (Name owner) = owner ≡ shared_bytes x
+FitsName x Nothing = ⊥
+FitsName x (Content room) = ⊥
+FitsName x (Blocks spare) = ⊥
+FitsName x (Copies a b) = ⊥
+FitsName x (Lists a b) = ⊥
+
+-- the same of a call that may give a name to an entry
+abbrev pub FitsNew : Option names.Name → Room → Type 0
+FitsNew None room = Unit {0}
+FitsNew (Some x) room = FitsName x room
 
 -- what a call on a node needs, by whether files are in blocks
 abbrev pub SufficesFor : Bool → NodeCall → Room → Type 0
@@ -55,5 +82,5 @@ SufficesFor in_blocks (Truncate most size) room = FitsChange in_blocks most size
 -- what a call needs, by the same
 abbrev pub Suffices : Bool → Form → Room → Type 0
 Suffices in_blocks (AtNode c p) room = SufficesFor in_blocks c room
-Suffices in_blocks (AtEntry c p) room = Unit {0}
-Suffices in_blocks (AtPair c p q) room = Unit {0}
+Suffices in_blocks (AtEntry c p) room = FitsNew (new_name (AtEntry c p)) room
+Suffices in_blocks (AtPair c p q) room = FitsNew (new_name (AtPair c p q)) room

@@ -10,7 +10,7 @@ ghost use Rattle.fs_finish.specs.Endings.{IsEffect};
 ghost use Rattle.fs_finish.specs.Paths.{first_path, second_path};
 ghost use Rattle.fs_finish.specs.Plans.{carried, answered_at, moved, swapped, CanCarryOut, CanMove, CanSwap};
 ghost use Rattle.fs_finish.specs.Replies.{refilled};
-ghost use Rattle.fs_finish.specs.Rooms.{Suffices, SufficesFor};
+ghost use Rattle.fs_finish.specs.Rooms.{Suffices, SufficesFor, FitsName};
 
 use crate::entries::{add, remove};
 use crate::exchange::exchange;
@@ -88,15 +88,24 @@ fn move_along(
     to: &Path,
     moving: Moving,
     reserved: Option<NodeNo>,
+    prepared: Room,
     store: &mut Store,
 ) -> Finish
     requires named { 0 < length from.now }
     requires new_named { 0 < length to.now }
+    requires room { FitsName (last_of to.now) prepared }
     requires can { CanMove (seen store.old) moving (last_of from.now) (last_of to.now) }
     ensures made { IsEffect (moved (graph_of store.old) moving (last_of from.now) (last_of to.now) reserved) result (graph_of store.new) }
     ensures rest { seen store.new ≡ record (seen store.old) { graph = graph_of store.new } }
 {
-    rename(store, moving, from.last_name(), to.last_name(), reserved)
+    rename(
+        store,
+        moving,
+        from.last_name(),
+        to.last_name(),
+        prepared,
+        reserved,
+    )
 }
 
 /// The entries of an exchange change what they name.
@@ -143,16 +152,13 @@ pub fn carry_out(
         Plan::Fails(errno) => Finish::failed(errno, reserved),
         Plan::Stays => Finish::kept(Replies::done(), reserved),
         Plan::Answers(node) => answer_at(aim, node, reserved, limits, prepared, store),
-        Plan::Adds(dir) => add(store, dir, first.last_name(), reserved),
+        Plan::Adds(dir) => add(store, dir, first.last_name(), prepared, reserved),
         Plan::Removes(dir) => remove(store, dir, first.last_name(), reserved),
-        Plan::Moves(node) => move_along(first, second, route.moving(node, false), reserved, store),
-        Plan::Replaces(node) => move_along(
-            first,
-            second,
-            route.moving(node, true),
-            reserved,
-            store,
-        ),
+        Plan::Moves(node) | Plan::Replaces(node) => {
+            let replaces = matches!(plan, Plan::Replaces(_));
+            let moving = route.moving(node, replaces);
+            move_along(first, second, moving, reserved, prepared, store)
+        }
         Plan::Swaps(one, other) => swap_along(
             first,
             second,

@@ -1,26 +1,55 @@
 //! How the calls on an entry finish at its directory.
 
-ghost use Rattle.std.specs.Prelude.{◌≡◌, ◌≢◌, false, None, IfSome, IsSome, IsTrue};
+ghost use Rattle.std.specs.Prelude.{◌≡◌, ◌≢◌, false, None, IfSome, IsSome, IsTrue, option_map};
 ghost use Rattle.fs_names.specs.Shapes.{is_dir, is_there, has_entries};
-ghost use Rattle.fs_nodes.specs.Graphs.{then_at};
+ghost use Rattle.fs_names.specs.declared.limits.Limits.{Limits};
+ghost use Rattle.fs_nodes.specs.Graphs.{then_at, linked_in, IsReached};
 ghost use Rattle.fs_nodes.specs.Seen.{seen, IsReal};
-ghost use Rattle.fs_nodes.specs.Stores.{child, shape, graph_of};
+ghost use Rattle.fs_nodes.specs.Stores.{child, shape, graph_of, IsUnlinked};
+ghost use Rattle.fs_nodes.specs.Stores as stores;
 ghost use Rattle.fs_calls.specs.Forms.{new_shape};
 ghost use Rattle.fs_calls.specs.Rows.{as_dir, entry_fault};
 ghost use Rattle.fs_calls.specs.code.Targets.{entry_call};
 ghost use Rattle.fs_finish.specs.Endings.{IsEffect};
 ghost use Rattle.fs_finish.specs.Plans.{entry_plan, added, removed};
+ghost use Rattle.fs_finish.specs.Rooms.{FitsName};
 ghost use Rattle.fs_machine.specs.OpValues.{SpareIf};
 
 use crate::finish::Finish;
 use crate::plan::Plan;
 use crate::queries::dir_fault;
 use crate::replies::Replies;
+use crate::room::Room;
 use crate::sights::sight_at;
 use fs_calls::ranges::is_full;
 use fs_calls::{EntryCall, Errno, calls};
-use fs_names::{Limits, Name};
+use fs_names::{Kind, Limits, Name};
 use fs_nodes::{NodeNo, Store};
+
+/// The kind of node that a call on an entry, by what it does, may add.
+macro_rules! added {
+    (adds $kind:ident) => { Some(Kind::$kind) };
+    (removes $kind:ident) => { None };
+}
+
+/// The kinds of the nodes that the calls on an entry may add.
+macro_rules! kinds {
+    (($entry:expr)
+        entries { $($call:ident { $root:tt [$does:ident $kind:ident] $errors:tt })* }
+        $($others:tt)*
+    ) => {
+        match $entry {
+            $(EntryCall::$call => added!($does $kind),)*
+        }
+    };
+}
+
+/// The kind of node that a call on an entry may add.
+pub fn kind_of(entry: EntryCall) -> Option<Kind>
+    ensures { (limits : Limits) → option_map stores.new_shape result ≡ new_shape (entry_call limits entry) }
+{
+    calls!(kinds(entry))
+}
 
 /// Why a call on an entry fails at a node that should be its directory, by these limits and what the name stands for there.
 fn fault(
@@ -79,18 +108,41 @@ pub fn entry_plan(
     calls!(entry_plans(entry, dir))
 }
 
+/// A node gets an entry of this name, by what was prepared for its copy. It stands apart, so that the finish of other calls has no
+/// name on its stack.
+#[inline(never)]
+fn enter(store: &mut Store, dir: NodeNo, name: &Name, prepared: Room, node: NodeNo)
+    requires room { FitsName name.now prepared }
+    requires dir { IsTrue (is_dir (shape store.old dir)) }
+    requires absent { child store.old dir name.now ≡ None }
+    requires used { IsTrue (is_there (shape store.old node)) }
+    requires unlinked { IsUnlinked (child store.old) node }
+    requires not_root { node ≢ 0 }
+    requires apart { IsReached (child store.old) node dir → ⊥ }
+    ensures { seen store.new ≡ record (seen store.old) { graph = linked_in dir name.now node (graph_of store.old) } }
+{
+    store.link(dir, prepared.name_of(name), node);
+}
+
 /// The reserved number, which is not the directory, gets an entry there.
-pub fn add(store: &mut Store, dir: NodeNo, name: &Name, reserved: Option<NodeNo>) -> Finish
+pub fn add(
+    store: &mut Store,
+    dir: NodeNo,
+    name: &Name,
+    prepared: Room,
+    reserved: Option<NodeNo>,
+) -> Finish
     requires real { IsReal (seen store.old) }
     requires dir { IsTrue (is_dir (shape store.old dir)) }
     requires absent { child store.old dir name.now ≡ None }
     requires spare { SpareIf (graph_of store.old) reserved }
     requires other { reserved ≢ Some dir }
+    requires room { FitsName name.now prepared }
     ensures made { IsEffect (added (graph_of store.old) dir name.now reserved) result (graph_of store.new) }
     ensures rest { seen store.new ≡ record (seen store.old) { graph = graph_of store.new } }
 {
     if let Some(node) = reserved {
-        store.link(dir, name, node);
+        enter(store, dir, name, prepared, node);
     }
     Finish::kept(Replies::done(), None)
 }

@@ -1,13 +1,16 @@
-//! The paths of a call, and how those of a call on two entries stand to each other.
+//! The paths of a call, the name that it may give to an entry, and how the paths of a call on two entries stand to each other.
 
 ghost use Rattle.std.specs.Prelude.{ℕ, ◌≡◌};
-ghost use Rattle.fs_names.specs.Keys.{after_prefix, is_proper_prefix, parent_of, is_end};
+ghost use Rattle.std.specs.Option.{option_copied};
+ghost use Rattle.fs_names.specs.Keys.{after_prefix, is_proper_prefix, last_of, parent_of, is_end};
 ghost use Rattle.fs_names.specs.declared.limits.Limits.{Limits};
 ghost use Rattle.fs_calls.specs.code.Targets.{form_of};
-ghost use Rattle.fs_finish.specs.Paths.{first_path, second_path};
+ghost use Rattle.fs_finish.specs.Lows.{bytes_above};
+ghost use Rattle.fs_finish.specs.Paths.{first_path, second_path, last_name, new_name};
 
-use fs_calls::Target;
-use fs_names::Path;
+use crate::entries::kind_of;
+use fs_calls::{PairCall, Target};
+use fs_names::{Name, Path};
 
 /// The path that a call walks first.
 pub fn first_path<'a>(aim: Target<'a>) -> &'a Path
@@ -24,6 +27,29 @@ pub fn second_path<'a>(aim: Target<'a>) -> &'a Path
 {
     match aim {
         Target::Node(_, path) | Target::Entry(_, path) | Target::Pair(_, _, path) => path,
+    }
+}
+
+/// The last name of a path, if it has one.
+pub fn last_name(path: &Path) -> Option<&Name>
+    ensures name { option_copied result ≡ last_name path.now }
+    ensures bytes { bytes_above (option_copied result) ≡ last_of path.now }
+{
+    if path.is_empty() {
+        None
+    } else {
+        Some(path.last_name())
+    }
+}
+
+/// The name that a call may give to an entry.
+pub fn new_name<'a>(aim: Target<'a>) -> Option<&'a Name>
+    ensures { (limits : Limits) → option_copied result ≡ new_name (form_of limits aim.entry) }
+{
+    match aim {
+        Target::Entry(entry, path) if kind_of(entry).is_some() => last_name(path),
+        Target::Pair(PairCall::Rename, _, new_path) => last_name(new_path),
+        Target::Node(_, _) | Target::Entry(_, _) | Target::Pair(PairCall::Exchange, _, _) => None,
     }
 }
 

@@ -1,26 +1,26 @@
 //! How the calls that change nothing finish at their node.
 
-ghost use Rattle.std.specs.Prelude.{◌≡◌, ◌≤◌, [], None, option_map, length, take, drop, vec_capacity};
+ghost use Rattle.std.specs.Prelude.{◌≡◌, ◌≤◌, ◌+◌, ◌++◌, ◌∷◌, [], None, option_map, length, take, drop};
 ghost use Rattle.std.specs.Option.{option_copied};
-ghost use Rattle.fs_names.specs.Keys.{last_of};
 ghost use Rattle.fs_names.specs.Limits.{read_limit};
 ghost use Rattle.fs_names.specs.Names.{names_above};
 ghost use Rattle.fs_names.specs.Shapes.{names_of, is_dir};
 ghost use Rattle.fs_nodes.specs.Seen.{seen};
 ghost use Rattle.fs_nodes.specs.Stores as stores;
-ghost use Rattle.fs_nodes.specs.Stores.{shape, graph_of, next_entry, IsNextName};
+ghost use Rattle.fs_nodes.specs.Stores.{shape, graph_of, lent, next_entry, IsNextName};
 ghost use Rattle.fs_calls.specs.Forms as calls;
 ghost use Rattle.fs_calls.specs.Rows.{as_dir, node_row};
 ghost use Rattle.fs_machine.specs.Moves.{walk_errno};
 ghost use Rattle.fs_finish.specs.Lows.{bytes_above};
-ghost use Rattle.fs_finish.specs.Rooms.{SufficesFor};
+ghost use Rattle.fs_finish.specs.Rooms.{SufficesFor, IsRoomFor};
 
+use crate::paths::last_name;
 use crate::replies::Replies;
-use crate::room::{NameRoom, Room, most_listed};
+use crate::room::{NAME_TEXT, Room, most_listed};
 use crate::sights::sight_of;
 use fs_calls::rows::step_error;
 use fs_calls::{Errno, NameList, NodeCall, Reply};
-use fs_names::{Kind, LIST_LIMIT, Limits, Name, Path};
+use fs_names::{Kind, LIST_LIMIT, Limits, Name, NameRoom, Path};
 use fs_nodes::{NodeNo, Store};
 
 /// Why a walk with names left ends at a node.
@@ -59,60 +59,60 @@ pub fn stat(store: &Store, node: NodeNo, limits: Limits) -> Replies
     }
 }
 
-/// The last name of a path, if it has one.
-fn last_name(path: &Path) -> Option<&Name>
-    ensures { bytes_above (option_copied result) ≡ last_of path.now }
-{
-    if path.is_empty() {
-        None
-    } else {
-        Some(path.last_name())
-    }
-}
-
 /// The entry of the least name of a directory, or of the least one above the given name.
-fn first_entry(store: &Store, dir: NodeNo, low: Option<&Name>) -> Option<(Name, NodeNo)>
-    ensures entry { result ≡ next_entry (graph_of store.now) dir (option_copied low.entry) }
-    ensures rest { IsNextName (names_of (shape store.now dir)) (option_copied low.entry) (option_map (λ entry. entry.0) result) }
+fn first_entry<'a>(store: &'a Store, dir: NodeNo, low: Option<&Name>) -> Option<(&'a Name, NodeNo)>
+    ensures entry { lent result ≡ next_entry (graph_of store.now) dir (option_copied low.entry) }
+    ensures rest { IsNextName (names_of (shape store.now dir)) (option_copied low.entry) (option_map (λ entry. entry.0) (lent result)) }
     ensures above { stores.names_above (option_copied low.entry) (names_of (shape store.now dir)) ≡ names_above (bytes_above (option_copied low.entry)) (names_of (shape store.now dir)) }
 {
     match store.next_name(dir, low) {
-        Some((name, node)) => {
+        Some(entry) => {
             // A name has bytes: so all names are above no bytes, since they ascend from the first.
-            let _ = name.bytes();
-            Some((name, node))
+            let _ = entry.0.bytes();
+            Some(entry)
         }
         None => None,
     }
 }
 
-/// Puts the names of a directory above one, the least first and no more than so many, into a vector that has room for so many.
-fn put_names(store: &Store, dir: NodeNo, low: Option<&Name>, most: usize, names: &mut Vec<Name>)
-    requires empty { names.old.items ≡ [] }
-    requires room { most ≤ vec_capacity names.old }
-    ensures told { names.new.items ≡ take most (stores.names_above (option_copied low.entry) (names_of (shape store.now dir))) }
+/// One name more, where there is room for one of any length.
+fn put_name(names: &mut NameRoom, name: &Name)
+    requires { NAME_TEXT ≤ names.old.room }
+    ensures names { names.new.names ≡ names.old.names ++ name.now ∷ [] }
+    ensures room { names.old.room ≤ names.new.room + NAME_TEXT }
+{
+    // A name has no more than 255 bytes.
+    let _ = name.bytes();
+    names.push_reserved(name);
+}
+
+/// Puts the names of a directory above one, the least first and no more than so many, into a list that has room for so many.
+fn put_names(store: &Store, dir: NodeNo, low: Option<&Name>, most: usize, names: &mut NameRoom)
+    requires { IsRoomFor most names.old }
+    ensures told { names.new.names ≡ take most (stores.names_above (option_copied low.entry) (names_of (shape store.now dir))) }
     ensures above { stores.names_above (option_copied low.entry) (names_of (shape store.now dir)) ≡ names_above (bytes_above (option_copied low.entry)) (names_of (shape store.now dir)) }
 {
     let mut next = first_entry(store, dir, low);
-    while let Some((name, node)) = next {
-        if names.len() == most {
+    let mut left = most;
+    while let Some(entry) = next {
+        if left == 0 {
             return;
         }
-        names.push_reserved(name);
-        next = store.next_entry_after(node);
+        put_name(names, entry.0);
+        left -= 1;
+        next = store.next_entry_after(entry.1);
     }
 }
 
-/// Those names, in a vector that had room for them and gives back the rest.
+/// Those names, in a list that had room for them and gives back the rest.
 fn names(store: &Store, dir: NodeNo, low: Option<&Name>, most: usize, room: NameRoom) -> NameList
-    requires { most ≤ room }
+    requires { IsRoomFor most room }
     ensures told { result ≡ take most (stores.names_above (option_copied low.entry) (names_of (shape store.now dir))) }
     ensures above { stores.names_above (option_copied low.entry) (names_of (shape store.now dir)) ≡ names_above (bytes_above (option_copied low.entry)) (names_of (shape store.now dir)) }
 {
-    let mut names = room.into_vec();
+    let mut names = room;
     put_names(store, dir, low, most, &mut names);
-    names.shrink_to_fit();
-    NameList::new(names)
+    names.into_list()
 }
 
 /// All names of the directory, which are no more than a call answers.
@@ -138,7 +138,7 @@ pub fn list(
     store: &Store,
     node: NodeNo,
     after: &Path,
-    count: u64,
+    count: u32,
     limits: Limits,
     prepared: Room,
 ) -> Replies

@@ -1,6 +1,6 @@
 //! How a rename finishes at its two directories.
 
-ghost use Rattle.std.specs.Prelude.{◌≡◌, ◌||◌, ℕ, List, not, false, None, Some, IfSome, IsTrue, is_some};
+ghost use Rattle.std.specs.Prelude.{◌≡◌, ◌||◌, ℕ, List, not, false, None, Some, IfSome, IsSome, IsTrue, is_some};
 ghost use Rattle.fs_names.specs.Limits.{entry_limit};
 ghost use Rattle.fs_names.specs.Shapes.{is_dir, is_there, has_entries, is_full};
 ghost use Rattle.fs_nodes.specs.Graphs.{moved_in, then_at, IsReached};
@@ -10,12 +10,14 @@ ghost use Rattle.fs_calls.specs.Rows.{rename_fault};
 ghost use Rattle.fs_calls.specs.code.Seen.{sight};
 ghost use Rattle.fs_finish.specs.Endings.{IsEffect};
 ghost use Rattle.fs_finish.specs.Plans.{moved, moving, pair_plan};
+ghost use Rattle.fs_finish.specs.Rooms.{FitsName};
 ghost use Rattle.fs_machine.specs.Moves.{there_by};
 
 use crate::finish::Finish;
 use crate::paths::Paths;
 use crate::plan::{Moving, Plan};
 use crate::replies::Replies;
+use crate::room::Room;
 use crate::sights::sight_at;
 use fs_calls::ranges::is_full;
 use fs_calls::rows::PairSight;
@@ -93,6 +95,27 @@ fn clear(store: &mut Store, dir: NodeNo, name: &Name, is_there: bool)
     }
 }
 
+/// An entry goes to another directory, or to another name, by what was prepared for the copy of that. It stands apart, so that the
+/// finish of other calls has no name on its stack.
+#[inline(never)]
+fn relocate(
+    store: &mut Store,
+    from: NodeNo,
+    name: &Name,
+    to: NodeNo,
+    new_name: &Name,
+    prepared: Room,
+)
+    requires room { FitsName new_name.now prepared }
+    requires there { IsSome (child store.old from name.now) }
+    requires dir { IsTrue (is_dir (shape store.old to)) }
+    requires absent { child store.old to new_name.now ≡ None }
+    requires apart { IfSome (child store.old from name.now) (λ node. IsReached (child store.old) node to → ⊥) }
+    ensures { IfSome (child store.old from name.now) (λ node. seen store.new ≡ record (seen store.old) { graph = moved_in from name.now to new_name.now node (graph_of store.old) }) }
+{
+    store.move_entry(from, name, to, prepared.name_of(new_name));
+}
+
 /// An entry goes to the other directory, which is not below what moves, or to another name; the one that the new name had goes
 /// first. The victim is the removed node.
 pub fn rename(
@@ -100,6 +123,7 @@ pub fn rename(
     moving: Moving,
     name: &Name,
     new_name: &Name,
+    prepared: Room,
     reserved: Option<NodeNo>,
 ) -> Finish
     requires real { IsReal (seen store.old) }
@@ -108,12 +132,13 @@ pub fn rename(
     requires replaces { moving.replaces ≡ is_some (child store.old moving.dest new_name.now) }
     requires bare { IfSome (child store.old moving.dest new_name.now) (λ node. has_entries (shape store.old node) ≡ false) }
     requires apart { moving.source ≡ moving.dest → name.now ≡ new_name.now → ⊥ }
+    requires room { FitsName new_name.now prepared }
     requires below { IsReached (child store.old) moving.moved moving.dest → ⊥ }
     ensures made { IsEffect (moved (graph_of store.old) moving name.now new_name.now reserved) result (graph_of store.new) }
     ensures rest { seen store.new ≡ record (seen store.old) { graph = graph_of store.new } }
 {
     clear(store, moving.dest, new_name, moving.replaces);
-    store.move_entry(moving.source, name, moving.dest, new_name);
+    relocate(store, moving.source, name, moving.dest, new_name, prepared);
     Finish {
         replies: Replies::done(),
         reserved,

@@ -1,19 +1,21 @@
-//! The buffers that a call allocates when it begins, so that its finish needs no memory.
+//! What a call takes when it begins, so that nothing can refuse its finish: buffers, and what a copy of a new name needs.
 
 ghost use Rattle.std.specs.Prelude.{◌≡◌, ◌≢◌, ◌≤◌, ◌<◌, ◌+◌, ◌^◌, [], IsTrue, IfOk, OnOk, OnErr, length, take, drop, min, vec_capacity};
+ghost use Rattle.std.specs.Option.{option_copied};
 ghost use Rattle.fs_names.specs.Shapes.{bytes_of};
 ghost use Rattle.fs_names.specs.declared.limits.TheConstants.{LIST_LIMIT};
 ghost use Rattle.fs_nodes.specs.Stores.{shape};
 ghost use Rattle.fs_calls.specs.Forms.{form};
 ghost use Rattle.fs_calls.specs.code.Targets.{form_of, node_call};
-ghost use Rattle.fs_finish.specs.Rooms.{Suffices, SufficesFor, FitsContent, FitsBlocks, FitsChange, FitsCopies, FitsLists};
+ghost use Rattle.fs_finish.specs.Rooms.{Suffices, SufficesFor, FitsContent, FitsBlocks, FitsChange, FitsCopies, FitsLists, FitsName, FitsNew};
 ghost use Rattle.fs_blocks.specs.Spares.{FitsWrite, FitsSize};
 
+use crate::paths::new_name;
 use fs_blocks::Spare;
 use fs_calls::ranges::fits;
 use fs_calls::{Bytes, Call, NodeCall, Target};
 use fs_memory::Memory;
-use fs_names::{LIST_LIMIT, Limits, Name};
+use fs_names::{LIST_LIMIT, Limits, Name, NameOwner, NameRoom};
 use fs_nodes::{NodeNo, Store};
 use std::alloc::{AllocError, Global};
 use std::marker::Model;
@@ -78,42 +80,8 @@ impl ByteRoom {
     }
 }
 
-/// An empty vector of names, seen as how many it has room for.
-#[derive(Drop)]
-pub struct NameRoom {
-    items: Vec<Name>,
-}
-
-impl Model for NameRoom {
-    ghost use Rattle.std.specs.Prelude.{ℕ, ◌≡◌, [], vec_capacity};
-
-    ghost Value = { ℕ };
-
-    ghost view = { λ r. vec_capacity r.items };
-
-    ghost invariant = { λ r. r.items.items ≡ [] };
-}
-
-impl NameRoom {
-    /// Room for this many names. The only error is out of memory.
-    pub fn new(alloc: Global, memory: &mut Memory, count: usize) -> Result<NameRoom, AllocError>
-        ensures ok { IfOk result (λ room. count ≤ room) }
-        ensures granted { OnOk result (memory.new ≡ memory.old) }
-        ensures refused { OnErr result (memory.new ≢ memory.old) }
-    {
-        let items = memory.with_room(alloc, count)?;
-        Ok(NameRoom { items })
-    }
-
-    /// The vector itself, empty, with the room.
-    pub fn into_vec(self) -> Vec<Name>
-        ensures items { result.items ≡ [] }
-        ensures room { vec_capacity result ≡ self }
-    {
-        let NameRoom { items } = self;
-        items
-    }
-}
+/// The most bytes that a name takes up in a list: as many as it can have, and a slash.
+pub const NAME_TEXT: usize = 256;
 
 /// What a call has made room for.
 #[derive(Drop)]
@@ -128,6 +96,8 @@ pub enum Room {
     Copies(ByteRoom, ByteRoom),
     /// The names of two equal replies.
     Lists(NameRoom, NameRoom),
+    /// What a copy of the name needs that the call may give to an entry.
+    Name(NameOwner),
 }
 
 /// For how many times as many bytes as it writes a write makes room beside them, at the most.
@@ -245,21 +215,35 @@ fn copies(alloc: Global, memory: &mut Memory, most: usize, count: u64) -> Result
 }
 
 /// The most names that a list of this count answers.
-pub fn most_listed(count: u64) -> usize
+pub fn most_listed(count: u32) -> usize
     ensures { result ≡ min count LIST_LIMIT }
 {
-    count.min(LIST_LIMIT as u64) as usize
+    count.min(LIST_LIMIT as u32) as usize
 }
 
-/// Room for two times so many names.
+/// Room for two times so many names, of any length.
 fn lists(alloc: Global, memory: &mut Memory, count: usize) -> Result<Room, AllocError>
+    requires { count ≤ LIST_LIMIT }
     ensures ok { IfOk result (FitsLists count) }
     ensures granted { OnOk result (memory.new ≡ memory.old) }
     ensures refused { OnErr result (memory.new ≢ memory.old) }
 {
-    let one = NameRoom::new(alloc, memory, count)?;
-    let other = NameRoom::new(alloc, memory, count)?;
+    let bytes = count * NAME_TEXT;
+    let one = NameRoom::new(alloc, memory, bytes)?;
+    let other = NameRoom::new(alloc, memory, bytes)?;
     Ok(Room::Lists(one, other))
+}
+
+/// What a call needs that may give this name to an entry.
+fn room_for_name(memory: &mut Memory, name: Option<&Name>) -> Result<Room, AllocError>
+    ensures ok { IfOk result (FitsNew (option_copied name.entry)) }
+    ensures granted { OnOk result (memory.new ≡ memory.old) }
+    ensures refused { OnErr result (memory.new ≢ memory.old) }
+{
+    match name {
+        Some(name) => Ok(Room::Name(name.owner(memory)?)),
+        None => Ok(Room::Nothing),
+    }
 }
 
 /// What the finish of a call on a node needs.
@@ -306,13 +290,13 @@ fn room_at(
 {
     match aim {
         Target::Node(call, _) => room_on(alloc, memory, in_blocks, limits, call),
-        Target::Entry(_, _) | Target::Pair(_, _, _) => Ok(Room::Nothing),
+        Target::Entry(_, _) | Target::Pair(_, _, _) => room_for_name(memory, new_name(aim)),
     }
 }
 
 impl Room {
     /// What the finish of a call needs by these limits, in a store with files in blocks, or with each in one vector. The only error
-    /// is out of memory.
+    /// is out of memory, or that a long name has as many owners as are counted.
     pub fn new(
         alloc: Global,
         memory: &mut Memory,
@@ -325,5 +309,16 @@ impl Room {
         ensures refused { OnErr result (memory.new ≢ memory.old) }
     {
         room_at(alloc, memory, in_blocks, limits, call.target())
+    }
+
+    /// The name again, by what was taken for its copy.
+    pub fn name_of(self, name: &Name) -> Name
+        requires { FitsName name.now self }
+        ensures { result ≡ name.now }
+    {
+        match self {
+            Room::Name(owner) => name.copy_with(owner),
+            _ => unreachable!(),
+        }
     }
 }

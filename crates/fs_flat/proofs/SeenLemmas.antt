@@ -1,9 +1,11 @@
 -- What is seen at a key, by the entry that was found there.
-use Rattle.std.proofs.Common.{◌≡◌, ℕ, zero, suc, ◌+◌, ◌<◌, ◌≤◌, min, Bool, true, false, cond, is_some, List, [], ◌∷◌, ◌++◌, length, take, drop, get_or, Some, None, Option, refl, sym, ap, ◌∙◌, arith, append_assoc, append-nil, length-append}
+use Rattle.std.proofs.Common.{◌≡◌, ℕ, zero, suc, ◌+◌, ◌<◌, ◌≤◌, min, Bool, true, false, cond, is_some, List, [], ◌∷◌, ◌++◌, length, filter, take, drop, get_or, Some, None, Option, refl, sym, ap, ◌∙◌, arith, append_assoc, append-nil, length-append}
 use Rattle.std.specs.Prelude.{nat_lt, nat_le}
 use Rattle.std.specs.FinMap.{find}
 use Rattle.std.proofs.lemmas.Bool.Decides.{nat_tests}
-use Rattle.fs_names.specs.Names.{Name}
+use Rattle.std.specs.Borrow.{Bor}
+use Rattle.std.specs.Ordering.{is_lt}
+use Rattle.fs_names.specs.Names.{Name, name_cmp, names_above}
 use Rattle.fs_names.specs.Shapes as shapes
 use Rattle.fs_names.specs.Keys.{Key, key_cmp, after_prefix}
 use Rattle.fs_names.specs.Failures.{or_else}
@@ -24,7 +26,7 @@ use Rattle.fs_calls.specs.declared.errno.Errno.TheVariants.{Enoent, Enotdir}
 use Rattle.fs_calls.specs.declared.reply.Reply.TheVariants as answer
 use Rattle.fs_calls.proofs.LookLemmas.{look-find}
 use Rattle.fs_flat.proofs.KeyLemmas.{drop_next}
-use Rattle.fs_flat.specs.code.Cells.{kind_of, bytes_at, node_in, below_key, IsAt, BelongsAt, GoesOn, IsReached, ReachesOn}
+use Rattle.fs_flat.specs.code.Cells.{lent_names, kind_of, bytes_at, node_in, below_key, IsAt, BelongsAt, GoesOn, IsReached, ReachesOn}
 
 -- what is seen at a key is the shape of what is found there
 seen_by : (t : Tree) (k : Key) (o : Option Node) → find key_cmp k t ≡ o → tree_shapes t k ≡ shape_of t k o
@@ -108,11 +110,11 @@ module _ (t : Tree) (k : Key) where
   pub status_dir : (n : Node) (count : ℕ) → tree_shapes t k ≡ shape_of t k (Some n) → kinds.Dir ≡ kind_of n → count ≡ length (names_in t k) → answer.Stat kinds.Dir count ≡ status (tree_shapes t k)
   status_dir n count is dir e = ap (answer.Stat kinds.Dir) e ∙ sym (ap status (dir_seen n is dir))
 
-  pub names_nowhere : (p : Key) (names : List Name) → k ≡ p → names ≡ [] → tree_shapes t k ≡ shape_of t k None → names ≡ names_of (tree_shapes t p)
-  names_nowhere p names same e is = e ∙ sym (ap names_of is) ∙ ap (λ q. names_of (tree_shapes t q)) same
+  pub names_nowhere : (p : Key) (names : List (Bor Name)) → k ≡ p → names ≡ [] → tree_shapes t k ≡ shape_of t k None → lent_names names ≡ names_of (tree_shapes t p)
+  names_nowhere p names same e is = ap lent_names e ∙ sym (ap names_of is) ∙ ap (λ q. names_of (tree_shapes t q)) same
 
-  pub names_file : (p : Key) (n : Node) (names : List Name) → k ≡ p → names ≡ [] → tree_shapes t k ≡ shape_of t k (Some n) → kinds.File ≡ kind_of n → names ≡ names_of (tree_shapes t p)
-  names_file p n names same e is file = e ∙ sym (ap names_of (file_seen n is file)) ∙ ap (λ q. names_of (tree_shapes t q)) same
+  pub names_file : (p : Key) (n : Node) (names : List (Bor Name)) → k ≡ p → names ≡ [] → tree_shapes t k ≡ shape_of t k (Some n) → kinds.File ≡ kind_of n → lent_names names ≡ names_of (tree_shapes t p)
+  names_file p n names same e is file = ap lent_names e ∙ sym (ap names_of (file_seen n is file)) ∙ ap (λ q. names_of (tree_shapes t q)) same
 
   pub names_dir : (p : Key) (n : Node) (names : List Name) → k ≡ p → names ≡ names_in t k → tree_shapes t k ≡ shape_of t k (Some n) → kinds.Dir ≡ kind_of n → names ≡ names_of (tree_shapes t p)
   names_dir p n names same e is dir = e ∙ sym (ap names_of (dir_seen n is dir)) ∙ ap (λ q. names_of (tree_shapes t q)) same
@@ -287,3 +289,14 @@ reach_end t k i past so_far = sym (so_far ∙ ap (resolve (λ z. tree_shapes t (
     nothing_left [] (suc i) h = refl
     nothing_left (x ∷ k) zero h = absurd (omega arith)
     nothing_left (x ∷ k) (suc i) h = nothing_left k i (omega arith)
+
+-- ---- names that are lent
+
+-- the ones above a name
+pub lent_above : (x : Name) (names : List (Bor Name)) → lent_names (filter (λ y. is_lt (name_cmp x y.now)) names) ≡ names_above x (lent_names names)
+lent_above x [] = refl
+lent_above x (y ∷ names) =
+    elim (is_lt (name_cmp x y.now)) as (λ b. lent_names (cond {A = List (Bor Name)} b (y ∷ filter (λ z. is_lt (name_cmp x z.now)) names) (filter (λ z. is_lt (name_cmp x z.now)) names)) ≡ cond {A = List Name} b (y.now ∷ names_above x (lent_names names)) (names_above x (lent_names names))) [
+      | true ↦ ap (λ z. y.now ∷ z) (lent_above x names)
+      | false ↦ lent_above x names
+    ]

@@ -5,6 +5,7 @@ ghost use Rattle.fs_names.specs.Keys.{after_prefix, parent_of, same_key};
 ghost use Rattle.fs_calls.specs.Tree.{name_in};
 
 use fs_names::{Name, Path};
+use fs_seq::rows::compare;
 use std::alloc::{AllocError, Global};
 use std::cmp::Ordering;
 
@@ -15,7 +16,7 @@ pub(crate) fn names_of(alloc: Global, path: &Path) -> Result<Vec<Name>, AllocErr
 {
     let mut names = Vec::with_capacity(alloc, path.len())?;
     for i in 0..path.len() {
-        names.push(path.name(i).copy())?;
+        names.push(path.name(i).copy()?)?;
     }
     Ok(names)
 }
@@ -25,7 +26,7 @@ fn add(names: &mut Vec<Name>, others: &[Name]) -> Result<(), AllocError>
     ensures { OnOk result (names.new.items ≡ names.old.items ++ others.now) }
 {
     for name in others {
-        names.push(name.copy())?;
+        names.push(name.copy()?)?;
     }
     Ok(())
 }
@@ -94,5 +95,5 @@ pub(crate) fn parent(key: &[Name]) -> &[Name]
 pub(crate) fn same_key(key: &[Name], other: &[Name]) -> bool
     ensures { result ≡ same_key key.now other.now }
 {
-    key.cmp(other) == Ordering::Equal
+    compare(key, other) == Ordering::Equal
 }

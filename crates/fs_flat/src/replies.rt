@@ -9,6 +9,7 @@ ghost use Rattle.fs_calls.specs.Sights.{tree_shapes, names_of};
 ghost use Rattle.fs_calls.specs.Rows.{status, node_reply};
 ghost use Rattle.fs_calls.specs.Forms as forms;
 ghost use Rattle.fs_calls.specs.Outcomes.{success};
+ghost use Rattle.fs_flat.specs.code.Cells.{lent_names};
 
 use crate::cell::Cell;
 use crate::keys::names_of;
@@ -16,7 +17,8 @@ use crate::searching::find;
 use crate::seeing::{bytes_of, count, names};
 use fs_calls::ranges::part;
 use fs_calls::{Bytes, Call, Errno, NameList, Reply};
-use fs_names::{Kind, LIST_LIMIT, Limits, Name, Path};
+use fs_memory::Memory;
+use fs_names::{Kind, LIST_LIMIT, Limits, Name, NameRoom, Path};
 use std::alloc::{AllocError, Global};
 
 /// The kind and the size of what stands at a key.
@@ -36,9 +38,9 @@ fn status(cells: &[Cell], key: &[Name]) -> Reply
 
 /// The names of the directory at a path; of all else none.
 #[tactic(auto, using(crate::proofs::SeenLemmas::names_nowhere, crate::proofs::SeenLemmas::names_file, crate::proofs::SeenLemmas::names_dir))]
-fn names_at(alloc: Global, cells: &[Cell], path: &Path) -> Result<Vec<Name>, AllocError>
+fn names_at<'a>(alloc: Global, cells: &'a [Cell], path: &Path) -> Result<Vec<&'a Name>, AllocError>
     requires { IsTrue (is_sorted key_cmp cells.now) }
-    ensures { IfOk result (λ names. names.items ≡ names_of (tree_shapes cells.now path.now)) }
+    ensures { IfOk result (λ names. lent_names names.items ≡ names_of (tree_shapes cells.now path.now)) }
 {
     let key = names_of(alloc, path)?;
     let Some(cell) = find(cells, &key) else {
@@ -50,31 +52,32 @@ fn names_at(alloc: Global, cells: &[Cell], path: &Path) -> Result<Vec<Name>, All
     }
 }
 
-/// The bytes of a path's last name; the root has none.
-fn last_bytes(path: &Path) -> &[u8]
-    ensures { result.now ≡ last_of path.now }
+/// The names, as a reply has them.
+fn listed(alloc: Global, names: &[&Name]) -> Result<NameList, AllocError>
+    ensures { IfOk result (λ list. list ≡ lent_names names.now) }
 {
-    if path.is_empty() {
-        return &[];
+    let mut list = NameRoom::new(alloc, &mut Memory::new(), 0)?;
+    for name in names {
+        list.push(name)?;
     }
-    path.last_name().bytes()
+    Ok(list.into_list())
 }
 
 /// Names of the directory at a path, those above the last name of another one, and no more than a count.
-fn piece(
+fn piece<'a>(
     alloc: Global,
-    cells: &[Cell],
+    cells: &'a [Cell],
     path: &Path,
     after: &Path,
-    count: u64,
-) -> Result<Vec<Name>, AllocError>
+    count: u32,
+) -> Result<Vec<&'a Name>, AllocError>
     requires { IsTrue (is_sorted key_cmp cells.now) }
-    ensures { IfOk result (λ names. names.items ≡ take (min count LIST_LIMIT) (names_above (last_of after.now) (names_of (tree_shapes cells.now path.now)))) }
+    ensures { IfOk result (λ names. lent_names names.items ≡ take (min count LIST_LIMIT) (names_above (last_of after.now) (names_of (tree_shapes cells.now path.now)))) }
 {
     let mut names = names_at(alloc, cells, path)?;
-    let bytes = last_bytes(after);
+    let bytes = after.last_bytes();
     names.retain(|name| name.is_above(bytes));
-    names.truncate(count.min(LIST_LIMIT as u64) as usize);
+    names.truncate((count as usize).min(LIST_LIMIT));
     Ok(names)
 }
 
@@ -114,10 +117,10 @@ pub(crate) fn success(
             let key = names_of(alloc, path)?;
             Ok(status(cells, &key))
         }
-        Call::Readdir(path) => Ok(Reply::Names(NameList::new(names_at(alloc, cells, path)?))),
+        Call::Readdir(path) => Ok(Reply::Names(listed(alloc, &names_at(alloc, cells, path)?)?)),
         Call::ListAfter(path, after, count) => {
             let names = piece(alloc, cells, path, after, *count)?;
-            Ok(Reply::Names(NameList::new(names)))
+            Ok(Reply::Names(listed(alloc, &names)?))
         }
         Call::Read(path, off, count) => Ok(bytes_at(alloc, cells, limits, path, *off, *count)?),
         Call::Write(_, _, bytes) => Ok(Reply::Wrote(bytes.as_slice().len() as u64)),

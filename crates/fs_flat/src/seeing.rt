@@ -8,7 +8,7 @@ ghost use Rattle.fs_names.specs.Shapes as shapes;
 ghost use Rattle.fs_calls.specs.Tree.{names_in};
 ghost use Rattle.fs_calls.specs.Sights.{tree_shapes, has_any, bytes_of, is_full, resolve, resolve_dir};
 ghost use Rattle.fs_calls.specs.code.Seen.{sight};
-ghost use Rattle.fs_flat.specs.code.Cells.{GoesOn, ReachesOn};
+ghost use Rattle.fs_flat.specs.code.Cells.{GoesOn, ReachesOn, lent_names};
 
 use crate::cell::Cell;
 use crate::keys::name_in;
@@ -76,19 +76,23 @@ pub(crate) fn count(cells: &[Cell], dir: &[Name]) -> usize
 }
 
 /// Adds the name of an entry, if it is one of a directory.
-fn push_name(names: &mut Vec<Name>, dir: &[Name], cell: &Cell) -> Result<(), AllocError>
-    ensures { OnOk result (names.new.items ≡ names.old.items ++ names_in (cell.now ∷ []) dir.now) }
+fn push_name<'a>(names: &mut Vec<&'a Name>, dir: &[Name], cell: &'a Cell) -> Result<(), AllocError>
+    ensures { OnOk result (lent_names names.new.items ≡ lent_names names.old.items ++ names_in (cell.now ∷ []) dir.now) }
 {
     if let Some(name) = name_in(dir, cell.key()) {
-        names.push(name.copy())?;
+        names.push(name)?;
     }
     Ok(())
 }
 
 /// The names of those of these that are entries of a directory, in order.
 #[tactic(auto, using(crate::proofs::SeenLemmas::names_next))]
-fn names_among(alloc: Global, cells: &[Cell], dir: &[Name]) -> Result<Vec<Name>, AllocError>
-    ensures { IfOk result (λ names. names.items ≡ names_in cells.now dir.now) }
+fn names_among<'a>(
+    alloc: Global,
+    cells: &'a [Cell],
+    dir: &[Name],
+) -> Result<Vec<&'a Name>, AllocError>
+    ensures { IfOk result (λ names. lent_names names.items ≡ names_in cells.now dir.now) }
 {
     let mut names = Vec::new(alloc);
     for cell in cells {
@@ -99,9 +103,13 @@ fn names_among(alloc: Global, cells: &[Cell], dir: &[Name]) -> Result<Vec<Name>,
 
 /// The names of a directory, in order.
 #[tactic(auto, using(crate::proofs::SeenLemmas::names_below))]
-pub(crate) fn names(alloc: Global, cells: &[Cell], dir: &[Name]) -> Result<Vec<Name>, AllocError>
+pub(crate) fn names<'a>(
+    alloc: Global,
+    cells: &'a [Cell],
+    dir: &[Name],
+) -> Result<Vec<&'a Name>, AllocError>
     requires { IsTrue (is_sorted key_cmp cells.now) }
-    ensures { IfOk result (λ names. names.items ≡ names_in cells.now dir.now) }
+    ensures { IfOk result (λ names. lent_names names.items ≡ names_in cells.now dir.now) }
 {
     Ok(names_among(alloc, below(cells, dir), dir)?)
 }

@@ -1,13 +1,13 @@
 -- What is read from a source and written to a sink.
-use Rattle.std.specs.Prelude.{◌≡◌, ◌≢◌, ◌<◌, ◌+◌, ◌⊎◌, ℕ, List, length, take, Option, Result, Ok, Err, IsErrOf, OnErr}
+use Rattle.std.specs.Prelude.{◌≡◌, ◌≢◌, true, ◌<◌, ◌+◌, ◌⊎◌, ℕ, List, length, take, Option, Result, Ok, Err, IsErrOf, OnErr}
 use Rattle.std.specs.Io.KnownBytes.{Appends}
-use Rattle.fs_words.specs.declared.limits.TheConstants.{TEXT_LIMIT}
+use Rattle.fs_words.specs.Headers.{is_too_long}
 use Rattle.fs_io.specs.declared.failure.Failure.{Failure}
 use Rattle.fs_io.specs.declared.failure.Failure.TheVariants.{Read, Write, OutOfMemory, Unmade}
 
--- the text is the input, or both are too long
+-- the text is the input, or both are longer than their first line allows
 abbrev pub IsSameText : List ℕ → List ℕ → Type 0
-IsSameText text input = (text ≡ input) ⊎ ((TEXT_LIMIT < length text) × (TEXT_LIMIT < length input))
+IsSameText text input = (text ≡ input) ⊎ ((is_too_long text ≡ true) × (is_too_long input ≡ true))
 
 -- the source failed once more, or an allocation failed
 abbrev pub FailsToRead : {E : Type 0} → ℕ → ℕ → Failure E → Type 0

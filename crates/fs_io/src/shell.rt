@@ -1,14 +1,14 @@
 //! From a source to a sink.
 
-ghost use Rattle.std.specs.Prelude.{◌≡◌, ◌≢◌, ◌+◌, ◌-◌, ◌<◌, ◌≤◌, ◌^◌, ℕ, List, Ok, Err, IfOk, OnErr, IfSome, IsErrOf, length};
+ghost use Rattle.std.specs.Prelude.{◌≡◌, ◌≢◌, ◌+◌, ◌-◌, ◌<◌, ◌^◌, ℕ, List, Ok, Err, IfOk, OnErr, IfSome, IsErrOf, false};
 ghost use Rattle.std.specs.Io.KnownBytes.{Appends, IsAtEnd};
+ghost use Rattle.fs_words.specs.Headers.{is_too_long};
 ghost use Rattle.fs_io.specs.Devices.{IsSameText, KeepsDevices, WritesBeginning};
 
 use crate::device::{Failed, Sink, Source};
 use crate::failure::Failure;
 use crate::sink::write_text;
 use crate::source::read_text;
-use fs_words::TEXT_LIMIT;
 use std::alloc::Global;
 
 /// A text, and what is answered once it is written.
@@ -31,7 +31,7 @@ pub fn transform<R: Source, W: Sink, T: Drop, E: Drop, F: FnOnce(Vec<u8>) -> Res
     requires any { (v : _) → F.pre make v }
 
     // What is answered and written is what was made of what was read.
-    ensures made { IfOk result (λ end. (v : _) × (made : _) × IfSome (R.remaining reader.old) (IsSameText v.items) × (length v.items ≤ TEXT_LIMIT → IsAtEnd (R.remaining reader.new)) × F.post make v (Ok made) × (end ≡ made.end) × Appends (W.contents writer.old) (W.contents writer.new) made.text.items) }
+    ensures made { IfOk result (λ end. (v : _) × (made : _) × IfSome (R.remaining reader.old) (IsSameText v.items) × (is_too_long v.items ≡ false → IsAtEnd (R.remaining reader.new)) × F.post make v (Ok made) × (end ≡ made.end) × Appends (W.contents writer.old) (W.contents writer.new) made.text.items) }
     ensures unmade { (e : _) → result ≡ Err (Failure.Unmade e) → (v : _) × IfSome (R.remaining reader.old) (IsSameText v.items) × F.post make v (Err e) }
 
     // A device is blamed only where it failed in this call; after a failed write a beginning of the text stands, and after every

@@ -1,19 +1,21 @@
 //! A whole text that is read from a source.
 
-ghost use Rattle.std.specs.Prelude.{◌≡◌, ◌≢◌, ◌+◌, ◌-◌, ◌<◌, ◌≤◌, ◌^◌, ◌++◌, ℕ, List, length, IfOk, OnOk, IfErr, IfSome, IsErrOf, vec_len};
+ghost use Rattle.std.specs.Prelude.{◌≡◌, ◌≢◌, ◌+◌, ◌-◌, ◌<◌, ◌≤◌, ◌^◌, ◌++◌, ℕ, List, length, IfOk, OnOk, IfErr, IfSome, IsErrOf, vec_len, false};
 ghost use Rattle.std.specs.Io.KnownBytes.{Consumes, IsAtEnd};
+ghost use Rattle.fs_words.specs.Headers.{is_too_long};
 ghost use Rattle.fs_io.specs.Devices.{IsSameText, FailsToRead};
 
 use crate::device::Source;
 use crate::failure::Failure;
 use fs_words::TEXT_LIMIT;
+use fs_words::headers::limit_of_text;
 use std::alloc::Global;
 
 /// The most bytes that one read asks for.
 const PIECE: usize = 8_192;
 
-/// One byte more than a text has at most, which tells that a text is too long.
-const MOST: usize = TEXT_LIMIT + 1;
+/// One byte more than a text has at most whose first line allows no more. So many are read before the first line is looked at.
+const FIRST: usize = TEXT_LIMIT + 1;
 
 /// Adds what one read gives, at most `room` bytes, by way of a buffer, and answers how many.
 fn read_piece<R: Source, E: Drop>(
@@ -40,23 +42,27 @@ fn read_piece<R: Source, E: Drop>(
     }
 }
 
-/// Reads to the end, or to one byte above the limit of texts.
+/// Reads to the end, or to one byte more than the first line of the text allows.
+#[tactic(auto, using(fs_words::proofs::HeaderLemmas::most_of_text))]
 fn read_all<R: Source, E: Drop>(alloc: Global, reader: &mut R) -> Result<Vec<u8>, Failure<E>>
     requires { R.failures reader.old < 2 ^ 64 - 1 }
     ensures ok { IfOk result (λ v. Consumes (R.remaining reader.old) (R.remaining reader.new) v.items) }
-    ensures most { IfOk result (λ v. vec_len v ≤ MOST) }
-    ensures end { IfOk result (λ v. vec_len v ≤ TEXT_LIMIT → IsAtEnd (R.remaining reader.new)) }
+    ensures end { IfOk result (λ v. is_too_long v.items ≡ false → IsAtEnd (R.remaining reader.new)) }
     ensures fault { IfErr result (FailsToRead (R.failures reader.old) (R.failures reader.new)) }
 {
     let mut text = Vec::new(alloc);
     let mut buffer = [0u8; PIECE];
-    'pieces: while text.len() < MOST {
-        let count = match read_piece(reader, MOST - text.len(), &mut buffer, &mut text) {
+    let mut most = FIRST;
+    'pieces: while text.len() < most {
+        let count = match read_piece(reader, most - text.len(), &mut buffer, &mut text) {
             Ok(count) => count,
             Err(fault) => return Err(fault),
         };
         if count == 0 {
             return Ok(text);
+        }
+        if text.len() == most {
+            most = most.max(limit_of_text(&text) + 1);
         }
     }
     Ok(text)
@@ -69,7 +75,7 @@ pub(crate) fn read_text<R: Source, E: Drop>(
 ) -> Result<Vec<u8>, Failure<E>>
     requires { R.failures reader.old < 2 ^ 64 - 1 }
     ensures same { IfOk result (λ v. IfSome (R.remaining reader.old) (IsSameText v.items)) }
-    ensures end { IfOk result (λ v. vec_len v ≤ TEXT_LIMIT → IsAtEnd (R.remaining reader.new)) }
+    ensures end { IfOk result (λ v. is_too_long v.items ≡ false → IsAtEnd (R.remaining reader.new)) }
     ensures fault { IfErr result (FailsToRead (R.failures reader.old) (R.failures reader.new)) }
 {
     read_all(alloc, reader)

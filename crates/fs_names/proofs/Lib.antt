@@ -7,4 +7,7 @@ pub mod PrefixLemmas
 pub mod SearchLemmas
 pub mod BlockLemmas
 pub mod CutLemmas
+pub mod WrittenLemmas
 pub mod LimitLemmas
+pub mod HeadLemmas
+pub mod PaddedLemmas

@@ -1,9 +1,11 @@
 pub mod Failures
 pub mod Limits
 pub mod Names
+pub mod Heads
 pub mod Keys
 pub mod Parts
 pub mod Shapes
 pub mod Reading
+pub mod Rooms
 pub mod Examples
 pub mod code

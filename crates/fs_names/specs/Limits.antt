@@ -24,7 +24,7 @@ path_limit V3 = 2048
 abbrev pub name_limit : Limits → ℕ
 name_limit V1 = 32
 name_limit V2 = 64
-name_limit V3 = 64
+name_limit V3 = 255
 
 -- the most entries of a directory
 abbrev pub entry_limit : Limits → ℕ

@@ -1,5 +1,5 @@
 -- What names are, and their order.
-use Rattle.std.specs.Prelude.{◌≡◌, ◌<◌, ℕ, Bool, true, false, List, [], ◌∷◌, if◌then◌else◌, ◌&&◌, not, ◌==◌, nat_eq, nat_le, length, filter}
+use Rattle.std.specs.Prelude.{◌≡◌, ◌<◌, ℕ, Bool, true, false, List, [], ◌∷◌, if◌then◌else◌, ◌&&◌, not, ◌==◌, nat_eq, nat_le, nat_lt, length, filter, Option, Some, None}
 use lib.Pointwise.{pointwise}
 use Rattle.std.specs.Ordering.{nat_cmp, eq_by_cmp, is_lt}
 use Rattle.std.specs.declared.cmp.Ordering.{Ordering}
@@ -25,6 +25,18 @@ is_dots (a ∷ b ∷ c ∷ more) = false
 -- one byte or more, and no more than the greatest limit, that may stand, and neither one dot nor two
 abbrev pub can_name : Name → Bool
 can_name name = nat_le 1 (length name) && nat_le (length name) (name_limit largest) && list_all may_stand name && not (is_dots name)
+
+-- a name whose bytes do not stand in place, but are shared by its copies
+abbrev pub is_long : Name → Bool
+is_long name = nat_lt 64 (length name)
+
+-- a name that is not
+abbrev pub can_name_in_place : Name → Bool
+can_name_in_place name = nat_le (length name) 64 && can_name name
+
+-- the bytes that a name shares with its copies
+abbrev pub shared_bytes : Name → Option Name
+shared_bytes name = if is_long name then Some name else None
 
 -- each is below 256
 abbrev pub AreBytes : List ℕ → Type 0
@@ -65,3 +77,7 @@ names_above x ys = filter (λ y. is_lt (name_cmp x y)) ys
 -- whether two lists of bytes are the same
 abbrev pub same_bytes : List ℕ → List ℕ → Bool
 same_bytes = pointwise nat_eq
+
+-- whether two lists of names are the same
+abbrev pub same_names : List Name → List Name → Bool
+same_names = pointwise same_bytes

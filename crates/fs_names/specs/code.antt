@@ -1,3 +1,5 @@
 -- What ties the code to the definitions: of it nothing has to be believed.
+pub mod HeldNames
+pub mod NameTexts
 pub mod SharedNames
 pub mod Marks

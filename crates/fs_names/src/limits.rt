@@ -23,7 +23,7 @@ pub enum Limits {
     /// A path in a text has at most 64 names, each of at most 64 bytes, a directory at most 256 entries, a file at
     /// most 1,048,576 bytes.
     V2,
-    /// A path in a text has at most 2,048 names, each of at most 64 bytes, a directory at most 1,048,576 entries, a
+    /// A path in a text has at most 2,048 names, each of at most 255 bytes, a directory at most 1,048,576 entries, a
     /// file at most 2,147,483,648 bytes, which are in blocks.
     V3,
 }
@@ -60,7 +60,7 @@ impl Limits {
         match self {
             Limits::V1 => 32,
             Limits::V2 => 64,
-            Limits::V3 => 64,
+            Limits::V3 => 255,
         }
     }
 
@@ -122,7 +122,7 @@ impl Limits {
         }
     }
 
-    /// Whether a text may have the call that lists a directory in pieces.
+    /// Whether the call that lists a directory in pieces is one of a text, and of the library for C.
     #[inline]
     pub fn has_list(self) -> bool
         ensures { result ≡ has_list self }

@@ -99,7 +99,8 @@ fn names_of(alloc: Global, texts: &[&[u8]]) -> Result<Vec<Name>, AllocError>
 {
     let mut names = Vec::with_capacity(alloc, texts.len())?;
     for text in texts {
-        names.push_reserved(Name::of(text));
+        let name = Name::of(alloc, text)?;
+        names.push_reserved(name);
     }
     Ok(names)
 }

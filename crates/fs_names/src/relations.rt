@@ -24,6 +24,16 @@ impl Path {
         self.name(self.len() - 1)
     }
 
+    /// The bytes of the last name. The root has none.
+    pub fn last_bytes(&self) -> &[u8]
+        ensures { result.now ≡ last_of self.now }
+    {
+        if self.is_empty() {
+            return &[];
+        }
+        self.last_name().bytes()
+    }
+
     /// Whether both have the same names.
     pub fn same(&self, other: &Path) -> bool
         ensures { result ≡ is_end (after_prefix self.now other.now) }

@@ -38,9 +38,9 @@ form_put b dir n name prev next ps qs e h = subst (HaveForm b) (sym e)
     (form_edited b n (entered (Some dir) name prev next) _ (λ p g. g) (form_followed b next (Some n) _ (form_led b dir prev (Some n) _ (form_edited b dir (λ p. with_entries (p.entries + 1) p) ps (λ p g. g) h))))
 
 -- a node leaves its place between two siblings
-pub form_taken : (b : Bool) (dir n : ℕ) (prev next : Option ℕ) (ps qs : List Place) → qs ≡ taken_out dir n prev next ps → HaveForm b ps → HaveForm b qs
-form_taken b dir n prev next ps qs e h = subst (HaveForm b) (sym e)
-    (form_edited b n (λ p. entered None p.name None None p) _ (λ p g. g) (form_followed b next prev _ (form_led b dir prev next _ (form_edited b dir (λ p. with_entries (p.entries - 1) p) ps (λ p g. g) h))))
+pub form_taken : (b : Bool) (dir n : ℕ) (blank : Name) (prev next : Option ℕ) (ps qs : List Place) → qs ≡ taken_out dir n blank prev next ps → HaveForm b ps → HaveForm b qs
+form_taken b dir n blank prev next ps qs e h = subst (HaveForm b) (sym e)
+    (form_edited b n (entered None blank None None) _ (λ p g. g) (form_followed b next prev _ (form_led b dir prev next _ (form_edited b dir (λ p. with_entries (p.entries - 1) p) ps (λ p g. g) h))))
 
 -- what is told of the tree beside the siblings says nothing of files
 form_bare : (b : Bool) (ps : List Place) → HaveForm b ps → HaveForm b (bared ps)

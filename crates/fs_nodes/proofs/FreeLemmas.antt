@@ -21,7 +21,7 @@ use Rattle.fs_graph.proofs.EqualLemmas.{eqb_true}
 use Rattle.fs_plain.proofs.PlaceLemmas.{child_link, read_within}
 use Rattle.fs_plain.proofs.EditLemmas.{place_within, child_within, past_shape}
 use Rattle.fs_places.proofs.EditLemmas.{read_place}
-use Rattle.fs_nodes.proofs.StepLemmas.{dir_has, get_some, next_within, dir_length}
+use Rattle.fs_nodes.proofs.StepLemmas.{dir_has, get_some, next_within, dir_length, entry_parts, child_place}
 use Rattle.fs_nodes.proofs.UnlinkLemmas.{take_place, get_taken, plains_taken, take_makes}
 use Rattle.fs_places.proofs.EditLemmas.{length_edited}
 use Rattle.fs_nodes.proofs.LinkLemmas.{is_at, put_place, get_put, plains_put, put_makes, used_content, at_true, child_low, true_false, eqb_false}
@@ -178,55 +178,55 @@ count_past ps dir h =
     ap (λ (o : Option Shape). length (names_of o)) (sym e)
 
 -- there are as many places as before
-pub length_taken : (dir n : ℕ) (prev next : Option ℕ) (ps : List Place) → length (taken_out dir n prev next ps) ≡ length ps
-length_taken dir n prev next ps = length_edited n (λ p. entered None p.name None None p) _ ∙ length_followed next prev _ ∙ length_led dir prev next _ ∙ length_edited dir (λ p. with_entries (p.entries - 1) p) ps
+pub length_taken : (dir n : ℕ) (blank : Name) (prev next : Option ℕ) (ps : List Place) → length (taken_out dir n blank prev next ps) ≡ length ps
+length_taken dir n blank prev next ps = length_edited n (entered None blank None None) _ ∙ length_followed next prev _ ∙ length_led dir prev next _ ∙ length_edited dir (λ p. with_entries (p.entries - 1) p) ps
 
 -- a node that leaves its place: the free places are as before
-pub take_list : (ps : List Place) (dir n : ℕ) (x : Name) (prev next head : Option ℕ) (p : Place) → slice_get ps n ≡ Some p → (graph_of_places ps).child dir x ≡ Some n → IsGap (graph_of_places (taken_out dir n prev next ps)) dir x prev next → IsFreeList ps head → IsFreeList (taken_out dir n prev next ps) head
-take_list ps dir n x prev next head p e child gap l = list_kept ps (taken_out dir n prev next ps) head ways same l
+pub take_list : (ps : List Place) (dir n : ℕ) (x blank : Name) (prev next head : Option ℕ) (p : Place) → slice_get ps n ≡ Some p → (graph_of_places ps).child dir x ≡ Some n → IsGap (graph_of_places (taken_out dir n blank prev next ps)) dir x prev next → IsFreeList ps head → IsFreeList (taken_out dir n blank prev next ps) head
+take_list ps dir n x blank prev next head p e child gap l = list_kept ps (taken_out dir n blank prev next ps) head ways same l
   where
-    same : (k : ℕ) → is_free (slice_get (plains (taken_out dir n prev next ps)) k) ≡ is_free (slice_get (plains ps) k)
-    same k = ap (λ (z : List (Option Node)). is_free (slice_get z k)) (plains_taken dir n prev next ps p e) ∙ free_set (plains ps) n (plain p) (relinked (plain p) None) (slice_get-map plain ps n ∙ ap (option_map plain) e) (relinked_none (plain p) None) k
+    same : (k : ℕ) → is_free (slice_get (plains (taken_out dir n blank prev next ps)) k) ≡ is_free (slice_get (plains ps) k)
+    same k = ap (λ (z : List (Option Node)). is_free (slice_get z k)) (plains_taken dir n blank prev next ps p e) ∙ free_set (plains ps) n (plain p) (relinked (plain p) None) (slice_get-map plain ps n ∙ ap (option_map plain) e) (relinked_none (plain p) None) k
 
     not_prev : (k : ℕ) → is_free (slice_get (plains ps) k) ≡ true → is_at prev k ≡ false
-    not_prev k f = eqb_false (is_at prev k) (λ g. far (child_low (graph_of_places (taken_out dir n prev next ps)) dir gap.low prev k gap.is_low (at_true prev k g)))
+    not_prev k f = eqb_false (is_at prev k) (λ g. far (child_low (graph_of_places (taken_out dir n blank prev next ps)) dir gap.low prev k gap.is_low (at_true prev k g)))
       where
-        far : (y : Name) × (gap.low ≡ Some y) × ((graph_of_places (taken_out dir n prev next ps)).child dir y ≡ Some k) → ⊥
-        far r = linked_not_free (plains (taken_out dir n prev next ps)) k (record { dir = dir; name = r.0 }) (child_link (plains (taken_out dir n prev next ps)) dir r.0 k r.2) (same k ∙ f)
+        far : (y : Name) × (gap.low ≡ Some y) × ((graph_of_places (taken_out dir n blank prev next ps)).child dir y ≡ Some k) → ⊥
+        far r = linked_not_free (plains (taken_out dir n blank prev next ps)) k (record { dir = dir; name = r.0 }) (child_link (plains (taken_out dir n blank prev next ps)) dir r.0 k r.2) (same k ∙ f)
 
     not_node : (k : ℕ) → is_free (slice_get (plains ps) k) ≡ true → eqb k n ≡ false
     not_node k f = eqb_false (eqb k n) (λ g. linked_not_free (plains ps) n (record { dir = dir; name = x }) (child_link (plains ps) dir x n child) (ap (λ (z : ℕ). is_free (slice_get (plains ps) z)) (sym (eqb_true k n g)) ∙ f))
 
-    ways : (k : ℕ) → is_free (slice_get (plains ps) k) ≡ true → next_at (taken_out dir n prev next ps) k ≡ next_at ps k
-    ways k f = ap (λ (o : Option Place). then_at o (λ p. p.next)) (get_taken dir n prev next ps k) ∙ go (slice_get ps k)
+    ways : (k : ℕ) → is_free (slice_get (plains ps) k) ≡ true → next_at (taken_out dir n blank prev next ps) k ≡ next_at ps k
+    ways k f = ap (λ (o : Option Place). then_at o (λ p. p.next)) (get_taken dir n blank prev next ps k) ∙ go (slice_get ps k)
       where
-        go : (o : Option Place) → then_at (option_map (take_place dir n prev next k) o) (λ p. p.next) ≡ then_at o (λ p. p.next)
+        go : (o : Option Place) → then_at (option_map (take_place dir n blank prev next k) o) (λ p. p.next) ≡ then_at o (λ p. p.next)
         go None = refl
         go (Some q) = ap₂ (λ (a b : Bool). cond a None (cond b next q.next)) (not_node k f) (not_prev k f)
 
 -- an unlink, whole
-pub linked_unlink : (limit : ℕ) (ps qs : List Place) (free : Option ℕ) (dir n : ℕ) (x : Name) (p : Place) (prev next : Option ℕ) → IsLinked limit ps free → slice_get ps n ≡ Some p → prev ≡ p.prev → next ≡ p.next → (graph_of_places ps).child dir x ≡ Some n
-    → qs ≡ taken_out dir n prev next ps → (graph_of_places qs ≡ unlinked_in dir x (graph_of_places ps)) × IsLinked limit qs free
-linked_unlink limit ps qs free dir n x p prev next s there a b child e =
-    let made : (graph_of_places (taken_out dir n p.prev p.next ps) ≡ unlinked_in dir x (graph_of_places ps)) × IsPlaces (taken_out dir n p.prev p.next ps) × IsGap (graph_of_places (taken_out dir n p.prev p.next ps)) dir x p.prev p.next = take_makes ps dir n x p s.places there child in
-    let l : length (taken_out dir n p.prev p.next ps) ≡ length ps = length_taken dir n p.prev p.next ps in
-    let f : qs ≡ taken_out dir n p.prev p.next ps = e ∙ ap₂ (λ (i j : Option ℕ). taken_out dir n i j ps) a b in
+pub linked_unlink : (limit : ℕ) (ps qs : List Place) (free : Option ℕ) (dir n : ℕ) (x blank : Name) (p : Place) (prev next : Option ℕ) → IsLinked limit ps free → slice_get ps n ≡ Some p → prev ≡ p.prev → next ≡ p.next → (graph_of_places ps).child dir x ≡ Some n
+    → qs ≡ taken_out dir n blank prev next ps → (graph_of_places qs ≡ unlinked_in dir x (graph_of_places ps)) × IsLinked limit qs free
+linked_unlink limit ps qs free dir n x blank p prev next s there a b child e =
+    let made : (graph_of_places (taken_out dir n blank p.prev p.next ps) ≡ unlinked_in dir x (graph_of_places ps)) × IsPlaces (taken_out dir n blank p.prev p.next ps) × IsGap (graph_of_places (taken_out dir n blank p.prev p.next ps)) dir x p.prev p.next = take_makes ps dir n x blank p s.places there child in
+    let l : length (taken_out dir n blank p.prev p.next ps) ≡ length ps = length_taken dir n blank p.prev p.next ps in
+    let f : qs ≡ taken_out dir n blank p.prev p.next ps = e ∙ ap₂ (λ (i j : Option ℕ). taken_out dir n blank i j ps) a b in
     subst (λ (z : List Place). (graph_of_places z ≡ unlinked_in dir x (graph_of_places ps)) × IsLinked limit z free) (sym f) (
       made.0,
       record {
         most = s.most;
         within = (let h : length ps ≤ limit = s.within in omega arith);
         places = made.1;
-        list = take_list ps dir n x p.prev p.next free p there child made.2 s.list;
+        list = take_list ps dir n x blank p.prev p.next free p there child made.2 s.list;
       },
     )
 
 -- the siblings of a node are places
 pub side_within : (ps : List Place) (dir n : ℕ) (x : Name) (p : Place) → IsPlaces ps → slice_get ps n ≡ Some p → (graph_of_places ps).child dir x ≡ Some n → IfSome p.prev (λ k. k < length ps) × IfSome p.next (λ k. k < length ps)
 side_within ps dir n x p places there child =
-    let made : (graph_of_places (taken_out dir n p.prev p.next ps) ≡ unlinked_in dir x (graph_of_places ps)) × IsPlaces (taken_out dir n p.prev p.next ps) × IsGap (graph_of_places (taken_out dir n p.prev p.next ps)) dir x p.prev p.next = take_makes ps dir n x p places there child in
-    let l : length (taken_out dir n p.prev p.next ps) ≡ length ps = length_taken dir n p.prev p.next ps in
-    (subst (λ (z : ℕ). IfSome p.prev (λ k. k < z)) l (gap_prev (taken_out dir n p.prev p.next ps) dir x p.prev p.next made.2), subst (λ (z : ℕ). IfSome p.next (λ k. k < z)) l (gap_next (taken_out dir n p.prev p.next ps) dir x p.prev p.next made.2))
+    let made : (graph_of_places (taken_out dir n x p.prev p.next ps) ≡ unlinked_in dir x (graph_of_places ps)) × IsPlaces (taken_out dir n x p.prev p.next ps) × IsGap (graph_of_places (taken_out dir n x p.prev p.next ps)) dir x p.prev p.next = take_makes ps dir n x x p places there child in
+    let l : length (taken_out dir n x p.prev p.next ps) ≡ length ps = length_taken dir n x p.prev p.next ps in
+    (subst (λ (z : ℕ). IfSome p.prev (λ k. k < z)) l (gap_prev (taken_out dir n x p.prev p.next ps) dir x p.prev p.next made.2), subst (λ (z : ℕ). IfSome p.next (λ k. k < z)) l (gap_next (taken_out dir n x p.prev p.next ps) dir x p.prev p.next made.2))
 
 -- a directory with an entry counts one at least
 pub some_entries : (ps : List Place) (dir n : ℕ) (x : Name) → IsPlaces ps → (graph_of_places ps).child dir x ≡ Some n → IfSome (slice_get ps dir) (λ p. 1 ≤ p.entries)
@@ -259,6 +259,13 @@ child_inside ps dir n x child =
     let l : length (plains ps) ≡ length ps = length-map ps plain in
     omega arith
 
+-- and has its name
+pub label_read : (ps : List Place) (dir n : ℕ) (x label : Name) → (graph_of_places ps).child dir x ≡ Some n → IfSome (slice_get ps n) (λ p. label ≡ p.name) → label ≡ x
+label_read ps dir n x label child told =
+    let r : (p : Place) × (slice_get ps n ≡ Some p) = get_some ps n (child_inside ps dir n x child) in
+    let h : label ≡ r.0.name = subst (λ (o : Option Place). IfSome o (λ p. label ≡ p.name)) r.1 told in
+    h ∙ (entry_parts r.0 dir x (child_place ps dir x n r.0 r.1 child)).1
+
 -- and so is its directory's
 pub dir_inside : (ps : List Place) (dir n : ℕ) (x : Name) → IsPlaces ps → (graph_of_places ps).child dir x ≡ Some n → dir < length ps
 dir_inside ps dir n x places child =
@@ -276,8 +283,8 @@ side_read ps dir n x prev next places child both =
     (subst (λ (o : Option ℕ). IfSome o (λ k. k < length ps)) (sym r.2) t.0, subst (λ (o : Option ℕ). IfSome o (λ k. k < length ps)) (sym r.3) t.1)
 
 -- an unlink, as the code makes it
-pub unlink_read : (limit : ℕ) (ps qs : List Place) (free : Option ℕ) (dir n : ℕ) (x : Name) (prev next : Option ℕ) → IsLinked limit ps free → (graph_of_places ps).child dir x ≡ Some n → IfSome (slice_get ps n) (λ p. (prev ≡ p.prev) × (next ≡ p.next))
-    → qs ≡ taken_out dir n prev next ps → (graph_of_places qs ≡ unlinked_in dir x (graph_of_places ps)) × IsLinked limit qs free
-unlink_read limit ps qs free dir n x prev next s child both e =
+pub unlink_read : (limit : ℕ) (ps qs : List Place) (free : Option ℕ) (dir n : ℕ) (x blank : Name) (prev next : Option ℕ) → IsLinked limit ps free → (graph_of_places ps).child dir x ≡ Some n → IfSome (slice_get ps n) (λ p. (prev ≡ p.prev) × (next ≡ p.next))
+    → qs ≡ taken_out dir n blank prev next ps → (graph_of_places qs ≡ unlinked_in dir x (graph_of_places ps)) × IsLinked limit qs free
+unlink_read limit ps qs free dir n x blank prev next s child both e =
     let r : (p : Place) × (slice_get ps n ≡ Some p) × (prev ≡ p.prev) × (next ≡ p.next) = child_read ps dir n x prev next child both in
-    linked_unlink limit ps qs free dir n x r.0 prev next s r.1 r.2 r.3 child e
+    linked_unlink limit ps qs free dir n x blank r.0 prev next s r.1 r.2 r.3 child e

@@ -100,8 +100,8 @@ unlinked_node : (o : Option Node) → link_of (relinked o None) ≡ None
 unlinked_node None = refl
 unlinked_node (Some node) = refl
 
-pub keys_taken : (dir n : ℕ) (prev next : Option ℕ) (ps : List Place) (p : Place) → slice_get ps n ≡ Some p → keys_of (plains (taken_out dir n prev next ps)) ≡ set (keys_of (plains ps)) n None
-keys_taken dir n prev next ps p e = ap keys_of (plains_taken dir n prev next ps p e) ∙ keys_set (plains ps) n (relinked (plain p) None) ∙ ap (λ (l : Option Link). set (keys_of (plains ps)) n (key_of_link l)) (unlinked_node (plain p))
+pub keys_taken : (dir n : ℕ) (blank : Name) (prev next : Option ℕ) (ps : List Place) (p : Place) → slice_get ps n ≡ Some p → keys_of (plains (taken_out dir n blank prev next ps)) ≡ set (keys_of (plains ps)) n None
+keys_taken dir n blank prev next ps p e = ap keys_of (plains_taken dir n blank prev next ps p e) ∙ keys_set (plains ps) n (relinked (plain p) None) ∙ ap (λ (l : Option Link). set (keys_of (plains ps)) n (key_of_link l)) (unlinked_node (plain p))
 
 -- the keys where a place has no other entry than before
 pub keys_kept : (n : ℕ) (f : Place → Place) (ps : List Place) (p : Place) → slice_get ps n ≡ Some p → link_of (plain (f p)) ≡ link_of (plain p) → keys_of (plains (edited n f ps)) ≡ keys_of (plains ps)
@@ -147,12 +147,12 @@ index_linked slots others ps qs dir n x prev next key places used unlinked e k s
     subst (IsIndex others) (ap (λ (z : Key). set (keys_of (plains ps)) n (Some z)) k ∙ sym (ap (λ (z : List Place). keys_of (plains z)) e ∙ keys_put dir n x prev next ps r.0 content.0 r.1 content.1)) i
 
 -- or is linked no more
-pub index_taken : (slots others : List Slot) (ps qs : List Place) (dir n : ℕ) (x : Name) (prev next : Option ℕ) (key : Key) → (graph_of_places ps).child dir x ≡ Some n → qs ≡ taken_out dir n prev next ps → key ≡ key_of dir x
+pub index_taken : (slots others : List Slot) (ps qs : List Place) (dir n : ℕ) (x blank : Name) (prev next : Option ℕ) (key : Key) → (graph_of_places ps).child dir x ≡ Some n → qs ≡ taken_out dir n blank prev next ps → key ≡ key_of dir x
     → IsIndex slots (keys_of (plains ps)) → ((keys : List (Option Key)) → IsIndex slots keys → key_at keys n ≡ Some key → IsIndex others (set keys n None)) → IsIndex others (keys_of (plains qs))
-index_taken slots others ps qs dir n x prev next key child e k s less =
+index_taken slots others ps qs dir n x blank prev next key child e k s less =
     let w : n < length ps = (let h : n < length (plains ps) = child_within (plains ps) n dir x child in let l : length (plains ps) ≡ length ps = length-map ps plain in omega arith) in
     let r : (p : Place) × (slice_get ps n ≡ Some p) = get_some ps n w in
-    subst (IsIndex others) (sym (ap (λ (z : List Place). keys_of (plains z)) e ∙ keys_taken dir n prev next ps r.0 r.1)) (less (keys_of (plains ps)) s (key_child ps dir n x child ∙ ap (λ (z : Key). Some z) (sym k)))
+    subst (IsIndex others) (sym (ap (λ (z : List Place). keys_of (plains z)) e ∙ keys_taken dir n blank prev next ps r.0 r.1)) (less (keys_of (plains ps)) s (key_child ps dir n x child ∙ ap (λ (z : Key). Some z) (sym k)))
 
 -- another place of the same entry
 pub index_kept : (slots : List Slot) (n : ℕ) (f : Place → Place) (ps qs : List Place) (p : Place) → slice_get ps n ≡ Some p → link_of (plain (f p)) ≡ link_of (plain p) → qs ≡ edited n f ps → IsIndex slots (keys_of (plains ps)) → IsIndex slots (keys_of (plains qs))

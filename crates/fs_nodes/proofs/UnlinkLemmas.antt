@@ -1,5 +1,5 @@
 -- What a place says after a node has left its place between two siblings.
-use Rattle.std.proofs.Common.{◌≡◌, ℕ, ◌+◌, ◌-◌, Bool, true, false, cond, eqb, ◌&&◌, List, Option, Some, None, ◌⊎◌, inl, inr, is_none, is_some, option_map, set, length, refl, sym, ap, ap₂, subst, ◌∙◌, arith}
+use Rattle.std.proofs.Common.{◌≡◌, ℕ, ◌+◌, ◌-◌, Bool, true, false, cond, eqb, ◌&&◌, List, Option, Some, None, IfSome, ◌⊎◌, inl, inr, is_none, is_some, option_map, set, length, refl, sym, ap, ap₂, subst, ◌∙◌, arith}
 use Rattle.std.specs.Prelude.{slice_get}
 use Rattle.std.specs.List.{find}
 use Rattle.std.proofs.lemmas.Option.{slice_get-map}
@@ -29,10 +29,10 @@ use Rattle.fs_places.proofs.EditLemmas.{get_edited, plains_edited, plains_set}
 use Rattle.fs_nodes.proofs.LinkLemmas.{is_at, get_led, get_followed, plains_led, plains_followed, same_plain, plain_relinked, one_entry, child_name, low_child, child_low, at_true, at_refl, true_false, eqb_false}
 
 -- each place, where a node left its place between two siblings
-abbrev pub take_place : ℕ → ℕ → Option ℕ → Option ℕ → ℕ → Place → Place
-take_place dir n prev next m p = record {
+abbrev pub take_place : ℕ → ℕ → Name → Option ℕ → Option ℕ → ℕ → Place → Place
+take_place dir n blank prev next m p = record {
   content = p.content;
-  name = p.name;
+  name = cond (eqb m n) blank p.name;
   parent = cond (eqb m n) None p.parent;
   first = cond (eqb m dir && is_none prev) next p.first;
   next = cond (eqb m n) None (cond (is_at prev m) next p.next);
@@ -44,10 +44,10 @@ take_place dir n prev next m p = record {
 }
 
 -- the four edits, read at one number
-pub get_taken : (dir n : ℕ) (prev next : Option ℕ) (ps : List Place) (m : ℕ) → slice_get (taken_out dir n prev next ps) m ≡ option_map (take_place dir n prev next m) (slice_get ps m)
-get_taken dir n prev next ps m =
+pub get_taken : (dir n : ℕ) (blank : Name) (prev next : Option ℕ) (ps : List Place) (m : ℕ) → slice_get (taken_out dir n blank prev next ps) m ≡ option_map (take_place dir n blank prev next m) (slice_get ps m)
+get_taken dir n blank prev next ps m =
     let count : Place → Place = λ p. with_entries (p.entries - 1) p in
-    let out : Place → Place = λ p. entered None p.name None None p in
+    let out : Place → Place = entered None blank None None in
     let one : List Place = edited dir count ps in
     let two : List Place = led dir prev next one in
     let three : List Place = followed next prev two in
@@ -55,21 +55,33 @@ get_taken dir n prev next ps m =
     ∙ ap (option_map (λ p. cond (eqb m n) (out p) p)) (get_followed next prev two m ∙ ap (option_map {T = Place} {U = Place} (λ p. record p { prev = cond (is_at next m) prev p.prev })) (get_led dir prev next one m ∙ ap (option_map {T = Place} {U = Place} (λ p. record p { first = cond (eqb m dir && is_none prev) next p.first; next = cond (is_at prev m) next p.next })) (get_edited dir count ps m)))
     ∙ go (eqb m n) (eqb m dir) (slice_get ps m)
   where
-    go : (b t : Bool) (o : Option Place) → option_map (λ p. cond b (entered None p.name None None p) p) (option_map {T = Place} {U = Place} (λ p. record p { prev = cond (is_at next m) prev p.prev }) (option_map {T = Place} {U = Place} (λ p. record p { first = cond (t && is_none prev) next p.first; next = cond (is_at prev m) next p.next }) (option_map (λ p. cond t (with_entries (p.entries - 1) p) p) o)))
-        ≡ option_map {T = Place} {U = Place} (λ p. record { content = p.content; name = p.name; parent = cond b None p.parent; first = cond (t && is_none prev) next p.first; next = cond b None (cond (is_at prev m) next p.next); prev = cond b None (cond (is_at next m) prev p.prev); entries = cond t (p.entries - 1) p.entries; root = p.root; left = p.left; right = p.right }) o
+    go : (b t : Bool) (o : Option Place) → option_map (λ p. cond b (entered None blank None None p) p) (option_map {T = Place} {U = Place} (λ p. record p { prev = cond (is_at next m) prev p.prev }) (option_map {T = Place} {U = Place} (λ p. record p { first = cond (t && is_none prev) next p.first; next = cond (is_at prev m) next p.next }) (option_map (λ p. cond t (with_entries (p.entries - 1) p) p) o)))
+        ≡ option_map {T = Place} {U = Place} (λ p. record { content = p.content; name = cond b blank p.name; parent = cond b None p.parent; first = cond (t && is_none prev) next p.first; next = cond b None (cond (is_at prev m) next p.next); prev = cond b None (cond (is_at next m) prev p.prev); entries = cond t (p.entries - 1) p.entries; root = p.root; left = p.left; right = p.right }) o
     go b t None = refl
     go true true (Some p) = refl
     go true false (Some p) = refl
     go false true (Some p) = refl
     go false false (Some p) = refl
 
--- what a number's place was before
-place_before : (dir n : ℕ) (prev next : Option ℕ) (ps : List Place) (m : ℕ) (q : Place) → slice_get (taken_out dir n prev next ps) m ≡ Some q → (p : Place) × (slice_get ps m ≡ Some p) × (q ≡ take_place dir n prev next m p)
-place_before dir n prev next ps m q e = go (slice_get ps m) refl (sym (get_taken dir n prev next ps m) ∙ e)
+-- the three edits of ways change no name
+pub name_before : (dir m : ℕ) (prev next : Option ℕ) (ps : List Place) (label : Name) → IfSome (slice_get (followed next prev (led dir prev next (edited dir (λ p. with_entries (p.entries - 1) p) ps))) m) (λ p. label ≡ p.name) → IfSome (slice_get ps m) (λ p. label ≡ p.name)
+name_before dir m prev next ps label told =
+    let one : List Place = edited dir (λ p. with_entries (p.entries - 1) p) ps in
+    let two : List Place = led dir prev next one in
+    go (slice_get ps m) (eqb m dir) (subst (λ (o : Option Place). IfSome o (λ p. label ≡ p.name)) (get_followed next prev two m ∙ ap (option_map {T = Place} {U = Place} (λ p. record p { prev = cond (is_at next m) prev p.prev })) (get_led dir prev next one m ∙ ap (option_map {T = Place} {U = Place} (λ p. record p { first = cond (eqb m dir && is_none prev) next p.first; next = cond (is_at prev m) next p.next })) (get_edited dir (λ p. with_entries (p.entries - 1) p) ps m))) told)
   where
-    go : (o : Option Place) → slice_get ps m ≡ o → option_map (take_place dir n prev next m) o ≡ Some q → (p : Place) × (slice_get ps m ≡ Some p) × (q ≡ take_place dir n prev next m p)
+    go : (o : Option Place) (t : Bool) → IfSome (option_map {T = Place} {U = Place} (λ p. record p { prev = cond (is_at next m) prev p.prev }) (option_map {T = Place} {U = Place} (λ p. record p { first = cond (eqb m dir && is_none prev) next p.first; next = cond (is_at prev m) next p.next }) (option_map (λ p. cond t (with_entries (p.entries - 1) p) p) o))) (λ p. label ≡ p.name) → IfSome o (λ p. label ≡ p.name)
+    go None t h = tt
+    go (Some p) true h = h
+    go (Some p) false h = h
+
+-- what a number's place was before
+place_before : (dir n : ℕ) (blank : Name) (prev next : Option ℕ) (ps : List Place) (m : ℕ) (q : Place) → slice_get (taken_out dir n blank prev next ps) m ≡ Some q → (p : Place) × (slice_get ps m ≡ Some p) × (q ≡ take_place dir n blank prev next m p)
+place_before dir n blank prev next ps m q e = go (slice_get ps m) refl (sym (get_taken dir n blank prev next ps m) ∙ e)
+  where
+    go : (o : Option Place) → slice_get ps m ≡ o → option_map (take_place dir n blank prev next m) o ≡ Some q → (p : Place) × (slice_get ps m ≡ Some p) × (q ≡ take_place dir n blank prev next m p)
     go None f g = absurd (cc)
-    go (Some p) f g = let h : take_place dir n prev next m p ≡ q = cc in (p, f, sym h)
+    go (Some p) f g = let h : take_place dir n blank prev next m p ≡ q = cc in (p, f, sym h)
 
 -- another directory's siblings were as they are now
 prev_back : (graph : Graph) (dir d : ℕ) (x : Name) (n m : ℕ) (o : Option ℕ) → eqb d dir ≡ false → IsPrev (linked_in dir x n graph) d m o → IsPrev graph d m o
@@ -125,10 +137,10 @@ gap_left ps S dir x n p places back f e k = go p.prev refl b.1
         }
 
 -- the ways of the places where a node left its place
-pub take_indexed : (ps : List Place) (S : Graph) (dir n : ℕ) (x : Name) (prev next : Option ℕ) (m : ℕ) (q : Place) → IsPlaces ps → graph_of_places ps ≡ linked_in dir x n S → IsFree S dir x → IsGap S dir x prev next → (graph_of_places ps).child dir x ≡ Some n
-    → slice_get (taken_out dir n prev next ps) m ≡ Some q → IsIndexed S m q
-take_indexed ps S dir n x prev next m q places back f gap child there =
-    let r : (p : Place) × (slice_get ps m ≡ Some p) × (q ≡ take_place dir n prev next m p) = place_before dir n prev next ps m q there in
+pub take_indexed : (ps : List Place) (S : Graph) (dir n : ℕ) (x blank : Name) (prev next : Option ℕ) (m : ℕ) (q : Place) → IsPlaces ps → graph_of_places ps ≡ linked_in dir x n S → IsFree S dir x → IsGap S dir x prev next → (graph_of_places ps).child dir x ≡ Some n
+    → slice_get (taken_out dir n blank prev next ps) m ≡ Some q → IsIndexed S m q
+take_indexed ps S dir n x blank prev next m q places back f gap child there =
+    let r : (p : Place) × (slice_get ps m ≡ Some p) × (q ≡ take_place dir n blank prev next m p) = place_before dir n blank prev next ps m q there in
     subst (IsIndexed S m) (sym r.2) (record {
       entries = entries r.0 r.1 (eqb m dir) refl;
       first = first r.0 r.1 (eqb m dir) refl;
@@ -262,29 +274,29 @@ take_indexed ps S dir n x prev next m q places back f gap child there =
     no_link None name o r = tt
     no_link (Some c) name o r = tt
 
-    beside : (p : Place) → slice_get ps m ≡ Some p → (b : Bool) → eqb m n ≡ b → IsBeside S m (cond b None (cond (is_at prev m) next p.next)) (cond b None (cond (is_at next m) prev p.prev)) (link_of (plain_with p.content (link_with (cond b None p.parent) p.name)))
-    beside p e true g = no_link p.content p.name None None
+    beside : (p : Place) → slice_get ps m ≡ Some p → (b : Bool) → eqb m n ≡ b → IsBeside S m (cond b None (cond (is_at prev m) next p.next)) (cond b None (cond (is_at next m) prev p.prev)) (link_of (plain_with p.content (link_with (cond b None p.parent) (cond b blank p.name))))
+    beside p e true g = no_link p.content blank None None
     beside p e false g = others p e g (link_of (plain p)) refl (was p e).beside
 
 -- the nodes where one left its place
-pub plains_taken : (dir n : ℕ) (prev next : Option ℕ) (ps : List Place) (p : Place) → slice_get ps n ≡ Some p → plains (taken_out dir n prev next ps) ≡ set (plains ps) n (relinked (plain p) None)
-plains_taken dir n prev next ps p e =
+pub plains_taken : (dir n : ℕ) (blank : Name) (prev next : Option ℕ) (ps : List Place) (p : Place) → slice_get ps n ≡ Some p → plains (taken_out dir n blank prev next ps) ≡ set (plains ps) n (relinked (plain p) None)
+plains_taken dir n blank prev next ps p e =
     let one : List Place = edited dir (λ p. with_entries (p.entries - 1) p) ps in
     let two : List Place = led dir prev next one in
     let three : List Place = followed next prev two in
     let same : plains three ≡ plains ps = plains_followed next prev two ∙ plains_led dir prev next one ∙ plains_edited dir (λ p. with_entries (p.entries - 1) p) ps (λ p. refl) in
     let r : (q : Place) × (slice_get three n ≡ Some q) × (plain q ≡ plain p) = same_plain ps three n p same e in
-    plains_set n (λ p. entered None p.name None None p) three r.0 r.1
+    plains_set n (entered None blank None None) three r.0 r.1
     ∙ ap₂ (λ (l : List (Option Node)) (q : Option Node). set l n q) same (plain_relinked r.0.content (link_with r.0.parent r.0.name) None ∙ ap (λ (q : Option Node). relinked q None) r.2)
 
 -- a node leaves its place: the graph that this makes, and that the places stay those of a store
-pub take_makes : (ps : List Place) (dir n : ℕ) (x : Name) (p : Place) → IsPlaces ps → slice_get ps n ≡ Some p → (graph_of_places ps).child dir x ≡ Some n
-    → (graph_of_places (taken_out dir n p.prev p.next ps) ≡ unlinked_in dir x (graph_of_places ps)) × IsPlaces (taken_out dir n p.prev p.next ps) × IsGap (graph_of_places (taken_out dir n p.prev p.next ps)) dir x p.prev p.next
-take_makes ps dir n x p places e k = (
+pub take_makes : (ps : List Place) (dir n : ℕ) (x blank : Name) (p : Place) → IsPlaces ps → slice_get ps n ≡ Some p → (graph_of_places ps).child dir x ≡ Some n
+    → (graph_of_places (taken_out dir n blank p.prev p.next ps) ≡ unlinked_in dir x (graph_of_places ps)) × IsPlaces (taken_out dir n blank p.prev p.next ps) × IsGap (graph_of_places (taken_out dir n blank p.prev p.next ps)) dir x p.prev p.next
+take_makes ps dir n x blank p places e k = (
   graph,
   record {
     store = subst (IsStore NODE_LIMIT) whole made.1;
-    each = λ m r g. take_indexed ps S dir n x p.prev p.next m r places back free gap k g;
+    each = λ m r g. take_indexed ps S dir n x blank p.prev p.next m r places back free gap k g;
   },
   gap,
 )
@@ -301,28 +313,28 @@ take_makes ps dir n x p places e k = (
     made : Makes NODE_LIMIT (set (plains ps) n (relinked (plain p) None)) (unlinked_in dir x (graph_of_places ps))
     made = unlink_makes NODE_LIMIT (plains ps) n dir x (plain p) (relinked (plain p) None) places.store at k refl
 
-    whole : set (plains ps) n (relinked (plain p) None) ≡ plains (taken_out dir n p.prev p.next ps)
-    whole = sym (plains_taken dir n p.prev p.next ps p e)
+    whole : set (plains ps) n (relinked (plain p) None) ≡ plains (taken_out dir n blank p.prev p.next ps)
+    whole = sym (plains_taken dir n blank p.prev p.next ps p e)
 
     S : Graph
-    S = graph_of_places (taken_out dir n p.prev p.next ps)
+    S = graph_of_places (taken_out dir n blank p.prev p.next ps)
 
-    graph : graph_of_places (taken_out dir n p.prev p.next ps) ≡ unlinked_in dir x (graph_of_places ps)
+    graph : graph_of_places (taken_out dir n blank p.prev p.next ps) ≡ unlinked_in dir x (graph_of_places ps)
     graph = subst (λ (l : List (Option Node)). graph_in l ≡ unlinked_in dir x (graph_of_places ps)) whole made.0
 
     old : link_of (plain p) ≡ Some (record { dir = dir; name = x })
     old = found_link (plains ps) n dir x (plain p) at k
 
-    back : graph_of_places ps ≡ linked_in dir x n (graph_of_places (taken_out dir n p.prev p.next ps))
+    back : graph_of_places ps ≡ linked_in dir x n (graph_of_places (taken_out dir n blank p.prev p.next ps))
     back = unlinked_back (plains ps) n (plain p) (relinked (plain p) None) (record { dir = dir; name = x }) places.store.found at old (link_content (plain p) (record { dir = dir; name = x }) None old) (relinked_content (plain p) None) (places.store.of_dir n (record { dir = dir; name = x }) (at_of (plains ps) n (plain p) at ∙ old))
         ∙ ap (λ (l : List (Option Node)). linked_in dir x n (graph_in l)) whole
 
-    free : IsFree (graph_of_places (taken_out dir n p.prev p.next ps)) dir x
+    free : IsFree (graph_of_places (taken_out dir n blank p.prev p.next ps)) dir x
     free = record {
-      ascends = subst (Ascends None) (sym (names_shape NODE_LIMIT (plains (taken_out dir n p.prev p.next ps)) dir (subst (IsStore NODE_LIMIT) whole made.1))) (names_ascend (plains (taken_out dir n p.prev p.next ps)) dir);
-      has = λ y. ap (has_name y) (names_shape NODE_LIMIT (plains (taken_out dir n p.prev p.next ps)) dir (subst (IsStore NODE_LIMIT) whole made.1)) ∙ names_child (plains (taken_out dir n p.prev p.next ps)) dir y;
+      ascends = subst (Ascends None) (sym (names_shape NODE_LIMIT (plains (taken_out dir n blank p.prev p.next ps)) dir (subst (IsStore NODE_LIMIT) whole made.1))) (names_ascend (plains (taken_out dir n blank p.prev p.next ps)) dir);
+      has = λ y. ap (has_name y) (names_shape NODE_LIMIT (plains (taken_out dir n blank p.prev p.next ps)) dir (subst (IsStore NODE_LIMIT) whole made.1)) ∙ names_child (plains (taken_out dir n blank p.prev p.next ps)) dir y;
       free = ap (λ (g : Graph). g.child dir x) graph ∙ ap₂ (λ (a b : Bool). cond (a && b) None ((graph_of_places ps).child dir x)) (eqb_refl dir) (same_name_refl x);
     }
 
-    gap : IsGap (graph_of_places (taken_out dir n p.prev p.next ps)) dir x p.prev p.next
-    gap = gap_left ps (graph_of_places (taken_out dir n p.prev p.next ps)) dir x n p places back free e k
+    gap : IsGap (graph_of_places (taken_out dir n blank p.prev p.next ps)) dir x p.prev p.next
+    gap = gap_left ps (graph_of_places (taken_out dir n blank p.prev p.next ps)) dir x n p places back free e k

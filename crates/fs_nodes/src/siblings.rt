@@ -3,10 +3,10 @@
 ghost use Rattle.std.specs.Prelude.{◌≡◌, ◌≤◌, ◌<◌, ◌+◌, ◌-◌, length, Some, None, IfSome, slice_get, option_map};
 ghost use Rattle.std.specs.Option.{option_copied};
 ghost use Rattle.fs_names.specs.Shapes.{names_of};
-ghost use Rattle.fs_plain.specs.Stores.{link_of, is_in, next_entry, IsNextName, IsEntryAfter, IsNameAfter};
+ghost use Rattle.fs_plain.specs.Stores.{link_of, is_in, next_entry, IsNextName, IsEntryAfter, IsNameAfter, lent};
 ghost use Rattle.fs_places.specs.Plains.{plain, plains};
 ghost use Rattle.fs_graph.specs.Graphs.{IsUnlinked};
-ghost use Rattle.fs_places.specs.code.Heads.{IsHead};
+ghost use Rattle.fs_names.specs.Heads.{IsHead};
 ghost use Rattle.fs_places.specs.code.Keys.{key_of, keys_of};
 ghost use Rattle.fs_nodes.specs.code.Indexes.{IsIndex};
 ghost use Rattle.fs_places.specs.code.Spots.{is_number, one_of};
@@ -17,11 +17,12 @@ ghost use Rattle.fs_nodes.specs.code.Linked.{graph_of_places, next_child, IsPlac
 use crate::index::{Found, Slot, seek};
 use fs_names::{NODE_LIMIT, Name};
 use fs_places::hints::{MOST, greatest_below};
-use fs_places::label::{head, is_short};
+use fs_places::label::is_short;
 use fs_places::place::dir_of;
 use fs_places::{Key, Label, Place, Spot};
 use fs_plain::is_higher;
 use std::cmp::Ordering;
+use std::mem;
 
 /// The place of a directory's first entry.
 fn first_spot(places: &[Place], dir: usize) -> Spot
@@ -205,7 +206,7 @@ pub fn find_steps(
     ensures steps { result.1 ≤ length (names_of ((graph_of_places places.now).shape dir)) }
     ensures least { IfSome result.0 (λ n. 1 ≤ result.1) }
 {
-    let first = head(name.bytes());
+    let first = name.head();
     if is_short(name) {
         look(slots, places, Key::new(dir, first, name), first, name)
     } else {
@@ -397,17 +398,19 @@ fn enter(places: &mut [Place], node: usize, dir: Spot, name: Label, prev: Spot, 
     place.next = next;
 }
 
-/// A node is named by no entry from now on.
-fn leave(places: &mut [Place], node: usize)
+/// A node is named by no entry from now on. Its label is handed out for one that says nothing.
+fn leave(places: &mut [Place], node: usize, blank: Label) -> Label
     requires node { node < length places.old }
     requires most { length places.old ≤ NODE_LIMIT }
-    ensures { places.new ≡ edited node (λ p. entered None p.name None None p) places.old }
+    ensures places { places.new ≡ edited node (entered None blank None None) places.old }
+    ensures label { IfSome (slice_get places.old node) (λ p. result ≡ p.name) }
 {
     let place = &mut places[node];
     let none = Spot::none();
     place.parent = none;
     place.prev = none;
     place.next = none;
+    mem::replace(&mut place.name, blank)
 }
 
 /// A node comes between two siblings.
@@ -434,20 +437,28 @@ pub fn put_between(
     enter(places, node, Spot::at(dir), name, prev, next);
 }
 
-/// A node leaves its place between two siblings.
-pub fn take_out(places: &mut [Place], dir: usize, node: usize, prev: Spot, next: Spot)
+/// A node leaves its place between two siblings. Its label is handed out for one that says nothing.
+pub fn take_out(
+    places: &mut [Place],
+    dir: usize,
+    node: usize,
+    blank: Label,
+    prev: Spot,
+    next: Spot,
+) -> Label
     requires dir { dir < length places.old }
     requires node { node < length places.old }
     requires prev { IfSome prev (λ k. k < length places.old) }
     requires next { IfSome next (λ k. k < length places.old) }
     requires most { length places.old ≤ NODE_LIMIT }
     requires entries { IfSome (slice_get places.old dir) (λ p. 1 ≤ p.entries) }
-    ensures { places.new ≡ taken_out dir node prev next places.old }
+    ensures places { places.new ≡ taken_out dir node blank prev next places.old }
+    ensures label { IfSome (slice_get places.old node) (λ p. result ≡ p.name) }
 {
     drop_entry(places, dir);
     lead(places, dir, prev, next);
     follow(places, next, prev);
-    leave(places, node);
+    leave(places, node, blank)
 }
 
 /// The siblings of a node.
@@ -477,16 +488,16 @@ pub fn sibling_after(places: &[Place], node: usize) -> Option<usize>
 }
 
 /// The entry after the one that names a node.
-pub fn entry_after(places: &[Place], node: usize) -> Option<(Name, usize)>
+pub fn entry_after(places: &[Place], node: usize) -> Option<(&Name, usize)>
     requires { IsPlaces places.now }
-    ensures entry { IsEntryAfter (graph_of_places places.now) node result }
-    ensures rest { IsNameAfter (graph_of_places places.now) node (option_map (λ entry. entry.0) result) }
-    ensures unlinked { IsUnlinked (graph_of_places places.now).child node → result ≡ None }
+    ensures entry { IsEntryAfter (graph_of_places places.now) node (lent result) }
+    ensures rest { IsNameAfter (graph_of_places places.now) node (option_map (λ entry. entry.0) (lent result)) }
+    ensures unlinked { IsUnlinked (graph_of_places places.now).child node → lent result ≡ None }
 {
     match sibling_after(places, node) {
         Some(n) => {
             let place = &places[n];
-            Some((place.name.copy(), n))
+            Some((place.name.name(), n))
         }
         None => None,
     }
@@ -497,7 +508,7 @@ pub fn order_steps(places: &[Place], dir: usize, name: &Name) -> usize
     requires { IsPlaces places.now }
     ensures { result ≤ MOST + length (names_of ((graph_of_places places.now).shape dir)) }
 {
-    let first = head(name.bytes());
+    let first = name.head();
     let (told, steps) = greatest_below(places, dir, first, name);
     let after = lesser(places, dir, told, first, name);
     let looked = walk(places, dir, after, None, first, name);
@@ -510,7 +521,7 @@ pub fn least_above(places: &[Place], dir: usize, low: Option<&Name>) -> Option<u
     ensures { result ≡ next_child (graph_of_places places.now) dir (option_copied low.entry) }
 {
     let after = match low {
-        Some(name) => lesser_told(places, dir, None, head(name.bytes()), name),
+        Some(name) => lesser_told(places, dir, None, name.head(), name),
         None => None,
     };
     let mut next = start(places, dir, after).1.get();
@@ -525,15 +536,19 @@ pub fn least_above(places: &[Place], dir: usize, low: Option<&Name>) -> Option<u
 }
 
 /// The entry of a directory's least name above the given one.
-pub fn next_above(places: &[Place], dir: usize, low: Option<&Name>) -> Option<(Name, usize)>
+pub fn next_above<'a>(
+    places: &'a [Place],
+    dir: usize,
+    low: Option<&Name>,
+) -> Option<(&'a Name, usize)>
     requires { IsPlaces places.now }
-    ensures entry { result ≡ next_entry (graph_of_places places.now) dir (option_copied low.entry) }
-    ensures rest { IsNextName (names_of ((graph_of_places places.now).shape dir)) (option_copied low.entry) (option_map (λ entry. entry.0) result) }
+    ensures entry { lent result ≡ next_entry (graph_of_places places.now) dir (option_copied low.entry) }
+    ensures rest { IsNextName (names_of ((graph_of_places places.now).shape dir)) (option_copied low.entry) (option_map (λ entry. entry.0) (lent result)) }
 {
     match least_above(places, dir, low) {
         Some(n) => {
             let place = &places[n];
-            Some((place.name.copy(), n))
+            Some((place.name.name(), n))
         }
         None => None,
     }

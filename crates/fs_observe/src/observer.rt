@@ -219,7 +219,7 @@ impl<'a, N: Named> Observer<'a, N> {
         alloc: Global,
         path: &Path,
         after: &Path,
-        count: u64,
+        count: u32,
     ) -> Result<Reply, AllocError>
         ensures kept { IfOk result (λ r. GoesOn self.old self.new) }
         ensures reply { IfOk result (λ r. r ≡ reply_at (next_start self.new.start self.new.list) (Call.ListAfter path.now after.now count)) }

@@ -23,6 +23,7 @@ use Rattle.fs_finish.specs.declared.plan.Route.{Route}
 use Rattle.fs_finish.specs.declared.plan.Plan.{Plan}
 use Rattle.fs_finish.specs.declared.plan.Plan.TheVariants.{Fails, Stays, Answers, Adds, Removes, Moves, Replaces, Swaps}
 use Rattle.fs_finish.specs.Endings.{IsEffect}
+use Rattle.fs_finish.specs.Paths.{last_name, new_name}
 use Rattle.fs_finish.specs.Plans.{node_plan, entry_plan, pair_plan, moving, moves, swapping, along, between, carried, added, removed, moved, swapped, Changes, CanCarryOut, CanMove, CanSwap}
 use Rattle.fs_machine.specs.Finishes.{Effect, no_effect, entry_effect, move_effect, swap_effect, effect_at, effect_of, finish}
 use Rattle.fs_machine.specs.Moves.{target, path_error, dir_error, there_by}
@@ -220,13 +221,18 @@ there_if : (o : Option ℕ) (shapes : ℕ → Option Shape) → is_there (then_a
 there_if None shapes e = absurd (cc)
 there_if (Some n) shapes e = refl
 
+-- a path with names has a last one
+last_named : (p : Key) → 0 < length p → last_name p ≡ Some (last_of p)
+last_named [] h = absurd (omega (arith, h))
+last_named (x ∷ p) h = refl
+
 -- a call on an entry
 module _ (store : Seen) (p : Key) (n : ℕ) (route : Route) (reserved : Option ℕ) (named : 0 < length p) (spare : SpareIf store.graph reserved) (other : reserved ≡ Some n → ⊥) where
   abbrev there : Option Shape
   there = entry_shape store.graph n (last_of p)
 
-  can_add : (c : EntryCall) → IsReal store → as_dir None (store.graph.shape n) ≡ None → there ≡ None → CanCarryOut store (AtEntry c p) route reserved (Adds n)
-  can_add c real dir free = (named, record { real = real; dir = is_parent (store.graph.shape n) dir; absent = child_free store n (last_of p) real free; spare = spare; other = other })
+  can_add : (c : EntryCall) → new_name (AtEntry c p) ≡ last_name p → IsReal store → as_dir None (store.graph.shape n) ≡ None → there ≡ None → CanCarryOut store (AtEntry c p) route reserved (Adds n)
+  can_add c name real dir free = (named, name ∙ last_named p named, record { real = real; dir = is_parent (store.graph.shape n) dir; absent = child_free store n (last_of p) real free; spare = spare; other = other })
 
   can_remove : (c : EntryCall) → (is_there there ≡ true) × (has_entries there ≡ false) → CanCarryOut store (AtEntry c p) route reserved (Removes n)
   can_remove c h = (named, record { there = there_if (store.graph.child n (last_of p)) store.graph.shape h.0; bare = bare_if (store.graph.child n (last_of p)) store.graph.shape h.1 })
@@ -234,8 +240,8 @@ module _ (store : Seen) (p : Key) (n : ℕ) (route : Route) (reserved : Option �
   entry_can : (c : EntryCall) (fault : Option Errno) → entry_fault c (as_dir None (store.graph.shape n)) (store.graph.shape n) there ≡ fault → Changes (entry_plan fault (new_shape c) n) (IsReal store)
       → CanCarryOut store (AtEntry c p) route reserved (entry_plan fault (new_shape c) n)
   entry_can c (Some e) h real = tt
-  entry_can (forms.Mkdir most) None h real = let b = both_none (as_dir None (store.graph.shape n)) _ h in can_add (forms.Mkdir most) real b.0 (makes_free (is_full most (store.graph.shape n)) there b.1)
-  entry_can (forms.Mknod most) None h real = let b = both_none (as_dir None (store.graph.shape n)) _ h in can_add (forms.Mknod most) real b.0 (makes_free (is_full most (store.graph.shape n)) there b.1)
+  entry_can (forms.Mkdir most) None h real = let b = both_none (as_dir None (store.graph.shape n)) _ h in can_add (forms.Mkdir most) refl real b.0 (makes_free (is_full most (store.graph.shape n)) there b.1)
+  entry_can (forms.Mknod most) None h real = let b = both_none (as_dir None (store.graph.shape n)) _ h in can_add (forms.Mknod most) refl real b.0 (makes_free (is_full most (store.graph.shape n)) there b.1)
   entry_can forms.Unlink None h real = can_remove forms.Unlink (unlinks_bare (store.graph.shape n) there (both_none (as_dir None (store.graph.shape n)) _ h).1)
   entry_can forms.Rmdir None h real = can_remove forms.Rmdir (removes_bare (store.graph.shape n) there (both_none (as_dir None (store.graph.shape n)) _ h).1)
 
@@ -302,8 +308,8 @@ module _ (store : Seen) (most : ℕ) (p q : Key) (heads : ForkWay) (m : ℕ) (be
       )
 
   can_moves : (n : ℕ) (r : Bool) → (0 < length p) × (0 < length q) × CanMove store (along route n r) (last_of p) (last_of q) → CanCarryOut store (AtPair (forms.Rename most) p q) route reserved (moves r n)
-  can_moves n true h = h
-  can_moves n false h = h
+  can_moves n true h = (h.0, h.1, last_named q h.1, h.2)
+  can_moves n false h = (h.0, h.1, last_named q h.1, h.2)
 
   real_of : (r : Bool) (n : ℕ) → Changes (moves r n) (IsReal store) → IsReal store
   real_of true n h = h

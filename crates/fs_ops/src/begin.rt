@@ -4,8 +4,8 @@ ghost use Rattle.std.specs.Prelude.{ℕ, ◌≡◌, ◌≢◌, ◌≤◌, ◌↔
 ghost use Rattle.fs_names.specs.declared.limits.Limits.{Limits};
 ghost use Rattle.fs_nodes.specs.Seen.{seen};
 ghost use Rattle.fs_nodes.specs.Stores.{graph_of, in_use, new_shape};
-ghost use Rattle.fs_calls.specs.Forms.{reserves, reserved_by, new_shape as entry_shape};
-ghost use Rattle.fs_calls.specs.code.Targets.{form_of, entry_call};
+ghost use Rattle.fs_calls.specs.Forms.{reserves, reserved_by};
+ghost use Rattle.fs_calls.specs.code.Targets.{form_of};
 ghost use Rattle.fs_machine.specs.Moves.{target};
 ghost use Rattle.fs_names.specs.Keys.{parent_of};
 ghost use Rattle.fs_names.specs.Parts.{common};
@@ -14,37 +14,13 @@ ghost use Rattle.fs_machine.specs.OpValues.{BegunAs, new_value};
 
 use crate::end::give_back;
 use crate::prepared::Prepared;
-use fs_calls::{Call, EntryCall, Target, calls};
+use fs_calls::{Call, Target};
+use fs_finish::entries::kind_of;
 use fs_finish::room::Room;
 use fs_memory::Memory;
 use fs_names::{Kind, Limits, PATH_LIMIT, Path};
 use fs_nodes::{NoNode, NodeNo, Store};
 use std::alloc::{AllocError, Global};
-
-/// The kind of node that a call on an entry, by what it does, may add.
-macro_rules! added {
-    (adds $kind:ident) => { Some(Kind::$kind) };
-    (removes $kind:ident) => { None };
-}
-
-/// The kinds of the nodes that the calls on an entry may add.
-macro_rules! kinds {
-    (($entry:expr)
-        entries { $($call:ident { $root:tt [$does:ident $kind:ident] $errors:tt })* }
-        $($others:tt)*
-    ) => {
-        match $entry {
-            $(EntryCall::$call => added!($does $kind),)*
-        }
-    };
-}
-
-/// The kind of node that a call on an entry may add.
-fn kind_of(entry: EntryCall) -> Option<Kind>
-    ensures { (limits : Limits) → option_map new_shape result ≡ entry_shape (entry_call limits entry) }
-{
-    calls!(kinds(entry))
-}
 
 /// The kind of node that a call reserves a number for.
 fn new_kind(aim: Target<'_>) -> Option<Kind>

@@ -1,8 +1,9 @@
 //! The runner that adds up lines of ends.
 
-ghost use Rattle.std.specs.Prelude.{◌≡◌, ◌≢◌, ◌<◌, ◌≤◌, ◌+◌, ◌-◌, ◌^◌, ℕ, List, length, map, IfOk, OnOk, OnErr, IfErr, IfSome, IsErrOf, Err};
+ghost use Rattle.std.specs.Prelude.{◌≡◌, ◌≢◌, ◌<◌, ◌≤◌, ◌+◌, ◌-◌, ◌^◌, ℕ, List, length, map, IfOk, OnOk, OnErr, IfErr, IfSome, IsErrOf, Err, false};
 ghost use Rattle.std.specs.Io.KnownBytes.{Appends, IsAtEnd};
 ghost use Rattle.std.specs.List.{sum_by};
+ghost use Rattle.fs_words.specs.Headers.{is_too_long};
 ghost use Rattle.fs_words.specs.Lines.{lines_of};
 ghost use Rattle.fs_sched.specs.Devices.{KeepsDevices, WritesBeginning};
 ghost use Rattle.fs_outcomes.specs.Added.{AreAdded};
@@ -17,9 +18,10 @@ use crate::rows::{Row, Rows};
 use fs_io::{Made, Sink, Source, transform};
 use fs_names::blocks::place_from;
 use fs_sched::{RunFault, between};
+use fs_words::headers::is_too_long;
 use fs_words::lines::{cut_line, cut_words};
 use fs_words::words::{is_word, number_of};
-use fs_words::{FaultKind, ScriptFault, TEXT_LIMIT};
+use fs_words::{FaultKind, ScriptFault};
 use std::alloc::{AllocError, Global};
 
 /// How many digits stand for a tree.
@@ -159,10 +161,10 @@ fn at_line(line: usize, kind: FaultKind) -> RunFault
 /// The lines of a text of allowed length.
 fn lines_in(alloc: Global, text: &[u8]) -> Result<Vec<&[u8]>, RunFault>
     ensures lines { IfOk result (λ lines. map (λ line. line.now) lines.items ≡ lines_of text.now) }
-    ensures short { OnOk result (length text.now ≤ TEXT_LIMIT) }
+    ensures short { OnOk result (is_too_long text.now ≡ false) }
     ensures fault { IfErr result IsBadLine }
 {
-    if text.len() > TEXT_LIMIT {
+    if is_too_long(text) {
         return Err(at_line(1, FaultKind::TooLarge));
     }
     let mut lines = Vec::new(alloc);

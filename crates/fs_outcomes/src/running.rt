@@ -5,7 +5,7 @@ ghost use Rattle.std.specs.Io.KnownBytes.{Appends, IsAtEnd};
 ghost use Rattle.std.specs.List.{sum_by};
 ghost use Rattle.fs_words.specs.declared.fault.ScriptFault.{ScriptFault};
 ghost use Rattle.fs_script.specs.Script.{script_of};
-ghost use Rattle.fs_script.specs.declared.limits.TheConstants.{CALL_LIMIT};
+ghost use Rattle.fs_script.specs.Limits.{call_limit};
 ghost use Rattle.fs_sched.specs.Devices.{KeepsDevices, WritesBeginning};
 ghost use Rattle.fs_sched.specs.Runs.{calls_in};
 ghost use Rattle.fs_outcomes.specs.Ends.{places_of};
@@ -28,7 +28,7 @@ pub const OUTCOME_LIMIT: u64 = 1_000_000;
 
 /// The end of the run that is drawn from a number.
 fn drawn_end(alloc: Global, script: &Script, places: &[Place], seed: u64) -> Result<End, RunFault>
-    requires few { calls_in script.now.lists ≤ CALL_LIMIT }
+    requires few { calls_in script.now.lists ≤ call_limit script.now.limits }
     requires places { places.now ≡ places_of script.now.lists }
     ensures end { IfOk result (EndsAs script.now seed) }
     ensures fault { IfErr result (λ fault. fault ≡ RunFault.OutOfMemory) }
@@ -51,7 +51,7 @@ fn add_run(
     seed: u64,
     rows: &mut Rows,
 ) -> Result<(), RunFault>
-    requires few { calls_in script.now.lists ≤ CALL_LIMIT }
+    requires few { calls_in script.now.lists ≤ call_limit script.now.limits }
     requires places { places.now ≡ places_of script.now.lists }
     requires kept { AreKept rows.old }
     requires room { sum_by times_of rows.old.rows.items + 1 < 2 ^ 64 }
@@ -80,7 +80,7 @@ fn add_runs<Listener: Witness>(
     runs: u64,
     witness: &mut Listener,
 ) -> Result<Rows, RunFault>
-    requires few { calls_in script.now.lists ≤ CALL_LIMIT }
+    requires few { calls_in script.now.lists ≤ call_limit script.now.limits }
     requires places { places.now ≡ places_of script.now.lists }
     requires seed { seed ≤ SEED_LIMIT }
     requires runs { runs ≤ OUTCOME_LIMIT }
@@ -121,7 +121,7 @@ fn outcomes_of<Listener: Witness>(
     form: Form,
     witness: &mut Listener,
 ) -> Result<Made<()>, RunFault>
-    requires few { calls_in script.now.lists ≤ CALL_LIMIT }
+    requires few { calls_in script.now.lists ≤ call_limit script.now.limits }
     requires seed { seed ≤ SEED_LIMIT }
     requires runs { runs ≤ OUTCOME_LIMIT }
     ensures lines { IfOk result (λ made. AreLinesOf script.now seed runs form made.text.items) }

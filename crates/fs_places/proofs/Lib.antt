@@ -1,3 +1,2 @@
-pub mod HeadLemmas
 pub mod EditLemmas
 pub mod HintLemmas

@@ -1,6 +1,5 @@
 -- What ties the code to the definitions: of it nothing has to be believed.
 pub mod Spots
-pub mod Heads
 pub mod Keys
 pub mod Edits
 pub mod Hints

@@ -6,7 +6,7 @@
 //! and its priority is the number of its node, mixed.
 
 ghost use Rattle.std.specs.Prelude.{◌≡◌, ◌≤◌, ◌<◌, length};
-ghost use Rattle.fs_places.specs.code.Heads.{IsHead};
+ghost use Rattle.fs_names.specs.Heads.{IsHead};
 ghost use Rattle.fs_places.specs.declared.hints.TheConstants.{MOST};
 ghost use Rattle.fs_places.specs.code.Hints.{bared};
 

@@ -1,7 +1,7 @@
 //! Under what an entry is looked for.
 
 ghost use Rattle.std.specs.Prelude.{◌≡◌};
-ghost use Rattle.fs_places.specs.code.Heads.{IsHead};
+ghost use Rattle.fs_names.specs.Heads.{IsHead};
 ghost use Rattle.fs_places.specs.code.Keys.{folded, mixed, hashed, word_of, key_of};
 
 use crate::label::is_short;

@@ -13,7 +13,7 @@ use crate::label::Label;
 use crate::spot::Spot;
 use fs_blocks::File;
 use fs_memory::Memory;
-use fs_names::{Kind, NODE_LIMIT, Name};
+use fs_names::{Kind, NODE_LIMIT};
 use fs_plain::node::Content;
 use std::alloc::{AllocError, Global};
 use std::mem;
@@ -51,7 +51,7 @@ impl Place {
     {
         Place {
             content: Some(Content::new(alloc, kind, in_blocks)),
-            name: Label::new(Name::default()),
+            name: Label::default(),
             parent: Spot::none(),
             first: Spot::none(),
             next: Spot::none(),

@@ -1,5 +1,5 @@
 -- What each change of a store does to its graph, and that it keeps what a store keeps.
-use Rattle.std.proofs.Common.{◌≡◌, ℕ, ◌<◌, ◌≤◌, Bool, false, List, [], ◌∷◌, ◌++◌, Option, Some, None, IsTrue, option_map, IfSome, count_by, set, get_or, length, refl, sym, ap, ◌∙◌, arith, subst}
+use Rattle.std.proofs.Common.{◌≡◌, ℕ, ◌<◌, ◌≤◌, Bool, false, List, [], ◌∷◌, ◌++◌, Option, Some, None, IsTrue, option_map, count_by, set, get_or, length, refl, sym, ap, ◌∙◌, arith, subst}
 use Rattle.std.specs.Prelude.{slice_get}
 use Rattle.std.specs.List.{find}
 use Rattle.std.proofs.lemmas.Option.{slice_get_within, slice_get_read}
@@ -172,13 +172,12 @@ pub entries_are : (limit : ℕ) (ps : List (Option Node)) (dir : ℕ) → IsStor
 entries_are limit ps dir store = count_names ps dir store.found ∙ ap length (sym (names_shape limit ps dir store))
 
 -- the next entry, by its name and its node
-pub next_is : (limit : ℕ) (ps : List (Option Node)) (dir : ℕ) (low : Option Name) (found : Option (Name × ℕ)) → IsStore limit ps → option_map (λ e. e.0) found ≡ find (is_above low) (names_in ps dir) → IfSome found (λ e. link_at ps e.1 ≡ Some (record { dir = dir; name = e.0 }))
-    → found ≡ next_entry (graph_in ps) dir low
-next_is limit ps dir low found store name there = go found name there ∙ ap (λ (names : List Name). with_child (child_in ps dir) (find (is_above low) names)) (sym (names_shape limit ps dir store))
-  where
-    go : (f : Option (Name × ℕ)) → option_map (λ e. e.0) f ≡ find (is_above low) (names_in ps dir) → IfSome f (λ e. link_at ps e.1 ≡ Some (record { dir = dir; name = e.0 })) → f ≡ with_child (child_in ps dir) (find (is_above low) (names_in ps dir))
-    go None e h = ap (with_child (child_in ps dir)) e
-    go (Some f) e h = sym (ap (option_map (λ (n : ℕ). (f.0, n))) (store.found f.1 (record { dir = dir; name = f.0 }) h)) ∙ ap (with_child (child_in ps dir)) e
+pub next_is : (limit : ℕ) (ps : List (Option Node)) (dir n : ℕ) (low : Option Name) (x : Name) → IsStore limit ps → Some x ≡ find (is_above low) (names_in ps dir) → Some n ≡ child_in ps dir x → Some (x, n) ≡ next_entry (graph_in ps) dir low
+next_is limit ps dir n low x store e f = ap (option_map (λ (m : ℕ). (x, m))) f ∙ ap (with_child (child_in ps dir)) e ∙ ap (λ (names : List Name). with_child (child_in ps dir) (find (is_above low) names)) (sym (names_shape limit ps dir store))
+
+-- where no name is above the low one, there is none
+pub next_none : (limit : ℕ) (ps : List (Option Node)) (dir : ℕ) (low : Option Name) → IsStore limit ps → None ≡ find (is_above low) (names_in ps dir) → None ≡ next_entry (graph_in ps) dir low
+next_none limit ps dir low store e = ap (with_child (child_in ps dir)) e ∙ ap (λ (names : List Name). with_child (child_in ps dir) (find (is_above low) names)) (sym (names_shape limit ps dir store))
 
 -- the parent of a node, by its entry
 pub parent_is : (limit : ℕ) (ps : List (Option Node)) (n : ℕ) (link : Link) → IsStore limit ps → link_at ps n ≡ Some link → IsParent (child_in ps) n link.dir
@@ -212,6 +211,10 @@ swap_old ps n m p file at_file e v = swap_hands ps n p file (read_at ps n m p (f
 -- an unlink
 pub unlink_edit : (limit : ℕ) (ps : List (Option Node)) (n dir : ℕ) (x : Name) (p q : Option Node) → IsStore limit ps → child_in ps dir x ≡ Some n → p ≡ get_or ps n p → q ≡ relinked p None → Makes limit (set ps n q) (unlinked_in dir x (graph_in ps))
 unlink_edit limit ps n dir x p q store found v edit = unlink_makes limit ps n dir x p q store (read_at ps n n p (child_within ps n dir x found) refl v) found edit
+
+-- the entry of the place that it leads to
+pub old_link : (ps : List (Option Node)) (n dir : ℕ) (x : Name) (p : Option Node) → child_in ps dir x ≡ Some n → p ≡ get_or ps n p → link_of p ≡ Some (record { dir = dir; name = x })
+old_link ps n dir x p found v = found_link ps n dir x p (read_at ps n n p (child_within ps n dir x found) refl v) found
 
 -- a move
 pub move_edit : (limit : ℕ) (ps : List (Option Node)) (n from : ℕ) (x : Name) (to : ℕ) (y : Name) (p q : Option Node) → IsStore limit ps → child_in ps from x ≡ Some n → IsTrue (is_dir (shape_in ps to)) → child_in ps to y ≡ None → (IsReached (child_in ps) n to → ⊥) → p ≡ get_or ps n p → q ≡ relinked p (Some (record { dir = to; name = y })) → Makes limit (set ps n q) (moved_in from x to y n (graph_in ps))

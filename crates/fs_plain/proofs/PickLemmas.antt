@@ -1,20 +1,18 @@
 -- The least name, looked for place by place; and how many entries a directory has.
-use Rattle.std.proofs.Common.{◌≡◌, ℕ, zero, suc, ◌+◌, ◌<◌, Bool, true, false, cond, eqb, ◌&&◌, List, [], ◌∷◌, Option, Some, None, is_some, option_map, IfSome, get_or, drop, length, count_by, refl, sym, ap, ap₂, ◌∙◌, arith, subst, Less, Greater}
-use Rattle.std.specs.Prelude.{slice_get}
+use Rattle.std.proofs.Common.{◌≡◌, ℕ, suc, ◌+◌, ◌<◌, Bool, true, false, cond, eqb, ◌&&◌, List, [], ◌∷◌, Option, Some, None, is_some, get_or, drop, length, count_by, refl, sym, ap, ◌∙◌, arith, subst, Less, Greater}
 use Rattle.std.specs.Ordering.{is_lt}
 use Rattle.std.specs.List.{find}
 use Rattle.std.proofs.lemmas.List.{at_drop_more}
 use Rattle.std.proofs.lemmas.List.Sums.{sum_by-cons}
-use Rattle.fs_names.specs.Names.{Name, name_cmp, inserted_name, has_name}
-use Rattle.fs_names.proofs.Lemmas.{name_total}
+use Rattle.fs_names.specs.Names.{Name, name_cmp, same_name, inserted_name, has_name}
+use Rattle.fs_names.proofs.Lemmas.{name_total, same_name_refl}
 use Rattle.fs_plain.specs.declared.node.Link.{Link}
 use Rattle.fs_plain.specs.declared.node.Node.{Node}
-use Rattle.fs_graph.specs.Graphs.{then_at}
 use Rattle.fs_plain.specs.Stores.{link_of, link_at, is_in, child_in, with_link, names_in, is_above}
-use Rattle.fs_plain.specs.code.Picks.{lesser, lesser_entry, name_above}
+use Rattle.fs_plain.specs.code.Picks.{lesser, name_above}
 use Rattle.fs_graph.proofs.NameLemmas.{Compared, Below, Same, Above, compare, inserted_below, inserted_same, inserted_above, above_both, length_inserted}
 use Rattle.fs_plain.proofs.AscentLemmas.{above_more}
-use Rattle.fs_graph.proofs.EqualLemmas.{eqb_true, both_true}
+use Rattle.fs_graph.proofs.EqualLemmas.{eqb_true}
 use Rattle.fs_plain.proofs.PlaceLemmas.{names_child, child_link}
 
 -- a choice of one thing
@@ -99,58 +97,30 @@ find_with (Some link) d low names = go (eqb d link.dir)
     go true = find_inserted low link.name names
     go false = refl
 
--- the name of the lesser entry is the lesser name
-name_of_lesser : (best : Option (Name × ℕ)) (next : Option Name) (n : ℕ) → option_map (λ e. e.0) (lesser_entry best next n) ≡ lesser (option_map (λ e. e.0) best) next
-name_of_lesser None None n = refl
-name_of_lesser (Some e) None n = refl
-name_of_lesser None (Some x) n = refl
-name_of_lesser (Some e) (Some x) n = go (is_lt (name_cmp x e.0))
-  where
-    go : (b : Bool) → option_map (λ e. e.0) (cond b (Some (x, n)) (Some e)) ≡ cond b (Some x) (Some e.0)
-    go true = refl
-    go false = refl
-
--- an entry found so far is there
-pub IsThere : List (Option Node) → ℕ → Option (Name × ℕ) → Type 0
-IsThere ps d best = IfSome best (λ e. link_at ps e.1 ≡ Some (record { dir = d; name = e.0 }))
-
--- a name found in a place is that of its entry
-there_none : (link : Option Link) (d : ℕ) (low : Option Name) (x : Name) → name_above link d low ≡ Some x → link ≡ Some (record { dir = d; name = x })
-there_none None d low x e = absurd (cc)
-there_none (Some link) d low x e = go (eqb d link.dir && is_above low link.name) refl e
-  where
-    go : (b : Bool) → (eqb d link.dir && is_above low link.name) ≡ b → cond b (Some link.name) None ≡ Some x → Some link ≡ Some (record { dir = d; name = x })
-    go false f g = absurd (cc)
-    go true f g = let h : link.name ≡ x = cc in ap₂ (λ (a : ℕ) (b : Name). Some (record { dir = a; name = b })) (sym (eqb_true d link.dir (both_true (eqb d link.dir) (is_above low link.name) f).0)) h
-
--- the lesser entry is there
-there_lesser : (ps : List (Option Node)) (d : ℕ) (best : Option (Name × ℕ)) (next : Option Name) (n : ℕ) → IsThere ps d best → ((x : Name) → next ≡ Some x → link_at ps n ≡ Some (record { dir = d; name = x })) → IsThere ps d (lesser_entry best next n)
-unfolding IsThere
-there_lesser ps d best None n h new = h
-there_lesser ps d None (Some x) n h new = new x refl
-there_lesser ps d (Some e) (Some x) n h new = go (is_lt (name_cmp x e.0))
-  where
-    go : (b : Bool) → IsThere ps d (cond b (Some (x, n)) (Some e))
-    go true = new x refl
-    go false = h
-
--- what is read at an index within
-read_place : {A B : Type 0} (f : A → Option B) (ps : List A) (i : ℕ) (p : A) → i < length ps → p ≡ get_or ps i p → then_at (slice_get ps i) f ≡ f p
-read_place f [] i p h e = absurd (omega arith)
-read_place f (q ∷ ps) zero p h e = ap f (sym e)
-read_place f (q ∷ ps) (suc i) p h e = read_place f ps i p (omega arith) e
-
 -- one step of the search for the least name
-pub least_step : (ps : List (Option Node)) (i d : ℕ) (low : Option Name) (p : Option Node) (best found : Option (Name × ℕ)) (next : Option Name) (n : ℕ) → i < length ps → p ≡ get_or ps i p → next ≡ name_above (link_of p) d low → n ≡ i → found ≡ lesser_entry best next n
-    → (lesser (option_map (λ e. e.0) best) (find (is_above low) (names_in (drop i ps) d)) ≡ find (is_above low) (names_in ps d)) × IfSome best (λ e. link_at ps e.1 ≡ Some (record { dir = d; name = e.0 }))
-    → (lesser (option_map (λ e. e.0) found) (find (is_above low) (names_in (drop (i + 1) ps) d)) ≡ find (is_above low) (names_in ps d)) × IfSome found (λ e. link_at ps e.1 ≡ Some (record { dir = d; name = e.0 }))
-unfolding IsThere
-least_step ps i d low p best found next n h e f g k (names, there) =
+pub least_step : (ps : List (Option Node)) (i d : ℕ) (low : Option Name) (p : Option Node) (best found next : Option Name) → i < length ps → p ≡ get_or ps i p → next ≡ name_above (link_of p) d low → found ≡ lesser best next
+    → lesser best (find (is_above low) (names_in (drop i ps) d)) ≡ find (is_above low) (names_in ps d) → lesser found (find (is_above low) (names_in (drop (i + 1) ps) d)) ≡ find (is_above low) (names_in ps d)
+least_step ps i d low p best found next h e f g so_far =
     let rest = find (is_above low) (names_in (drop (i + 1) ps) d) in
     let cut : find (is_above low) (names_in (drop i ps) d) ≡ lesser next rest = at_drop_more (λ qs. find (is_above low) (names_in qs d)) ps i p h ∙ ap (λ (q : Option Node). find (is_above low) (with_link (link_of q) d (names_in (drop (i + 1) ps) d))) (sym e) ∙ find_with (link_of p) d low (names_in (drop (i + 1) ps) d) ∙ ap (λ (o : Option Name). lesser o rest) (sym f) in
-    let name : option_map (λ e. e.0) found ≡ lesser (option_map (λ e. e.0) best) next = ap (option_map (λ e. e.0)) k ∙ name_of_lesser best next n in
-    let here : IsThere ps d (lesser_entry best next n) = there_lesser ps d best next n there (λ x new. ap (link_at ps) g ∙ read_place link_of ps i p h e ∙ there_none (link_of p) d low x (sym f ∙ new)) in
-    (ap (λ (o : Option Name). lesser o rest) name ∙ lesser_lesser (option_map (λ e. e.0) best) next rest ∙ ap (lesser (option_map (λ e. e.0) best)) (sym cut) ∙ names, subst (IsThere ps d) (sym k) here)
+    ap (λ (o : Option Name). lesser o rest) g ∙ lesser_lesser best next rest ∙ ap (lesser best) (sym cut) ∙ so_far
+
+-- a name that is found among some is one of them
+found_has : (low : Option Name) (x : Name) (names : List Name) → find (is_above low) names ≡ Some x → has_name x names ≡ true
+found_has low x [] e = absurd (cc)
+found_has low x (y ∷ ys) e = go (is_above low y) (found_has low x ys) e
+  where
+    go : (b : Bool) → (find (is_above low) ys ≡ Some x → has_name x ys ≡ true) → cond b (Some y) (find (is_above low) ys) ≡ Some x → has_name x (y ∷ ys) ≡ true
+    go true more f = let h : y ≡ x = cc in subst (λ (z : Name). has_name x (z ∷ ys) ≡ true) (sym h) (ap (λ (b : Bool). cond b true (has_name x ys)) (same_name_refl x))
+    go false more f = by (same_name x y) (more f)
+      where
+        by : (b : Bool) → has_name x ys ≡ true → cond b true (has_name x ys) ≡ true
+        by true g = refl
+        by false g = g
+
+-- so an entry of this name names a node
+pub found_child : (ps : List (Option Node)) (d : ℕ) (low : Option Name) (x : Name) → find (is_above low) (names_in ps d) ≡ Some x → child_in ps d x ≡ None → ⊥
+found_child ps d low x e f = let h : ◌≡◌ {A = Bool} true false = sym (found_has low x (names_in ps d) e) ∙ names_child ps d x ∙ ap is_some f in cc
 
 -- no two nodes have one entry
 IsApart : List (Option Node) → Type 0

@@ -1,5 +1,6 @@
 -- What a store is to its callers, and the graph that it is.
 use Rattle.std.specs.Prelude.{ℕ, ◌≡◌, ◌+◌, ◌≤◌, Bool, true, false, eqb, ◌&&◌, if◌then◌else◌, List, [], ◌∷◌, Option, Some, None, slice_get, length, option_map}
+use Rattle.std.specs.Borrow.{Bor}
 use Rattle.std.specs.Ordering.{is_lt}
 use Rattle.std.specs.List.{find, filter}
 use Rattle.fs_names.specs.Names.{Name, name_cmp, same_name, inserted_name}
@@ -129,6 +130,10 @@ with_child children (Some name) = option_map (λ n. (name, n)) (children name)
 -- the first entry of a directory above a name
 abbrev pub next_entry : Graph → ℕ → Option Name → Option (Name × ℕ)
 next_entry graph dir low = with_child (graph.child dir) (find (is_above low) (names_of (graph.shape dir)))
+
+-- an entry whose name is lent
+abbrev pub lent : Option (Bor Name × ℕ) → Option (Name × ℕ)
+lent entry = option_map (λ e. (e.0.now, e.1)) entry
 
 -- those of some names that are above a name
 abbrev pub names_above : Option Name → List Name → List Name

@@ -1,6 +1,7 @@
 //! What stands in the place of a number.
 
 ghost use Rattle.std.specs.Prelude.{◌≡◌, ◌++◌, ◌∷◌, [], OnOk, OnErr, Some};
+ghost use Rattle.fs_plain.specs.Stores.{link_of};
 ghost use Rattle.fs_plain.specs.code.Edits.{relinked, new_content, new_node, with_file, handed_out};
 
 use fs_blocks::File;
@@ -54,12 +55,14 @@ impl Node {
     }
 }
 
-/// Lets this entry name the node from now on, or none.
-pub fn relink(place: &mut Option<Node>, link: Option<Link>)
-    ensures { place.new ≡ relinked place.old link }
+/// Lets this entry name the node from now on, or none. The one that has named it is handed out.
+pub fn relink(place: &mut Option<Node>, link: Option<Link>) -> Option<Link>
+    ensures new { place.new ≡ relinked place.old link }
+    ensures old { result ≡ link_of place.old }
 {
-    if let Some(node) = place {
-        node.link = link;
+    match place {
+        Some(node) => mem::replace(&mut node.link, link),
+        None => None,
     }
 }
 

@@ -1,10 +1,10 @@
 //! What is looked up among the places of the plain store.
 
-ghost use Rattle.std.specs.Prelude.{◌≡◌, ℕ, IfSome, count_by, ◌<◌, length, MatchOption, option_map, slice_get, Some, None};
+ghost use Rattle.std.specs.Prelude.{◌≡◌, ℕ, count_by, ◌<◌, length, MatchOption, slice_get, Some, None};
 ghost use Rattle.std.specs.Option.{option_copied};
 ghost use Rattle.std.specs.List.{find};
 ghost use Rattle.fs_plain.specs.Stores.{child_in, content_at, link_at, link_of, is_link, is_in, names_in, is_above};
-ghost use Rattle.fs_plain.specs.code.Picks.{lesser_entry, name_above};
+ghost use Rattle.fs_plain.specs.code.Picks.{lesser, name_above};
 ghost use Rattle.fs_plain.specs.code.Edits.{IsTaken};
 
 use crate::node::{Content, Link, Node};
@@ -117,29 +117,24 @@ fn name_in<'a>(place: &'a Option<Node>, dir: NodeNo, low: Option<&Name>) -> Opti
     }
 }
 
-/// The lesser of an entry found before and of a name with its node.
-fn lesser_of(
-    best: Option<(Name, NodeNo)>,
-    next: Option<&Name>,
-    node: NodeNo,
-) -> Option<(Name, NodeNo)>
-    ensures { result ≡ lesser_entry best (option_copied next.entry) node }
+/// The lesser of two names, if any; of equal ones the first.
+fn lesser_of<'a>(best: Option<&'a Name>, next: Option<&'a Name>) -> Option<&'a Name>
+    ensures { option_copied result ≡ lesser (option_copied best.entry) (option_copied next.entry) }
 {
     let Some(name) = next else { return best };
     match best {
-        Some(entry) if name.cmp(&entry.0) != Ordering::Less => Some(entry),
-        _ => Some((name.copy(), node)),
+        Some(least) if name.cmp(least) != Ordering::Less => best,
+        _ => next,
     }
 }
 
-/// The entry of the least name of the directory above the given name.
-pub fn least_in(places: &[Option<Node>], dir: NodeNo, low: Option<&Name>) -> Option<(Name, NodeNo)>
-    ensures name { option_map (λ entry. entry.0) result ≡ find (is_above (option_copied low.entry)) (names_in places.now dir) }
-    ensures node { IfSome result (λ entry. link_at places.now entry.1 ≡ Some (record { dir = dir; name = entry.0 })) }
+/// The least name of the directory above the given name.
+pub fn least_in<'a>(places: &'a [Option<Node>], dir: NodeNo, low: Option<&Name>) -> Option<&'a Name>
+    ensures { option_copied result ≡ find (is_above (option_copied low.entry)) (names_in places.now dir) }
 {
     let mut best = None;
     for i in 0..places.len() {
-        best = lesser_of(best, name_in(&places[i], dir, low), NodeNo::new(i));
+        best = lesser_of(best, name_in(&places[i], dir, low));
     }
     best
 }

@@ -53,7 +53,7 @@ impl Model for Store {
 }
 
 impl Store {
-    ghost use Rattle.fs_plain.specs.Stores.{graph_of, child, shape, in_use, room, kind_of, new_shape, next_entry, IsNextName};
+    ghost use Rattle.fs_plain.specs.Stores.{graph_of, child, shape, in_use, room, kind_of, new_shape, next_entry, IsNextName, lent};
     ghost use Rattle.fs_graph.specs.Graphs.{IsUnlinked, IsParent};
     ghost use Rattle.fs_plain.specs.Seen.{seen, IsReal};
 
@@ -171,19 +171,16 @@ impl Store {
     }
 
     /// A directory gets an entry of this name, which names a node that none named and from which the directory is not reached.
-    pub fn link(&mut self, dir: NodeNo, name: &Name, node: NodeNo)
+    pub fn link(&mut self, dir: NodeNo, name: Name, node: NodeNo)
         requires dir { IsTrue (is_dir (shape self.old dir)) }
-        requires absent { child self.old dir name.now ≡ None }
+        requires absent { child self.old dir name ≡ None }
         requires used { IsTrue (is_there (shape self.old node)) }
         requires unlinked { IsUnlinked (child self.old) node }
         requires not_root { node ≢ 0 }
         requires apart { IsReached (child self.old) node dir → ⊥ }
-        ensures { seen self.new ≡ record (seen self.old) { graph = linked_in dir name.now node (graph_of self.old) } }
+        ensures { seen self.new ≡ record (seen self.old) { graph = linked_in dir name node (graph_of self.old) } }
     {
-        let link = Link {
-            dir,
-            name: name.copy(),
-        };
+        let link = Link { dir, name };
         relink(&mut self.places[node.get()], Some(link));
     }
 
@@ -250,32 +247,34 @@ impl Store {
         ensures node { child self.old dir name.now ≡ Some result }
         ensures change { seen self.new ≡ record (seen self.old) { graph = unlinked_in dir name.now (graph_of self.old) } }
     {
-        self.detach(dir, name)
+        self.detach(dir, name).0
     }
 
-    /// The same of any entry: what it named keeps all that is below.
-    fn detach(&mut self, dir: NodeNo, name: &Name) -> NodeNo
+    /// The same of any entry: what it named keeps all that is below. Its own name is handed out too.
+    fn detach(&mut self, dir: NodeNo, name: &Name) -> (NodeNo, Name)
         requires there { IsSome (child self.old dir name.now) }
-        ensures node { child self.old dir name.now ≡ Some result }
+        ensures node { child self.old dir name.now ≡ Some result.0 }
+        ensures name { result.1 ≡ name.now }
         ensures change { seen self.new ≡ record (seen self.old) { graph = unlinked_in dir name.now (graph_of self.old) } }
     {
         let node = find_in(&self.places, dir, name).unwrap();
-        relink(&mut self.places[node], None);
-        NodeNo::new(node)
+        let link = relink(&mut self.places[node], None).unwrap();
+        let Link { name, .. } = link;
+        (NodeNo::new(node), name)
     }
 
     /// An entry goes to another directory, or to another name, with what it names and all below; the new directory is not there.
-    pub fn move_entry(&mut self, from: NodeNo, name: &Name, to: NodeNo, new_name: &Name)
+    pub fn move_entry(&mut self, from: NodeNo, name: &Name, to: NodeNo, new_name: Name)
         requires there { IsSome (child self.old from name.now) }
         requires dir { IsTrue (is_dir (shape self.old to)) }
-        requires absent { child self.old to new_name.now ≡ None }
+        requires absent { child self.old to new_name ≡ None }
         requires apart { IfSome (child self.old from name.now) (λ node. IsReached (child self.old) node to → ⊥) }
-        ensures { IfSome (child self.old from name.now) (λ node. seen self.new ≡ record (seen self.old) { graph = moved_in from name.now to new_name.now node (graph_of self.old) }) }
+        ensures { IfSome (child self.old from name.now) (λ node. seen self.new ≡ record (seen self.old) { graph = moved_in from name.now to new_name node (graph_of self.old) }) }
     {
         let node = find_in(&self.places, from, name).unwrap();
         let link = Link {
             dir: to,
-            name: new_name.copy(),
+            name: new_name,
         };
         relink(&mut self.places[node], Some(link));
     }
@@ -288,10 +287,10 @@ impl Store {
         ensures { (n m : ℕ) → child self.old dir name.now ≡ Some n → child self.old other other_name.now ≡ Some m → seen self.new ≡ record (seen self.old) { graph = swapped_in dir name.now n other other_name.now m (graph_of self.old) } }
     {
         let _ = &self.places;
-        let node = self.detach(dir, name);
-        let other_node = self.detach(other, other_name);
-        self.link(dir, name, other_node);
-        self.link(other, other_name, node);
+        let (node, own) = self.detach(dir, name);
+        let (other_node, other_own) = self.detach(other, other_name);
+        self.link(dir, own, other_node);
+        self.link(other, other_own, node);
     }
 
     /// Another file comes in the place of one, which is handed out.
@@ -364,13 +363,19 @@ impl Store {
 
     /// The entry of the least name of a directory, or of the least one above the given name.
     /// Where the number is no directory's, there is none.
-    pub fn next_name(&self, dir: NodeNo, low: Option<&Name>) -> Option<(Name, NodeNo)>
-        ensures entry { result ≡ next_entry (graph_of self.now) dir (option_copied low.entry) }
+    pub fn next_name(&self, dir: NodeNo, low: Option<&Name>) -> Option<(&Name, NodeNo)>
+        ensures entry { lent result ≡ next_entry (graph_of self.now) dir (option_copied low.entry) }
 
         // So the names are all told, in order, when each answer is the next call's `low`.
-        ensures rest { IsNextName (names_of (shape self.now dir)) (option_copied low.entry) (option_map (λ entry. entry.0) result) }
+        ensures rest { IsNextName (names_of (shape self.now dir)) (option_copied low.entry) (option_map (λ entry. entry.0) (lent result)) }
         ensures real { IsReal (seen self.now) }
     {
-        least_in(&self.places, dir, low)
+        let Some(name) = least_in(&self.places, dir, low) else {
+            return None;
+        };
+        let Some(node) = find_in(&self.places, dir, name) else {
+            return None;
+        };
+        Some((name, NodeNo::new(node)))
     }
 }

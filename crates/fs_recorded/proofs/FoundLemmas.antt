@@ -1,12 +1,13 @@
 -- What is found of what was read is what is found of the input.
-use Rattle.std.proofs.Common.{◌≡◌, ℕ, ◌<◌, nat_lt, Bool, true, List, length, Option, Result, Ok, Err, refl, sym, ap, ◌∙◌, subst}
+use Rattle.std.proofs.Common.{◌≡◌, ℕ, Bool, true, List, Option, Result, Ok, Err, sym, ap, ◌∙◌, subst}
 use Rattle.std.specs.Prelude.{IfSome}
 use Rattle.std.specs.Io.KnownBytes.{Appends}
-use Rattle.std.proofs.lemmas.Bool.{lt-ltb}
+use Rattle.std.proofs.lemmas.Bool.{cond-true}
 use Rattle.fs_calls.specs.Starts.{Start}
 use Rattle.fs_histories.specs.declared.heard.Heard.{Heard}
 use Rattle.fs_linearize.specs.declared.linearizing.Found.{Found}
 use Rattle.fs_io.specs.declared.shell.Made.{Made}
+use Rattle.fs_words.specs.Headers.{is_too_long}
 use Rattle.fs_words.specs.Reading.{fault_at}
 use Rattle.fs_words.specs.declared.fault.ScriptFault.{ScriptFault}
 use Rattle.fs_words.specs.declared.fault.FaultKind.TheVariants as kind
@@ -18,8 +19,8 @@ use Rattle.fs_recorded.specs.Findings.{IsFoundOf}
 use Rattle.fs_recorded.specs.code.Makes.{IsMadeOf, IsWrittenOf}
 use Rattle.fs_recorded.specs.declared.answer.Linearized.{Linearized}
 
-pub no_history : (text : List ℕ) → 16777216 < length text → history_of text ≡ Err (fault_at 1 kind.TooLarge)
-no_history text h = let long : nat_lt 16777216 (length text) ≡ true = lt-ltb 16777216 (length text) h in rw long refl
+pub no_history : (text : List ℕ) → is_too_long text ≡ true → history_of text ≡ Err (fault_at 1 kind.TooLarge)
+no_history text h = cond-true _ _ _ h
 
 pub known : (r : Option (List ℕ)) (text items : List ℕ) (P : Result (Start × List Heard) ScriptFault → Type 0) → text ≡ items → IfSome r (IsSameText items) → P (history_of text) → IfSome r (λ input. P (history_of input))
 known r text items P e s p = known_by history_of no_history r text items P e s p

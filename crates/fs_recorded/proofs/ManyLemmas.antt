@@ -1,5 +1,5 @@
 -- Histories one after the other: lines cut into pieces, and what is told of each.
-use Rattle.std.proofs.Common.{◌≡◌, ⊎_elim, ℕ, ◌+◌, ◌-◌, ◌≤◌, ◌<◌, nat_lt, Bool, true, false, List, [], ◌∷◌, ◌++◌, map, length, take, drop, Option, Result, Ok, Err, refl, sym, ap, ◌∙◌, subst, get_or, suc, arith, add-one}
+use Rattle.std.proofs.Common.{◌≡◌, ⊎_elim, ℕ, ◌+◌, ◌-◌, ◌≤◌, ◌<◌, Bool, true, false, List, [], ◌∷◌, ◌++◌, map, length, take, drop, Option, Result, Ok, Err, refl, sym, ap, ap₂, ◌∙◌, subst, get_or, suc, arith, add-one}
 use Rattle.std.specs.Borrow.{Bor}
 use Rattle.std.specs.List.{flat_map}
 use Rattle.std.proofs.lemmas.List.{take-map, drop-map, map-append, length-take-le, length-drop, length-map, drop-drop}
@@ -9,11 +9,18 @@ use Rattle.fs_timeline.proofs.TimelineLemmas.{append_nil}
 use Rattle.fs_calls.specs.Starts.{Start}
 use Rattle.fs_histories.specs.declared.heard.Heard.{Heard}
 use Rattle.fs_linearize.specs.declared.linearizing.Found.{Found}
-use Rattle.std.specs.Prelude.{IfSome}
+use Rattle.std.specs.Prelude.{◌≢◌, ◌||◌, IfSome, is_some, None, Some}
 use Rattle.std.specs.Io.KnownBytes.{Appends}
-use Rattle.std.proofs.lemmas.Bool.{false_from_ne_true, ltb-true, lt-ltb}
+use Rattle.std.specs.Str.{bytes_eq}
+use Rattle.std.proofs.lemmas.Bool.{cond-true, cond-false, false_from_ne_true}
+use Rattle.std.proofs.lemmas.Slice.Eq.{bytes_eq-Decides}
+use Rattle.fs_names.specs.declared.limits.Limits.{Limits}
+use Rattle.fs_names.specs.declared.limits.Limits.TheVariants.{V1, V2, V3}
+use Rattle.fs_text.specs.Journal.{journal_header}
 use Rattle.fs_io.specs.declared.shell.Made.{Made}
 use Rattle.fs_words.specs.Lines.{lines_of}
+use Rattle.fs_words.specs.Headers.{started_header, announced, is_too_long}
+use Rattle.fs_words.proofs.HeaderLemmas.{announced_is}
 use Rattle.fs_words.specs.Reading.{◌>>=◌}
 use Rattle.fs_words.specs.declared.fault.ScriptFault.{ScriptFault}
 use Rattle.fs_words.proofs.ReadLemmas.{words_in, with_front, front_twice, words_from, no_words}
@@ -28,6 +35,26 @@ use Rattle.fs_recorded.specs.code.Makes.{IsTooLarge}
 use Rattle.fs_recorded.specs.declared.many.Histories.{Histories}
 use Rattle.fs_recorded.proofs.InputLemmas.{Refuses, known_by}
 use Rattle.fs_recorded.specs.declared.answer.Outcome.{Outcome}
+
+-- ---- header lines
+
+started_bytes : (limits : Limits) → length (started_header limits) ≡ 16
+started_bytes V1 = refl
+started_bytes V2 = refl
+started_bytes V3 = refl
+
+none_started : (line : List ℕ) → length line ≢ 16 → is_some (announced started_header line) ≡ false
+none_started line other = go (announced started_header line) refl
+  where
+    go : (o : Option Limits) → announced started_header line ≡ o → is_some o ≡ false
+    go None e = refl
+    go (Some limits) e = let same = ap length (announced_is started_header line limits e) in absurd (omega (arith, other, same, started_bytes limits))
+
+-- a line of another length is none
+pub no_header : (line : List ℕ) → length line ≢ 16 → is_header line ≡ false
+no_header line other =
+    let first : bytes_eq line journal_header ≡ false = false_from_ne_true _ (λ e. let same = ap length ((bytes_eq-Decides line journal_header).0 e) in absurd (omega (arith, other, same))) in
+    ap₂ (λ b c. b || c) first (none_started line other)
 
 -- ---- pieces
 
@@ -205,12 +232,10 @@ found_in before limit given h f is one = rw is one
 -- ---- the text
 
 pub refuses_many : Refuses histories_of
-refuses_many text h = let long : nat_lt 16777216 (length text) ≡ true = lt-ltb 16777216 (length text) h in rw long refl
+refuses_many text h = cond-true _ _ _ h
 
-pub many_by : (text : List ℕ) (lines : List (List ℕ)) → length text ≤ 16777216 → lines ≡ lines_of text → histories_by 0 (pieces_of lines) ≡ histories_of text
-many_by text lines short is =
-    let small : nat_lt 16777216 (length text) ≡ false = false_from_ne_true _ (λ long. let past = ltb-true 16777216 (length text) long in absurd (omega (arith, past, short))) in
-    ap (λ (ls : List (List ℕ)). histories_by 0 (pieces_of ls)) is ∙ (rw small refl)
+pub many_by : (text : List ℕ) (lines : List (List ℕ)) → is_too_long text ≡ false → lines ≡ lines_of text → histories_by 0 (pieces_of lines) ≡ histories_of text
+many_by text lines short is = ap (λ (ls : List (List ℕ)). histories_by 0 (pieces_of ls)) is ∙ sym (cond-false _ _ _ short)
 
 pub many_too_large : (text : List ℕ) (fault : RunFault) → IsTooLarge text fault → IsFaultOf (histories_of text) fault
 many_too_large text fault h = ⊎_elim (λ e. rw e tt) (λ p. rw p.1 (refuses_many text p.0)) h

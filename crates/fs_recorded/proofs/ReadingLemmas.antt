@@ -1,12 +1,13 @@
 -- What reading the text of a history gives.
-use Rattle.std.proofs.Common.{arith, [], ◌∷◌, ◌++◌, Option, ◌≡◌, ⊎_elim, ℕ, ◌≤◌, nat_lt, false, List, length, Result, Ok, refl, sym, ap, ◌∙◌, subst}
-use Rattle.std.proofs.lemmas.Bool.{false_from_ne_true, ltb-true}
+use Rattle.std.proofs.Common.{[], ◌∷◌, ◌++◌, Option, ◌≡◌, ⊎_elim, ℕ, false, List, Result, Ok, refl, sym, ap, ◌∙◌, subst}
+use Rattle.std.proofs.lemmas.Bool.{cond-false}
 use Rattle.fs_calls.specs.Starts.{Start}
 use Rattle.fs_timeline.specs.declared.entry.Entry.{Entry}
 use Rattle.fs_timeline.specs.declared.entry.Entry.TheVariants.{Begin, Commit, Return}
 use Rattle.fs_histories.specs.declared.heard.Heard.{Heard}
 use Rattle.fs_histories.specs.declared.heard.Heard.TheVariants as heard
 use Rattle.fs_histories.specs.declared.heard.Pattern.TheVariants.{Exactly}
+use Rattle.fs_words.specs.Headers.{is_too_long}
 use Rattle.fs_words.specs.Lines.{lines_of}
 use Rattle.fs_words.specs.declared.fault.ScriptFault.{ScriptFault}
 use Rattle.fs_script.specs.Journals.{journal_of}
@@ -35,10 +36,8 @@ fault_with marks given (UnderWay c) is = is
 pub read_err : (lines : List (List ℕ)) (plain : List ℕ) (fault : RunFault) → plain ≡ plain_text lines → IsFaultOf (journal_of plain) fault → IsFaultOf (history_by lines) fault
 read_err lines plain fault same is = fault_with (marks_in lines) (journal_of (plain_text lines)) fault (subst (λ (t : List ℕ). IsFaultOf (journal_of t) fault) same is)
 
-pub within : (text : List ℕ) (lines : List (List ℕ)) → length text ≤ 16777216 → lines ≡ lines_of text → history_by lines ≡ history_of text
-within text lines short same =
-    let small : nat_lt 16777216 (length text) ≡ false = false_from_ne_true _ (λ long. let past = ltb-true 16777216 (length text) long in absurd (omega (arith, past, short))) in
-    ap history_by same ∙ (rw small refl)
+pub within : (text : List ℕ) (lines : List (List ℕ)) → is_too_long text ≡ false → lines ≡ lines_of text → history_by lines ≡ history_of text
+within text lines short same = ap history_by same ∙ sym (cond-false _ _ _ short)
 
 pub too_large : (text : List ℕ) (fault : RunFault) → IsTooLarge text fault → IsFaultOf (history_of text) fault
 too_large text fault h = ⊎_elim (λ e. rw e tt) (λ p. rw p.1 (no_history text p.0)) h

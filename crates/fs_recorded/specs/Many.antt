@@ -1,6 +1,6 @@
 -- Histories one after the other in one text, and what is written of them.
-use Rattle.std.specs.Prelude.{ℕ, ◌+◌, Bool, true, false, ◌||◌, nat_lt, min, List, [], ◌∷◌, ◌++◌, map, length, Result, Ok, Err, if◌then◌else◌, codes, decimal}
-use Rattle.std.specs.List.{flat_map, count_by, list_any}
+use Rattle.std.specs.Prelude.{ℕ, ◌+◌, Bool, true, false, ◌||◌, is_some, min, List, [], ◌∷◌, ◌++◌, map, length, Result, Ok, Err, if◌then◌else◌, codes, decimal}
+use Rattle.std.specs.List.{flat_map, count_by}
 use Rattle.std.specs.Str.{bytes_eq}
 use Rattle.fs_calls.specs.Starts.{Start}
 use Rattle.fs_timeline.specs.Timeline.{begins}
@@ -8,9 +8,11 @@ use Rattle.fs_histories.specs.declared.heard.Heard.{Heard}
 use Rattle.fs_linearize.specs.declared.linearizing.Found.{Found}
 use Rattle.fs_linearize.specs.declared.linearizing.Found.TheVariants as found
 use Rattle.fs_words.specs.Lines.{lines_of}
+use Rattle.fs_words.specs.Headers.{started_header, announced, is_too_long}
 use Rattle.fs_words.specs.Reading.{◌>>=◌, fault_at}
 use Rattle.fs_words.specs.declared.fault.ScriptFault.{ScriptFault}
 use Rattle.fs_words.specs.declared.fault.FaultKind.TheVariants as kind
+use Rattle.fs_text.specs.Journal.{journal_header}
 use Rattle.fs_recorded.specs.Texts.{history_by}
 use Rattle.fs_recorded.specs.Answers.{none_line, fault_line, unknown_line, outcome_of}
 use Rattle.fs_recorded.specs.declared.answer.Outcome.{Outcome}
@@ -20,7 +22,7 @@ use Rattle.fs_recorded.specs.declared.answer.Outcome.TheVariants.{Lawful, NoOrde
 
 -- whether a line is the first of a history
 abbrev pub is_header : List ℕ → Bool
-is_header line = list_any (bytes_eq line) (codes "atomfs-journal 1" ∷ codes "atomfs-journal 2" ∷ codes "atomfs-journal 3" ∷ codes "atomfs-journal 4" ∷ [])
+is_header line = bytes_eq line journal_header || is_some (announced started_header line)
 
 -- a line put before pieces of lines: into the first of them, unless that begins with a header line
 abbrev pub before_pieces : List ℕ → List (List (List ℕ)) → List (List (List ℕ))
@@ -49,7 +51,7 @@ histories_by before (piece ∷ pieces) = behind before (history_by piece) >>= λ
 
 -- what reading a text of histories gives
 abbrev pub histories_of : List ℕ → Result (List (Start × List Heard)) ScriptFault
-histories_of text = if nat_lt 16777216 (length text) then Err (fault_at 1 kind.TooLarge) else histories_by 0 (pieces_of (lines_of text))
+histories_of text = if is_too_long text then Err (fault_at 1 kind.TooLarge) else histories_by 0 (pieces_of (lines_of text))
 
 -- ---- written
 

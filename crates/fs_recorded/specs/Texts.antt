@@ -1,5 +1,5 @@
 -- What the text of a history tells: a journal without commits, and which replies are left open.
-use Rattle.std.specs.Prelude.{ℕ, Bool, ◌&&◌, nat_lt, List, [], ◌∷◌, ◌++◌, length, Result, Ok, Err, Option, Some, None, is_some, if◌then◌else◌, codes}
+use Rattle.std.specs.Prelude.{ℕ, Bool, ◌&&◌, List, [], ◌∷◌, ◌++◌, Result, Ok, Err, Option, Some, None, is_some, if◌then◌else◌, codes}
 use Rattle.std.specs.List.{flat_map}
 use Rattle.std.specs.Str.{bytes_eq}
 use Rattle.fs_calls.specs.Starts.{Start}
@@ -11,6 +11,7 @@ use Rattle.fs_histories.specs.declared.heard.Heard.TheVariants as heard
 use Rattle.fs_histories.specs.declared.heard.Pattern.{Pattern}
 use Rattle.fs_histories.specs.declared.heard.Pattern.TheVariants.{Exactly, AnyError, AnyDirectory}
 use Rattle.fs_words.specs.Lines.{lines_of}
+use Rattle.fs_words.specs.Headers.{is_too_long}
 use Rattle.fs_words.specs.Words.{Word}
 use Rattle.fs_words.specs.Reading.{words_of, fault_at, first_is}
 use Rattle.fs_words.specs.declared.fault.ScriptFault.{ScriptFault}
@@ -91,4 +92,4 @@ history_by lines = with_marks (marks_in lines) (journal_of (plain_text lines))
 
 -- what reading its text gives
 abbrev pub history_of : List ℕ → Result (Start × List Heard) ScriptFault
-history_of text = if nat_lt 16777216 (length text) then Err (fault_at 1 kind.TooLarge) else history_by (lines_of text)
+history_of text = if is_too_long text then Err (fault_at 1 kind.TooLarge) else history_by (lines_of text)

@@ -17,6 +17,7 @@ use fs_linearize::{Found, Progress, Untold, linearize};
 use fs_text::Addition;
 use fs_verdict::{RunFault, between};
 use fs_words::ScriptFault;
+use fs_words::headers::started_limits;
 use fs_words::words::is_word;
 use std::alloc::{AllocError, Global};
 
@@ -33,14 +34,16 @@ struct Told {
     text: Vec<u8>,
 }
 
+/// How many bytes the first line of a history has, by which most lines are known at once to be none.
+const HEADER_BYTES: usize = 16;
+
 /// Whether a line is the first of a history.
+#[tactic(auto, using(crate::proofs::ManyLemmas::no_header))]
 fn is_header(line: &[u8]) -> bool
     ensures { result ≡ is_header line.now }
 {
-    is_word(line, b"atomfs-journal 1")
-        || is_word(line, b"atomfs-journal 2")
-        || is_word(line, b"atomfs-journal 3")
-        || is_word(line, b"atomfs-journal 4")
+    line.len() == HEADER_BYTES
+        && (is_word(line, b"atomfs-journal 1") || started_limits(line).is_some())
 }
 
 /// How many lines stand before the first header line.

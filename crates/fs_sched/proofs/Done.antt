@@ -2,6 +2,7 @@
 use Rattle.std.proofs.Common.{◌≡◌, ℕ, ◌+◌, ◌<◌, ◌≤◌, ◌^◌, ◌-◌, min, true, Result, Ok, Err, List, [], ◌∷◌, ◌++◌, append-nil, append_assoc, length, take, drop, get_or, refl, sym, ap, ◌∙◌, subst, inl, inr, arith}
 use Rattle.std.specs.Prelude.{IfErr, IsErrOf}
 use Rattle.std.proofs.lemmas.List.{take_more, take-append-drop}
+use Rattle.fs_names.specs.declared.limits.Limits.{Limits}
 use Rattle.fs_calls.specs.declared.call.Call.{Call}
 use Rattle.fs_timeline.specs.declared.entry.Entry.{Entry}
 use Rattle.fs_script.specs.declared.script.Word.{Word}
@@ -9,7 +10,9 @@ use Rattle.fs_script.specs.declared.script.Script.{Script}
 use Rattle.fs_sched.specs.Runs.{Stage, EndsBy, Does, Words, RunsFrom, StopsAt, StopsInWords, StopsInRounds, StopsFrom}
 use Rattle.fs_sched.specs.Schedules.{words_by, goes_on}
 use Rattle.fs_sched.specs.declared.schedule.Schedule.{Schedule}
+use Rattle.fs_script.specs.Limits.{call_limit}
 use Rattle.fs_script.specs.declared.limits.TheConstants.{CALL_LIMIT}
+use Rattle.fs_script.proofs.NumbersLeft.{most_calls}
 use Rattle.fs_sched.specs.RunTexts.{number_of}
 use Rattle.fs_sched.specs.code.Counts.{AreCapped, AreCounts}
 use Rattle.fs_sched.specs.declared.run_texts.Counts.{Counts}
@@ -100,12 +103,13 @@ why_after schedule script old now f h goes refused full = refused_why (StopsFrom
 -- ---- counts
 
 -- where there are no more entries than calls, the counts are theirs
-pub uncapped : (counts : Counts) (es : List Entry) (calls : ℕ) → calls ≤ CALL_LIMIT → ((k : EntryKind) → number_of k es ≤ calls) → AreCapped counts es → AreCounts counts es
-uncapped counts es calls few each capped =
+pub uncapped : (counts : Counts) (es : List Entry) (limits : Limits) (calls : ℕ) → calls ≤ call_limit limits → ((k : EntryKind) → number_of k es ≤ calls) → AreCapped counts es → AreCounts counts es
+uncapped counts es limits calls few each capped =
+    let most : call_limit limits ≤ CALL_LIMIT = most_calls limits in
     let b : number_of kind.Begin es ≤ calls = each kind.Begin in
     let p : number_of kind.Commit es ≤ calls = each kind.Commit in
     let r : number_of kind.Return es ≤ calls = each kind.Return in
     let b_is : counts.begun ≡ min (2 ^ 64 - 1) (number_of kind.Begin es) = capped.begun in
     let p_is : counts.committed ≡ min (2 ^ 64 - 1) (number_of kind.Commit es) = capped.committed in
     let r_is : counts.returned ≡ min (2 ^ 64 - 1) (number_of kind.Return es) = capped.returned in
-    record { begun = omega (arith, b, few, b_is); committed = omega (arith, p, few, p_is); returned = omega (arith, r, few, r_is) }
+    record { begun = omega (arith, b, few, most, b_is); committed = omega (arith, p, few, most, p_is); returned = omega (arith, r, few, most, r_is) }

@@ -7,7 +7,7 @@ use Rattle.fs_nodes.specs.Stores.{graph_of}
 use Rattle.fs_core.specs.CoreValues.{CoreValue, state_of}
 use Rattle.fs_machine.specs.States.{State, empty, fresh}
 use Rattle.fs_script.specs.Script.{script_of}
-use Rattle.fs_script.specs.declared.limits.TheConstants.{CALL_LIMIT}
+use Rattle.fs_script.specs.Limits.{call_limit}
 use Rattle.fs_script.specs.declared.script.Script.{Script}
 use Rattle.fs_sched.specs.EachRun.{HasShortNames, SomeIsReadAgain, EachIsReadAgain}
 use Rattle.fs_sched.specs.Runs.{before_all, calls_in, StopsFrom, IsOutputFrom, IsOutput}
@@ -37,5 +37,5 @@ module _ (schedule : Schedule) (script : Script) (core : CoreValue) (root : stat
       let some : SomeIsReadAgain schedule script (before_all (state_of core) (length script.lists)) = again (input, is) (ap (λ (t : Start). t.limits) start) names in
       script_again schedule input script is (each_again schedule script (subst (λ (s : State). SomeIsReadAgain schedule script (before_all s (length script.lists))) root some))
 
-  pub root_stop : (fault : RunFault) → calls_in script.lists ≤ CALL_LIMIT → IsWhy (StopsFrom schedule script (before_all (state_of core) (length script.lists))) fault → IsStop schedule script fault
+  pub root_stop : (fault : RunFault) → calls_in script.lists ≤ call_limit script.limits → IsWhy (StopsFrom schedule script (before_all (state_of core) (length script.lists))) fault → IsStop schedule script fault
   root_stop fault few why = is_stop schedule script fault few (subst (λ (s : State). IsWhy (StopsFrom schedule script (before_all s (length script.lists))) fault) root why)

@@ -1,6 +1,7 @@
 -- Why a run has no text.
-use Rattle.std.proofs.Common.{◌≡◌, ℕ, ◌<◌, ◌≤◌, ⊎_elim, List, length, Option, Some, None, Ok, sym, ap, subst, ◌∙◌, arith}
+use Rattle.std.proofs.Common.{◌≡◌, ℕ, true, false, ⊎_elim, List, Option, Some, None, Ok, sym, ap, subst, ◌∙◌}
 use Rattle.std.specs.Prelude.{IfSome}
+use Rattle.fs_words.specs.Headers.{is_too_long}
 use Rattle.fs_script.specs.Script.{script_of}
 use Rattle.fs_script.specs.declared.script.Script.{Script}
 use Rattle.fs_sched.specs.Devices.{IsFaultOf, IsSameText}
@@ -35,6 +36,6 @@ known_stop None text items schedule fault e s stop = tt
 known_stop (Some input) text items schedule fault e s stop = (stop.0, sym (script_same items input s) ∙ sym (ap script_of e) ∙ stop.1, stop.2)
 
 -- what is said of the text that was read is said of the input, where that is not too long
-pub known : (P : List ℕ → Type 0) (r : Option (List ℕ)) (text items : List ℕ) → text ≡ items → length items ≤ 16777216 → IfSome r (IsSameText items) → P text → IfSome r P
+pub known : (P : List ℕ → Type 0) (r : Option (List ℕ)) (text items : List ℕ) → text ≡ items → is_too_long items ≡ false → IfSome r (IsSameText items) → P text → IfSome r P
 known P None text items e short s p = tt
-known P (Some input) text items e short s p = ⊎_elim (λ same. subst P (e ∙ same) p) (λ long. absurd (let l : 16777216 < length items = long.0 in omega (arith, l, short))) s
+known P (Some input) text items e short s p = ⊎_elim (λ same. subst P (e ∙ same) p) (λ long. absurd (let both : true ≡ false = sym long.0 ∙ short in cc)) s

@@ -1,7 +1,8 @@
 -- The run of what was read is a run of the input.
-use Rattle.std.proofs.Common.{◌≡◌, ℕ, ◌<◌, ◌≤◌, ltb, ⊎_elim, Bool, true, false, List, length, Option, Some, None, Result, Ok, Err, refl, sym, ap, ◌∙◌, subst, arith}
+use Rattle.std.proofs.Common.{◌≡◌, ℕ, ⊎_elim, false, List, Option, Some, None, Result, Ok, Err, sym, ap, ◌∙◌, subst}
 use Rattle.std.specs.Prelude.{IfSome}
-use Rattle.std.proofs.lemmas.Bool.{ltb-true, ltb-false, lt-ltb}
+use Rattle.std.proofs.lemmas.Bool.{false_from_ne_true}
+use Rattle.fs_words.specs.Headers.{is_too_long}
 use Rattle.fs_words.specs.Reading.{fault_at}
 use Rattle.fs_words.specs.declared.fault.ScriptFault.{ScriptFault}
 use Rattle.fs_words.specs.declared.fault.FaultKind.TheVariants as kind
@@ -13,19 +14,12 @@ use Rattle.fs_sched.specs.Runs.{IsRunOf}
 use Rattle.fs_sched.specs.declared.running.RunEnd.{RunEnd}
 use Rattle.fs_sched.specs.declared.schedule.Schedule.{Schedule}
 
-too_large : (text : List ℕ) → 16777216 < length text → script_of text ≡ Err (fault_at 1 kind.TooLarge)
-too_large text h = long_script text (lt-ltb 16777216 (length text) h)
-
 pub script_same : (text input : List ℕ) → IsSameText text input → script_of text ≡ script_of input
-script_same text input h = ⊎_elim (λ e. ap script_of e) (λ p. too_large text p.0 ∙ sym (too_large input p.1)) h
+script_same text input h = ⊎_elim (λ e. ap script_of e) (λ p. long_script text p.0 ∙ sym (long_script input p.1)) h
 
 -- what has a script is not too long
-pub script_short : (text items : List ℕ) (script : Script) → text ≡ items → script_of text ≡ Ok script → length items ≤ 16777216
-script_short text items script e h = subst (λ (l : List ℕ). length l ≤ 16777216) e (go (ltb 16777216 (length text)) refl)
-  where
-    go : (b : Bool) → ltb 16777216 (length text) ≡ b → length text ≤ 16777216
-    go true t = let long : script_of text ≡ Err (fault_at 1 kind.TooLarge) = too_large text (ltb-true _ _ t) in absurd (cc)
-    go false t = omega (arith, ltb-false _ _ t)
+pub script_short : (text items : List ℕ) (script : Script) → text ≡ items → script_of text ≡ Ok script → is_too_long items ≡ false
+script_short text items script e h = subst (λ (l : List ℕ). is_too_long l ≡ false) e (false_from_ne_true _ (λ t. let long : script_of text ≡ Err (fault_at 1 kind.TooLarge) = long_script text t in absurd (cc)))
 
 pub known_script : (r : Option (List ℕ)) (text items : List ℕ) (given : Result Script ScriptFault) → text ≡ items → IfSome r (IsSameText items) → script_of text ≡ given → IfSome r (λ input. script_of input ≡ given)
 known_script None text items given e s h = tt

@@ -2,7 +2,7 @@
 
 ghost use Rattle.std.specs.Prelude.{◌≡◌, ◌≤◌, Ok, IfOk, IfErr};
 ghost use Rattle.fs_script.specs.Script.{script_of};
-ghost use Rattle.fs_script.specs.declared.limits.TheConstants.{CALL_LIMIT};
+ghost use Rattle.fs_script.specs.Limits.{call_limit};
 ghost use Rattle.fs_sched.specs.Runs.{calls_in};
 ghost use Rattle.fs_sched.specs.Devices.{IsFaultOf};
 
@@ -13,7 +13,7 @@ use std::alloc::Global;
 /// The script that a text has, or why no run of it begins.
 pub fn script_in(alloc: Global, text: &[u8]) -> Result<Script, RunFault>
     ensures script { IfOk result (λ script. script_of text.now ≡ Ok script) }
-    ensures few { IfOk result (λ script. calls_in script.lists ≤ CALL_LIMIT) }
+    ensures few { IfOk result (λ script. calls_in script.lists ≤ call_limit script.limits) }
     ensures fault { IfErr result (IsFaultOf (script_of text.now)) }
 {
     match read_script(alloc, text) {

@@ -9,7 +9,7 @@ ghost use Rattle.fs_machine.specs.States.{empty, fresh};
 ghost use Rattle.fs_core.specs.CoreValues.{state_of};
 ghost use Rattle.fs_words.specs.declared.fault.ScriptFault.{ScriptFault};
 ghost use Rattle.fs_script.specs.Script.{script_of};
-ghost use Rattle.fs_script.specs.declared.limits.TheConstants.{CALL_LIMIT};
+ghost use Rattle.fs_script.specs.Limits.{call_limit};
 ghost use Rattle.fs_sched.specs.Devices.{KeepsDevices, WritesBeginning};
 ghost use Rattle.fs_sched.specs.Runs.{before_all, calls_in, end_of, IsOutputFrom, IsFaultOfRun, IsWhole, HasFinish, ReachesStop, StopsFrom};
 ghost use Rattle.fs_sched.specs.EachRun.{AreOfTheRun, EachIsReadAgain, HasShortNames, SomeIsReadAgain};
@@ -116,7 +116,7 @@ pub fn run_on<Listener: Witness>(
     schedule: Schedule,
     witness: &mut Listener,
 ) -> Result<Made<RunEnd>, RunFault>
-    requires few { calls_in script.lists ≤ CALL_LIMIT }
+    requires few { calls_in script.lists ≤ call_limit script.limits }
     requires seats { core.seats ≡ [] }
     requires fresh { state_of core ≡ fresh (node_limit core.start.limits) core.start (graph_of core.store) }
     ensures output { IfOk result (λ made. IsOutputFrom schedule script (before_all (state_of core) (length script.lists)) made.end made.text.items) }

@@ -5,7 +5,7 @@ ghost use Rattle.std.specs.Io.KnownBytes.{Appends, IsAtEnd};
 ghost use Rattle.fs_calls.specs.Starts.{root_start};
 ghost use Rattle.fs_words.specs.declared.fault.ScriptFault.{ScriptFault};
 ghost use Rattle.fs_script.specs.Script.{script_of};
-ghost use Rattle.fs_script.specs.declared.limits.TheConstants.{CALL_LIMIT};
+ghost use Rattle.fs_script.specs.Limits.{call_limit};
 ghost use Rattle.fs_sched.specs.Devices.{KeepsDevices, WritesBeginning};
 ghost use Rattle.fs_sched.specs.Runs.{Runs, calls_in};
 ghost use Rattle.fs_sched.specs.Seeds.{seed_line, lawful_line, IsLawfulFrom, AreLawful, AreRunsOf};
@@ -43,7 +43,7 @@ fn push_line(seed: u64, verdict: &Verdict, lines: &mut Addition) -> Result<(), A
 
 /// The run of a script that is drawn from a number: it is one piece, from the root alone. The only error is out of memory.
 fn drawn(alloc: Global, script: &Script, seed: u64) -> Result<Play, RunFault>
-    requires few { calls_in script.now.lists ≤ CALL_LIMIT }
+    requires few { calls_in script.now.lists ≤ call_limit script.now.limits }
     ensures runs { IfOk result (λ play. Runs (Schedule.Seeded seed) script.now [] (stage_of play)) }
     ensures root { IfOk result (λ play. play.core.start ≡ root_start script.now.limits) }
     ensures fault { IfErr result (λ fault. fault ≡ RunFault.OutOfMemory) }
@@ -62,7 +62,7 @@ fn push_run(
     seed: u64,
     lines: &mut Addition,
 ) -> Result<bool, RunFault>
-    requires few { calls_in script.now.lists ≤ CALL_LIMIT }
+    requires few { calls_in script.now.lists ≤ call_limit script.now.limits }
     ensures run { OnOk result (IsLawfulFrom script.now seed) }
     ensures line { OnOk result (lines.new.added ≡ lines.old.added ++ lawful_line seed) }
     ensures lawful { IfOk result (λ lawful. lawful ≡ true) }
@@ -91,7 +91,7 @@ fn make_lines<Listener: Witness>(
     runs: u64,
     witness: &mut Listener,
 ) -> Result<Made<bool>, RunFault>
-    requires few { calls_in script.now.lists ≤ CALL_LIMIT }
+    requires few { calls_in script.now.lists ≤ call_limit script.now.limits }
     requires seed { seed ≤ SEED_LIMIT }
     requires runs { runs ≤ RUN_LIMIT }
     ensures ok { IfOk result (λ made. AreLawful script.now seed runs made.text.items) }

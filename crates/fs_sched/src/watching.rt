@@ -1,7 +1,7 @@
 //! A run for its witness alone.
 
 ghost use Rattle.std.specs.Prelude.{◌≤◌, length, IfOk, IfErr};
-ghost use Rattle.fs_script.specs.declared.limits.TheConstants.{CALL_LIMIT};
+ghost use Rattle.fs_script.specs.Limits.{call_limit};
 ghost use Rattle.fs_sched.specs.Runs.{calls_in};
 ghost use Rattle.fs_sched.specs.Watching.{Watches};
 ghost use Rattle.fs_sched.specs.code.Done.{IsStop};
@@ -29,7 +29,7 @@ pub fn watch<W: Witness>(
     schedule: Schedule,
     witness: &mut W,
 ) -> Result<Ran, RunFault>
-    requires few { calls_in script.now.lists ≤ CALL_LIMIT }
+    requires few { calls_in script.now.lists ≤ call_limit script.now.limits }
     ensures watches { IfOk result (λ ran. Watches W.Told schedule script.now witness.old ran witness.new) }
     ensures fault { IfErr result (IsStop schedule script.now) }
 {

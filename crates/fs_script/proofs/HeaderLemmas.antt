@@ -1,70 +1,36 @@
--- The version of a text, by its first line.
-use Rattle.std.proofs.Common.{◌≡◌, ◌≤◌, ℕ, Bool, true, false, cond, List, [], ◌∷◌, length, Option, Some, None, Result, Ok, Err, find, ltb, ap, subst, refl, ◌∙◌, arith}
-use Rattle.std.specs.Prelude.{nat_lt}
-use Rattle.std.specs.Str.{bytes_eq}
+-- What texts give by their first line.
+use Rattle.std.proofs.Common.{◌≡◌, ◌≤◌, ℕ, Bool, true, false, cond, List, ◌∷◌, length, Option, Some, None, Result, Ok, Err, ap, subst, sym, refl, ◌∙◌, arith}
 use Rattle.std.proofs.lemmas.Bool.{cond-true, cond-false}
-use Rattle.std.proofs.lemmas.Bool.Decides.{nat_tests}
-use Rattle.std.proofs.lemmas.Slice.Eq.{bytes_eq-Decides}
 use Rattle.fs_names.specs.declared.limits.Limits.{Limits}
-use Rattle.fs_names.specs.declared.limits.Limits.TheVariants.{V1, V2, V3}
+use Rattle.fs_names.specs.declared.limits.Limits.TheVariants.{V1}
 use Rattle.fs_words.specs.Lines.{lines_of}
 use Rattle.fs_words.specs.Reading.{◌>>=◌, fault_at, first_line, headed}
 use Rattle.fs_words.specs.declared.fault.ScriptFault.{ScriptFault}
 use Rattle.fs_words.specs.declared.fault.FaultKind.TheVariants as kind
-use Rattle.fs_script.specs.Headers.{script_header, started_header, announced}
+use Rattle.fs_words.specs.Headers.{script_header, started_header, announced, text_limit, limit_of_text, is_too_long}
+use Rattle.fs_words.proofs.HeaderLemmas.{announced_is, started_announced, limit_of_started, not_too_long, short_enough}
 use Rattle.fs_script.specs.Journals.{started_lines, announced_journal, journal_behind, journal_of}
 use Rattle.fs_script.specs.Script.{nothing_yet, blocks_from, announced_script, script_behind, script_of}
-use Rattle.fs_script.specs.declared.limits.TheConstants.{SETS}
 use Rattle.fs_script.specs.declared.script.Script.{Script}
-
--- ---- the limits that a line announces
-
--- what is found among sets of limits has the header
-found_is : (header : Limits → List ℕ) (line : List ℕ) (sets : List Limits) (limits : Limits) → find (λ l. bytes_eq line (header l)) sets ≡ Some limits → bytes_eq line (header limits) ≡ true
-found_is header line [] limits is = absurd (cc)
-found_is header line (l ∷ sets) limits is = go (bytes_eq line (header l)) refl is (λ e. found_is header line sets limits e)
-  where
-    go : (b : Bool) → bytes_eq line (header l) ≡ b → cond {A = Option Limits} b (Some l) (find (λ m. bytes_eq line (header m)) sets) ≡ Some limits
-        → (find (λ m. bytes_eq line (header m)) sets ≡ Some limits → bytes_eq line (header limits) ≡ true) → bytes_eq line (header limits) ≡ true
-    go true e h later = let same : l ≡ limits = cc in subst (λ (m : Limits). bytes_eq line (header m) ≡ true) same e
-    go false e h later = later h
-
--- a line that announces limits is their header
-pub announced_is : (header : Limits → List ℕ) (line : List ℕ) (limits : Limits) → announced header line ≡ Some limits → line ≡ header limits
-announced_is header line limits is = (bytes_eq-Decides line (header limits)).0 (found_is header line SETS limits is)
-
--- and a header announces its limits
-pub script_announced : (limits : Limits) → announced script_header (script_header limits) ≡ Some limits
-script_announced V1 = refl
-script_announced V2 = refl
-script_announced V3 = refl
-
-pub started_announced : (limits : Limits) → announced started_header (started_header limits) ≡ Some limits
-started_announced V1 = refl
-started_announced V2 = refl
-started_announced V3 = refl
 
 -- ---- texts by their lines
 
-not_above : (n : ℕ) → n ≤ 16777216 → ltb 16777216 n ≡ false
-not_above n h = grind (arith, nat_tests)
-
-short_headed : (text : List ℕ) → length text ≤ 16777216 → headed text ≡ first_line (lines_of text)
-short_headed text short = cond-false _ _ _ (not_above (length text) short)
+short_headed : (text : List ℕ) → is_too_long text ≡ false → headed text ≡ first_line (lines_of text)
+short_headed text short = cond-false _ _ _ short
 
 -- what the lines of a script give
 abbrev pub script_in : List (List ℕ) → Result Script ScriptFault
 script_in lines = first_line lines >>= script_behind
 
 -- which is what a text gives that is not too long
-pub short_script : (text : List ℕ) → length text ≤ 16777216 → script_of text ≡ script_in (lines_of text)
+pub short_script : (text : List ℕ) → is_too_long text ≡ false → script_of text ≡ script_in (lines_of text)
 unfolding script_of
 short_script text short = ap (λ r. r >>= script_behind) (short_headed text short)
 
 -- and one that is read
 pub lines_read : (text : List ℕ) (script : Script) → script_of text ≡ Ok script → script_in (lines_of text) ≡ Ok script
 unfolding script_of
-lines_read text script is = go (nat_lt 16777216 (length text)) is
+lines_read text script is = go (is_too_long text) is
   where
     go : (long : Bool) → (cond {A = Result (List ℕ × List (List ℕ)) ScriptFault} long (Err (fault_at 1 kind.TooLarge)) (first_line (lines_of text)) >>= script_behind) ≡ Ok script → script_in (lines_of text) ≡ Ok script
     go true e = absurd (cc)
@@ -89,24 +55,25 @@ pub again : (limits : Limits) (first : List ℕ) → announced script_header fir
 again limits first announces more = ap (λ o. announced_script o more) announces
 
 -- what the lines of a journal give that announces a start tree and these limits
-pub short_journal : (limits : Limits) (text : List ℕ) (more : List (List ℕ)) → length text ≤ 16777216 → lines_of text ≡ started_header limits ∷ more → journal_of text ≡ started_lines limits more
+pub short_journal : (limits : Limits) (text : List ℕ) (more : List (List ℕ)) → length text ≤ text_limit limits → lines_of text ≡ started_header limits ∷ more → journal_of text ≡ started_lines limits more
 unfolding journal_of
 short_journal limits text more short are =
-    ap (λ r. r >>= journal_behind text) (short_headed text short ∙ ap first_line are)
+    let own : text_limit limits ≤ limit_of_text text = subst (λ n. text_limit limits ≤ n) (sym (limit_of_started limits text more are)) (omega arith) in
+    ap (λ r. r >>= journal_behind text) (short_headed text (not_too_long text (text_limit limits) short own) ∙ ap first_line are)
     ∙ ap (λ o. announced_journal text o more) (started_announced limits)
 
 -- and one whose first line announces none
-pub root_journal : (text first : List ℕ) (more : List (List ℕ)) → length text ≤ 16777216 → lines_of text ≡ first ∷ more → announced started_header first ≡ None → journal_of text ≡ announced_journal text None more
+pub root_journal : (text first : List ℕ) (more : List (List ℕ)) → length text ≤ text_limit V1 → lines_of text ≡ first ∷ more → announced started_header first ≡ None → journal_of text ≡ announced_journal text None more
 unfolding journal_of
 root_journal text first more short are none =
-    ap (λ r. r >>= journal_behind text) (short_headed text short ∙ ap first_line are) ∙ ap (λ o. announced_journal text o more) none
+    ap (λ r. r >>= journal_behind text) (short_headed text (short_enough text short) ∙ ap first_line are) ∙ ap (λ o. announced_journal text o more) none
 
 -- ---- texts that are too long
 
-pub long_script : (text : List ℕ) → nat_lt 16777216 (length text) ≡ true → script_of text ≡ Err (fault_at 1 kind.TooLarge)
+pub long_script : (text : List ℕ) → is_too_long text ≡ true → script_of text ≡ Err (fault_at 1 kind.TooLarge)
 unfolding script_of
 long_script text long = ap (λ r. r >>= script_behind) (cond-true _ _ _ long)
 
-pub long_journal : (text : List ℕ) → nat_lt 16777216 (length text) ≡ true → journal_of text ≡ Err (fault_at 1 kind.TooLarge)
+pub long_journal : (text : List ℕ) → is_too_long text ≡ true → journal_of text ≡ Err (fault_at 1 kind.TooLarge)
 unfolding journal_of
 long_journal text long = ap (λ r. r >>= journal_behind text) (cond-true _ _ _ long)

@@ -29,14 +29,15 @@ use Rattle.fs_words.specs.declared.fault.FaultKind.TheVariants as kind
 use Rattle.fs_words.proofs.EscapeLemmas.{escaped_cons_yes, escaped_cons_no, IsWord_escaped}
 use Rattle.fs_words.proofs.WordLemmas.{IsWord, pieces_of_joined, has_no_empty, IsLine, IsLine_joined, ended, lines_of_ended}
 use Rattle.fs_words.proofs.NumberLemmas.{IsWord_hex}
-use Rattle.fs_words.proofs.PathLemmas.{name_facts, IsWord_path}
+use Rattle.fs_names.proofs.WrittenLemmas.{name_facts}
+use Rattle.fs_words.proofs.PathLemmas.{IsWord_path}
 use Rattle.fs_words.proofs.WriteLemmas.{escaped_none, root_word}
 use Rattle.fs_text.specs.Fits.{FitsName, AllFit}
 use Rattle.fs_text.specs.Journal.{entry_line, entries_of, names_at}
 use Rattle.fs_text.specs.Journal as text
 use Rattle.fs_text.proofs.EntryLemmas.{joined, text_ended, are_lines, journal_lines, lines_again, journal_again, kind_good, names_read, hex_read}
 use Rattle.fs_script.specs.TreeText.{node_words, node_line}
-use Rattle.fs_script.specs.Headers.{started_header}
+use Rattle.fs_words.specs.Headers.{started_header, text_limit}
 use Rattle.fs_script.specs.Journals.{Read, with_start, key_at, node_at, node_in_line, grown, in_start, started_from, behind_line, is_told, journal_text, journal_of}
 use Rattle.fs_script.specs.code.Starts.{starting}
 use Rattle.fs_script.specs.Laws.{FitsNode, FitsStart, ReadsJournalsBack}
@@ -221,7 +222,7 @@ root_line : line_of ([], Dir) ≡ codes "dir /"
 root_line = ap (λ (w : List ℕ). codes "dir " ++ w) (root_word [] refl)
 
 told_again : (limits : Limits) (u : Tree) (es : List Entry) → IsWithinLimits limits (([], Dir) ∷ u) → AreTold (starting limits (([], Dir) ∷ u)) → Told limits (([], Dir) ∷ u) → AllFit limits es
-    → length (journal_text (starting limits (([], Dir) ∷ u)) es) ≤ 16777216 → journal_of (journal_text (starting limits (([], Dir) ∷ u)) es) ≡ Ok (starting limits (([], Dir) ∷ u), es)
+    → length (journal_text (starting limits (([], Dir) ∷ u)) es) ≤ text_limit limits → journal_of (journal_text (starting limits (([], Dir) ∷ u)) es) ≡ Ok (starting limits (([], Dir) ∷ u), es)
 told_again limits u es within is told fit short =
     let start : Start = starting limits (([], Dir) ∷ u) in
     short_journal limits (journal_text start es) (codes "start" ∷ rest_lines start.tree es) short (text_lines start es is told fit)
@@ -229,16 +230,16 @@ told_again limits u es within is told fit short =
     ∙ wanted_again (codes "dir /") (started_from limits root_tree) 3 (line_of ([], Dir)) (rest_lines u es) refl root_line
     ∙ started_again limits ([], Dir) [] u 4 es within told.1 fit
 
-root_again : (es : List Entry) → AllFit V1 es → length (journal_text (root_start V1) es) ≤ 16777216 → journal_of (journal_text (root_start V1) es) ≡ Ok (root_start V1, es)
+root_again : (es : List Entry) → AllFit V1 es → length (journal_text (root_start V1) es) ≤ text_limit V1 → journal_of (journal_text (root_start V1) es) ≡ Ok (root_start V1, es)
 root_again es fit short =
     let is : journal_text (root_start V1) es ≡ text.journal_text es = from_the_root es in
     root_journal (journal_text (root_start V1) es) text.journal_header (map joined es) short (ap lines_of is ∙ journal_lines V1 es fit) refl
     ∙ ap (λ t. with_start (root_start V1) (entries_of t)) is
-    ∙ ap (with_start (root_start V1)) (journal_again es fit (subst (λ (t : List ℕ). length t ≤ 16777216) is short))
+    ∙ ap (with_start (root_start V1)) (journal_again es fit (subst (λ (t : List ℕ). length t ≤ text_limit V1) is short))
 
 -- what is to be shown of a start
 abbrev IsAgain : List Entry → Start → Type 0
-IsAgain es start = FitsStart start → AllFit start.limits es → length (journal_text start es) ≤ 16777216 → journal_of (journal_text start es) ≡ Ok (start, es)
+IsAgain es start = FitsStart start → AllFit start.limits es → length (journal_text start es) ≤ text_limit start.limits → journal_of (journal_text start es) ≡ Ok (start, es)
 
 two_told : (n : ℕ) → 1 < n → is_told V1 n ≡ true
 two_told n h = let other : eqb n 1 ≡ false = grind (arith, nat_tests, h) in ap not other

@@ -12,7 +12,7 @@ use Rattle.fs_seq.specs.declared.rows.Row.{Row}
 use Rattle.fs_seq.specs.Rows.{row_of}
 use Rattle.fs_script.specs.TreeText.{node_line}
 use Rattle.fs_script.specs.Laws.{FitsNode}
-use Rattle.fs_script.specs.Headers.{started_header}
+use Rattle.fs_words.specs.Headers.{started_header}
 use Rattle.fs_script.specs.Journals.{is_told, opening, journal_text}
 use Rattle.fs_script.proofs.ScriptLemmas.{length_mapped}
 

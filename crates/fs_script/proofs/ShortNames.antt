@@ -15,12 +15,12 @@ use Rattle.fs_words.specs.Reading.{◌>>=◌, words_of, at_line, headed}
 use Rattle.fs_words.specs.declared.fault.FaultKind.{FaultKind}
 use Rattle.fs_text.specs.Calls.{call_of}
 use Rattle.fs_text.proofs.ReadNames.{Given, given_then, given_is, call_given}
-use Rattle.fs_script.specs.Headers.{script_header, announced}
+use Rattle.fs_words.specs.Headers.{script_header, announced}
 use Rattle.fs_script.specs.Script.{nothing_yet, is_thread, seat_named, with_call, new_thread, thread_line, new_call, call_line, block_line, with_word, new_events, events_word, is_star, timed_word, has_finish, schedule_word, schedule_line, schedule_from, blocks_from, announced_script, script_behind, script_of}
-use Rattle.fs_script.specs.declared.limits.TheConstants.{THREAD_LIMIT, CALL_LIMIT, EVENT_LIMIT}
+use Rattle.fs_script.specs.declared.limits.TheConstants.{THREAD_LIMIT, EVENT_LIMIT}
 use Rattle.fs_script.specs.declared.script.Script.{Script}
 use Rattle.fs_script.specs.declared.script.Word.TheVariants.{Finish, Checkpoint}
-use Rattle.fs_script.specs.Limits.{calls_in, events_in}
+use Rattle.fs_script.specs.Limits.{call_limit, calls_in, events_in}
 
 -- a call of these limits, with such paths
 abbrev pub ShortCall : Limits → Call → Type 0
@@ -79,7 +79,7 @@ thread_line_keeps s (name ∷ []) h = thread_keeps s name h
 thread_line_keeps s (name ∷ next ∷ more) h = tt
 
 call_keeps : (s : Script) (c : Call) → ShortCall s.limits c → ShortLists s → Keeps (new_call s c)
-call_keeps s c one h = else_keeps (nat_le CALL_LIMIT (calls_in s.lists)) _ _ (calls_more (ShortCall s.limits) c s.lists one h)
+call_keeps s c one h = else_keeps (nat_le (call_limit s.limits) (calls_in s.lists)) _ _ (calls_more (ShortCall s.limits) c s.lists one h)
 
 block_keeps : (s : Script) (ws : List words.Word) → ShortLists s → Keeps (block_line s ws)
 unfolding block_line

@@ -1,7 +1,7 @@
 -- A tree that was read has the limits by which it was read, and its names keep them.
 use Rattle.std.proofs.Common.{◌≡◌, ◌≤◌, ℕ, ◌+◌, Bool, true, false, cond, List, [], ◌∷◌, ◌++◌, length, Option, Some, None, Result, Ok, Err, refl, sym, ap, subst, ◌∙◌, codes, arith, rules}
 use Rattle.std.proofs.lemmas.Bool.Decides.{nat_tests}
-use Rattle.std.specs.Prelude.{nat_le, nat_lt, ◌&&◌, take, drop, IfOk}
+use Rattle.std.specs.Prelude.{nat_le, ◌&&◌, take, drop, IfOk}
 use Rattle.std.specs.List.{All, AllByRecursion, slice_split, join_with_byte}
 use Rattle.std.proofs.lemmas.List.Splits.{slice_split_at}
 use Rattle.std.proofs.lemmas.List.Elements.{All-from_recursion}
@@ -29,10 +29,10 @@ use Rattle.fs_words.specs.declared.fault.ScriptFault.{ScriptFault}
 use Rattle.fs_words.proofs.PathLemmas.{IsShort}
 use Rattle.fs_text.specs.Journal.{names_at, entries_from, entries_of}
 use Rattle.fs_text.proofs.ReadNames.{Given, given_then, given_is}
-use Rattle.fs_script.specs.Headers.{started_header, announced}
+use Rattle.fs_words.specs.Headers.{started_header, announced, is_too_long}
 use Rattle.fs_script.specs.Journals.{Read, key_at, node_at, node_in_line, grown, in_start, with_start, started_from, behind_line, started_lines, announced_journal, journal_behind, journal_of, line_end, nodes_journal, start_read, by_limits, start_of}
 use Rattle.fs_script.specs.TreeText.{node_words}
-use Rattle.fs_script.proofs.HeaderLemmas.{started_announced}
+use Rattle.fs_words.proofs.HeaderLemmas.{started_announced}
 
 either : {A F : Type 0} (P : A → Type 0) (b : Bool) (r q : Result A F) → Given P r → Given P q → Given P (cond b r q)
 either P true r q h g = h
@@ -156,7 +156,7 @@ cut V3 nodes = split_twice (started_header V3) (nodes ++ line_end nodes ++ codes
 
 nodes_given : (limits : Limits) (nodes : List ℕ) → Given (ShortRead limits) (journal_of (nodes_journal limits nodes))
 unfolding journal_of
-nodes_given limits nodes = by (nat_lt 16777216 (length text))
+nodes_given limits nodes = by (is_too_long text)
   where
     text : List ℕ
     text = nodes_journal limits nodes

@@ -7,10 +7,9 @@ use Rattle.fs_names.specs.Keys.{Key}
 use Rattle.fs_calls.specs.Tree.{Node, Tree}
 use Rattle.fs_calls.specs.Starts.{Start}
 use Rattle.fs_seq.proofs.Fitting.{root_first}
-use Rattle.fs_words.specs.declared.limits.TheConstants.{TEXT_LIMIT}
 use Rattle.fs_script.specs.TreeText.{node_line, node_words, tree_text}
 use Rattle.fs_script.specs.Laws.{ReadsTreesBack}
-use Rattle.fs_script.specs.Headers.{started_header}
+use Rattle.fs_words.specs.Headers.{started_header, text_limit}
 use Rattle.fs_script.specs.Journals.{is_told, opening, ends_line, line_end, nodes_journal, start_read, journal_text, journal_of, tree_of}
 use Rattle.fs_script.proofs.JournalLemmas.{reads_journals_back}
 
@@ -57,5 +56,5 @@ pub reads_trees_back : ReadsTreesBack
 reads_trees_back start fits told short =
     let first = root_first start.tree fits.within.tree in
     let same : nodes_journal start.limits (flat_map node_line start.tree) ≡ journal_text start [] = same_journal start told (whole start.tree _ first.0 first.1) in
-    let read : journal_of (journal_text start []) ≡ Ok (start, []) = reads_journals_back start [] fits tt (subst (λ (text : List ℕ). length text ≤ TEXT_LIMIT) (sym (append-nil (opening start))) short) in
+    let read : journal_of (journal_text start []) ≡ Ok (start, []) = reads_journals_back start [] fits tt (subst (λ (text : List ℕ). length text ≤ text_limit start.limits) (sym (append-nil (opening start))) short) in
     by_journal start ∙ ap (λ (text : List ℕ). start_read (journal_of text)) same ∙ ap start_read read

@@ -40,6 +40,7 @@ pub record ScriptFaults : Type 0 where
   pub third_unended : script_of (codes "atomfs 3\n") ≡ Err (fault_at 2 NoSchedule)
   pub list_in_the_second : script_of (codes "atomfs 2\nthread t\nlist / / 1\nschedule\n") ≡ Err (fault_at 3 BadLine)
   pub few_words_of_a_list : script_of (codes "atomfs 3\nthread t\nlist / 1\nschedule\n") ≡ Err (fault_at 3 BadLine)
+  pub large_count_of_a_list : script_of (codes "atomfs 3\nthread t\nlist / / 4294967296\nschedule\n") ≡ Err (fault_at 3 BadNumber)
   pub spaced_header : script_of (codes "atomfs 1 \n") ≡ Err (fault_at 1 BadHeader)
   pub upper_thread : FaultOf "thread T\n" 2 BadThread
   pub thread_finish : FaultOf "thread finish\n" 2 BadThread

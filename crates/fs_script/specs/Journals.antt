@@ -20,7 +20,7 @@ use Rattle.fs_words.specs.declared.fault.ScriptFault.{ScriptFault}
 use Rattle.fs_words.specs.declared.fault.FaultKind.{FaultKind}
 use Rattle.fs_words.specs.declared.fault.FaultKind.TheVariants as kind
 use Rattle.fs_text.specs.Journal.{journal_header, entry_line, names_at, entries_from, entries_of}
-use Rattle.fs_script.specs.Headers.{started_header, announced}
+use Rattle.fs_words.specs.Headers.{started_header, announced}
 use Rattle.fs_script.specs.TreeText.{node_words, node_line}
 
 -- ---- written

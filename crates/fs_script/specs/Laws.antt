@@ -8,7 +8,7 @@ use Rattle.fs_calls.specs.Tree.{Node, Dir, File}
 use Rattle.fs_calls.specs.Starts.{Start}
 use Rattle.fs_timeline.specs.declared.entry.Entry.{Entry}
 use Rattle.fs_seq.specs.Rows.{IsWithinLimits as IsTreeWithinLimits}
-use Rattle.fs_words.specs.declared.limits.TheConstants.{TEXT_LIMIT}
+use Rattle.fs_words.specs.Headers.{text_limit}
 use Rattle.fs_text.specs.Fits.{FitsName, AllFit}
 use Rattle.fs_script.specs.TreeText.{tree_text}
 use Rattle.fs_script.specs.Journals.{is_told, opening, journal_text, journal_of, tree_of}
@@ -32,8 +32,8 @@ pub record FitsStart (start : Start) : Type 0 where
 
 -- a journal that was written is read again as the same start and the same entries, where their names keep its limit
 abbrev pub ReadsJournalsBack : Type 0
-ReadsJournalsBack = (start : Start) (es : List Entry) → FitsStart start → AllFit start.limits es → length (journal_text start es) ≤ TEXT_LIMIT → journal_of (journal_text start es) ≡ Ok (start, es)
+ReadsJournalsBack = (start : Start) (es : List Entry) → FitsStart start → AllFit start.limits es → length (journal_text start es) ≤ text_limit start.limits → journal_of (journal_text start es) ≡ Ok (start, es)
 
 -- a tree whose text was written is read again as the same tree, where its names keep the limit
 abbrev pub ReadsTreesBack : Type 0
-ReadsTreesBack = (start : Start) → FitsStart start → is_told start.limits (length start.tree) ≡ true → length (opening start) ≤ TEXT_LIMIT → tree_of start.limits (tree_text start.tree) ≡ Ok start
+ReadsTreesBack = (start : Start) → FitsStart start → is_told start.limits (length start.tree) ≡ true → length (opening start) ≤ text_limit start.limits → tree_of start.limits (tree_text start.tree) ≡ Ok start

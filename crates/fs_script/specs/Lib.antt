@@ -1,5 +1,4 @@
 pub mod Limits
-pub mod Headers
 pub mod Script
 pub mod TreeText
 pub mod Journals

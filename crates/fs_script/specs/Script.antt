@@ -8,15 +8,15 @@ use Rattle.fs_words.specs.Lines.{is_passed_over}
 use Rattle.fs_words.specs.Words.{Word, number_of}
 use Rattle.fs_words.specs.Reading.{◌>>=◌, words_of, fault_at, at_line, headed}
 use Rattle.fs_text.specs.Calls.{call_of}
-use Rattle.fs_script.specs.declared.limits.TheConstants.{THREAD_LIMIT, CALL_LIMIT, EVENT_LIMIT, THREAD_NAME_LIMIT}
+use Rattle.fs_script.specs.declared.limits.TheConstants.{THREAD_LIMIT, EVENT_LIMIT, THREAD_NAME_LIMIT}
 use Rattle.fs_words.specs.declared.fault.ScriptFault.{ScriptFault}
 use Rattle.fs_words.specs.declared.fault.FaultKind.{FaultKind}
 use Rattle.fs_words.specs.declared.fault.FaultKind.TheVariants as kind
 use Rattle.fs_script.specs.declared.script.Script.{Script}
 use Rattle.fs_script.specs.declared.script.Word as schedule
 use Rattle.fs_script.specs.declared.script.Word.TheVariants.{Events, Finish, Checkpoint}
-use Rattle.fs_script.specs.Headers.{script_header, announced}
-use Rattle.fs_script.specs.Limits.{calls_in, events_in}
+use Rattle.fs_words.specs.Headers.{script_header, announced}
+use Rattle.fs_script.specs.Limits.{call_limit, calls_in, events_in}
 
 -- ---- threads
 
@@ -68,7 +68,7 @@ with_call c (calls ∷ next ∷ more) = calls ∷ with_call c (next ∷ more)
 
 -- a call more of the last thread, where the script has room for it
 abbrev pub new_call : Script → Call → Result Script FaultKind
-new_call s c = if nat_le CALL_LIMIT (calls_in s.lists) then Err kind.TooLarge else Ok (record s { lists = with_call c s.lists })
+new_call s c = if nat_le (call_limit s.limits) (calls_in s.lists) then Err kind.TooLarge else Ok (record s { lists = with_call c s.lists })
 
 -- no call stands before the first thread; a call is read by the limits of the script
 abbrev pub call_line : Script → List Word → Result Script FaultKind

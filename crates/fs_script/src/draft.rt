@@ -8,7 +8,7 @@ ghost use Rattle.fs_script.specs.declared.script.Word.TheVariants.{Finish, Check
 ghost use Rattle.fs_script.specs.code.Drafts.{line_in, step_in};
 ghost use Rattle.fs_words.specs.code.Answers.{Becomes};
 
-use crate::limits::{CALL_LIMIT, EVENT_LIMIT, THREAD_LIMIT, THREAD_NAME_LIMIT};
+use crate::limits::{EVENT_LIMIT, THREAD_LIMIT, THREAD_NAME_LIMIT, call_limit};
 use crate::script::{CallLists, Script, ThreadNames, Word, WordList};
 use fs_calls::Call;
 use fs_names::Limits;
@@ -122,7 +122,7 @@ impl Draft {
         ensures { Becomes result self.new.script (new_call self.old.script call) }
     {
         let Draft { script, calls, .. } = self;
-        if *calls >= CALL_LIMIT {
+        if *calls >= call_limit(script.limits) {
             return Err(FaultKind::TooLarge);
         }
         if let Err(kind) = script.lists.push_call(call) {

@@ -16,11 +16,11 @@ ghost use Rattle.fs_script.specs.Journals.{key_at, file_at, node_at, node_in_lin
 ghost use Rattle.fs_script.specs.code.Starts.{node_of_row, IsToldBy, Expects, AreTaken, read_end, IsRootAlone, AreNumbered, MakesTree, journal_seen};
 
 use crate::node_line::push_row;
-use crate::opening::started_limits;
 use fs_names::{Kind, Limits, Name};
 use fs_seq::{NotTree, Row, SeqTree};
 use fs_text::{entries_in, names_at, read_entries};
 use fs_timeline::Entry;
+use fs_words::headers::started_limits;
 use fs_words::lines::{cut_words, push_item};
 use fs_words::words::{hex_at, is_word};
 use fs_words::{Addition, FaultKind, Lines, ScriptFault};

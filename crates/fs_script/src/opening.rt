@@ -6,16 +6,14 @@ ghost use Rattle.fs_names.specs.Limits.{largest};
 ghost use Rattle.fs_seq.specs.Rows.{row_of};
 ghost use Rattle.fs_script.specs.TreeText.{node_line};
 ghost use Rattle.fs_script.specs.Laws.{FitsNode};
-ghost use Rattle.fs_script.specs.Headers.{started_header, announced};
 ghost use Rattle.fs_script.specs.Journals.{is_told, opening};
 
-use crate::limits::SETS;
 use crate::node_line::push_row;
 use fs_names::Limits;
 use fs_seq::{Row, SeqTree};
 use fs_words::Addition;
 use fs_words::addition::put_back;
-use fs_words::words::is_word;
+use fs_words::headers::started_header;
 use std::alloc::{AllocError, Global};
 use std::mem;
 
@@ -30,25 +28,6 @@ fn push_rows(alloc: Global, rows: &[Row], line: &mut Addition) -> Result<(), All
         line.push(b"\n")?;
     }
     Ok(())
-}
-
-/// The first line of a journal that tells its start tree.
-pub(crate) fn started_header(limits: Limits) -> &'static [u8]
-    ensures { result.now ≡ started_header limits }
-{
-    match limits {
-        Limits::V1 => b"atomfs-journal 2",
-        Limits::V2 => b"atomfs-journal 3",
-        Limits::V3 => b"atomfs-journal 4",
-    }
-}
-
-/// The limits of which a line is the first one of such a journal.
-pub(crate) fn started_limits(line: &[u8]) -> Option<Limits>
-    ensures { result ≡ announced started_header line.now }
-{
-    SETS.into_iter()
-        .find(|limits| is_word(line, started_header(*limits)))
 }
 
 /// Whether a journal tells a start tree of so many nodes.

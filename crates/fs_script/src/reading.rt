@@ -2,16 +2,14 @@
 
 ghost use Rattle.std.specs.Prelude.{◌≡◌, codes, not, ◌&&◌};
 ghost use Rattle.std.specs.Str.{bytes_eq};
-ghost use Rattle.fs_script.specs.Headers.{script_header, announced};
 ghost use Rattle.fs_script.specs.Script.{nothing_yet, blocks_from, script_of};
 ghost use Rattle.fs_words.specs.code.Answers.{GivesText};
 
 use crate::draft::Draft;
-use crate::limits::SETS;
 use crate::script::Script;
 use fs_names::Limits;
+use fs_words::headers::script_limits;
 use fs_words::recent::Recent;
-use fs_words::words::is_word;
 use fs_words::{FaultKind, Lines, ScriptFault};
 use std::alloc::Global;
 
@@ -50,25 +48,6 @@ fn script_in(alloc: Global, limits: Limits, lines: Lines<'_>) -> Result<Script, 
         });
     }
     Ok(draft.script)
-}
-
-/// The first line of a script.
-fn script_header(limits: Limits) -> &'static [u8]
-    ensures { result.now ≡ script_header limits }
-{
-    match limits {
-        Limits::V1 => b"atomfs 1",
-        Limits::V2 => b"atomfs 2",
-        Limits::V3 => b"atomfs 3",
-    }
-}
-
-/// The limits of which a line is the first one of a script.
-fn script_limits(line: &[u8]) -> Option<Limits>
-    ensures { result ≡ announced script_header line.now }
-{
-    SETS.into_iter()
-        .find(|limits| is_word(line, script_header(*limits)))
 }
 
 /// Reads a script of any version. The fault is the first from the left, with its line.

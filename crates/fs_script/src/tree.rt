@@ -3,7 +3,7 @@
 ghost use Rattle.std.specs.Prelude.{◌≡◌, ◌++◌, ◌∷◌, [], Some, None, IsTrue, IfOk, OnOk, OnErr, option_map, codes, false, true};
 ghost use Rattle.fs_names.specs.Shapes.{is_there, is_dir, names_of, bytes_of};
 ghost use Rattle.fs_nodes.specs.Seen.{seen, IsReal};
-ghost use Rattle.fs_nodes.specs.Stores.{graph_of, shape, child, next_entry, IsNextName};
+ghost use Rattle.fs_nodes.specs.Stores.{graph_of, shape, child, next_entry, IsNextName, lent};
 ghost use Rattle.fs_script.specs.TreeText.{tree_text, AppendsTree};
 ghost use Rattle.fs_script.specs.code.Walks.{WalkPlace, forest_of, key_above, Leads, IsLast, Steps, IsUp, visited, row_text, node_seen, node_with, text_at, pending_at, at_root};
 ghost use Rattle.fs_slab.specs.code.Slots.{tree_of};
@@ -127,16 +127,17 @@ impl Walk {
         &mut self,
         alloc: Global,
         store: &Store,
-        name: Name,
+        name: &Name,
         node: NodeNo,
         line: &mut Addition,
     ) -> Result<(), AllocError>
         requires { IsTrue (is_there (shape store.now node)) }
-        ensures walk { OnOk result (self.new ≡ visited self.old name node (is_dir (shape store.now node))) }
-        ensures ok { OnOk result (line.new.added ≡ line.old.added ++ row_text (key_above self.old.above ++ name ∷ []) (node_seen (shape store.now node))) }
+        ensures walk { OnOk result (self.new ≡ visited self.old name.now node (is_dir (shape store.now node))) }
+        ensures ok { OnOk result (line.new.added ≡ line.old.added ++ row_text (key_above self.old.above ++ name.now ∷ []) (node_seen (shape store.now node))) }
         ensures before { line.new.before ≡ line.old.before }
     {
-        push_line_of(alloc, store, &self.above, &name, node, line)?;
+        push_line_of(alloc, store, &self.above, name, node, line)?;
+        let name = name.copy()?;
         if store.is_dir(node) {
             return self.go_down(name, node);
         }
@@ -161,10 +162,10 @@ impl Walk {
     }
 
     /// The next entry of the directory.
-    fn next(&self, store: &Store) -> Option<(Name, NodeNo)>
+    fn next<'s>(&self, store: &'s Store) -> Option<(&'s Name, NodeNo)>
         requires { IsLast (child store.now) self.now.dir self.now.low self.now.last }
-        ensures entry { result ≡ next_entry (graph_of store.now) self.now.dir self.now.low }
-        ensures rest { IsNextName (names_of (shape store.now self.now.dir)) self.now.low (option_map (λ entry. entry.0) result) }
+        ensures entry { lent result ≡ next_entry (graph_of store.now) self.now.dir self.now.low }
+        ensures rest { IsNextName (names_of (shape store.now self.now.dir)) self.now.low (option_map (λ entry. entry.0) (lent result)) }
         ensures real { IsReal (seen store.now) }
     {
         match self.last {
@@ -188,8 +189,8 @@ impl Walk {
         ensures real { IsReal (seen store.now) }
     {
         match self.next(store) {
-            Some((name, node)) => {
-                self.visit(alloc, store, name, node, line)?;
+            Some(entry) => {
+                self.visit(alloc, store, entry.0, entry.1, line)?;
                 Ok(true)
             }
             None => Ok(self.go_up()),

@@ -6,9 +6,9 @@ ghost use Rattle.fs_words.specs.code.Answers.{GivesText};
 ghost use Rattle.fs_script.specs.Journals.{by_limits, journal_of, line_end, nodes_journal, start_of, start_read, tree_of};
 
 use crate::journal::read_journal;
-use crate::opening::started_header;
 use fs_names::Limits;
 use fs_seq::SeqTree;
+use fs_words::headers::started_header;
 use fs_words::{FaultKind, ScriptFault};
 use std::alloc::{AllocError, Global};
 

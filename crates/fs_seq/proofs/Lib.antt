@@ -10,6 +10,7 @@ pub mod Exchanged
 pub mod RisingLemmas
 pub mod Walked
 pub mod Appended
+pub mod KeyOrder
 pub mod Listed
 pub mod Fitting
 pub mod GraphMade

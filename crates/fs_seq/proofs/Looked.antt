@@ -1,19 +1,25 @@
 -- What the calls on one path answer, by what stands there.
-use Rattle.std.proofs.Common.{◌≡◌, ℕ, zero, suc, ◌<◌, ◌++◌, get_or, arith, List, [], ◌∷◌, length, take, map, Some, None, refl, sym, ap, ◌∙◌}
+use Rattle.std.proofs.lemmas.Bool.Decides.{nat_tests}
+use Rattle.std.specs.Prelude.{nat_lt}
+use Rattle.std.proofs.Common.{◌≡◌, ℕ, zero, suc, Bool, true, false, Option, ◌≤◌, ◌<◌, ◌*◌, ◌++◌, get_or, arith, List, [], ◌∷◌, length, take, map, Some, None, refl, sym, ap, ◌∙◌}
 use Rattle.fs_names.specs.Keys.{Key}
 use Rattle.fs_names.specs.declared.limits.Limits.{Limits}
 use Rattle.fs_slab.specs.declared.nodes.Link.{Link}
 use Rattle.fs_slab.specs.code.Nodes.{pairs}
 use Rattle.fs_calls.specs.declared.call.Call.{Call}
 use Rattle.fs_calls.specs.declared.errno.Errno.{Errno}
+use Rattle.fs_calls.specs.declared.errno.Errno.TheVariants.{Eoverflow}
 use Rattle.fs_calls.specs.declared.reply.Reply.TheVariants as replies
 use Rattle.fs_calls.specs.Tree.{Tree}
-use Rattle.fs_calls.specs.Sights.{tree_shapes, row_in, names_of}
+use Rattle.fs_calls.specs.Sights.{tree_shapes, row_in, names_of, has_any}
 use Rattle.fs_calls.specs.Outcomes.{fault, success, reply, reply_of, replied, resolution}
-use Rattle.fs_calls.specs.Forms.{NodeCall, AtNode, form, by_text}
-use Rattle.fs_names.specs.Failures.{or_else}
+use Rattle.fs_calls.specs.Forms.{NodeCall, Readdir, AtNode, form, by_text}
+use Rattle.fs_names.specs.Failures.{check, or_else}
+use Rattle.fs_names.specs.Shapes.{Shape, Dir, File}
+use Rattle.fs_names.specs.declared.limits.TheConstants.{LIST_LIMIT}
 use Rattle.fs_calls.specs.Rows.{node_fault, node_reply}
-use Rattle.fs_slab.specs.code.Slots.{Place, Dir, File, Slots, place_at, links_of, shape_of, walk, tree_of, IsForest}
+use Rattle.fs_slab.specs.code.Slots as places
+use Rattle.fs_slab.specs.code.Slots.{Place, Slots, place_at, links_of, shape_of, walk, tree_of, IsForest}
 use Rattle.fs_seq.specs.code.Effects.{IsFound, node_error}
 use Rattle.fs_slab.proofs.NodeLemmas.{rising_got}
 use Rattle.fs_slab.proofs.Resolving.{resolution_walked, seen_at}
@@ -48,10 +54,26 @@ module _ (limits : Limits) (call : Call) (c : NodeCall) (p : Key) (on_node : for
 
 -- the names of the links of a place are those that are seen
 pub link_names : (at : Place) → map (λ l. l.0) (links_of (Some at)) ≡ names_of (shape_of (Some at))
-link_names (Dir links) = refl
-link_names (File file) = refl
+link_names (places.Dir links) = refl
+link_names (places.File file) = refl
+
+-- a directory of which all names are told has no more of them than a call answers
+pub all_told : (found : Option Errno) (there : Option Shape) → node_fault Readdir found there ≡ None → length (names_of there) ≤ LIST_LIMIT
+all_told (Some e) there h = absurd (cc)
+all_told None None h = omega arith
+all_told None (Some (File bytes)) h = omega arith
+all_told None (Some (Dir names)) h = few (nat_lt LIST_LIMIT (length names)) refl h
+  where
+    few : (b : Bool) → nat_lt LIST_LIMIT (length names) ≡ b → or_else (check b Eoverflow) None ≡ None → length names ≤ LIST_LIMIT
+    few true e h = absurd (cc)
+    few false e h = grind (arith, nat_tests)
 
 -- ---- names of links, one by one
+
+-- where their room is asked for there is one
+pub some_named : (links : List Link) (room : ℕ) → 0 < length links * room → has_any (map (λ l. l.0) (pairs links)) ≡ true
+some_named [] room h = absurd (omega arith)
+some_named (l ∷ links) room h = refl
 
 -- one name more
 pub names_next : (links : List Link) (i : ℕ) (l : Link) → i < length links → l ≡ get_or links i l → map (λ k. k.0) (pairs (take (suc i) links)) ≡ map (λ k. k.0) (pairs (take i links)) ++ l.name ∷ []

@@ -1,9 +1,9 @@
 -- What a rename answers and leaves.
-use Rattle.std.proofs.Common.{◌≡◌, ◌≢◌, ℕ, ◌≤◌, Bool, true, false, cond, not, ◌&&◌, List, length, Some, None, Option, is_some, Ok, refl, sym, ap, subst, ◌∙◌, IsTrue}
+use Rattle.std.proofs.Common.{◌≡◌, ◌≢◌, ℕ, ◌≤◌, Bool, true, false, cond, not, ◌&&◌, ◌||◌, List, length, Some, None, Option, is_some, Ok, refl, sym, ap, subst, ◌∙◌, IsTrue}
 use Rattle.std.specs.Prelude.{insert, remove, slice_set}
 use Rattle.std.specs.FinMap.{find, put, is_sorted}
 use Rattle.fs_names.specs.Limits.{entry_limit}
-use Rattle.fs_names.specs.Names.{Name, name_cmp, same_name}
+use Rattle.fs_names.specs.Names.{Name, name_cmp, same_name, is_long}
 use Rattle.fs_names.specs.declared.limits.Limits.{Limits}
 use Rattle.fs_names.specs.Keys.{Key, parent_of, last_of}
 use Rattle.fs_calls.specs.Tree.{Tree, renamed, Dir as IsDir}
@@ -131,6 +131,17 @@ module _ (limits : Limits) (g : Slots) (forest : IsForest g) (p q : Key) (may : 
         moved limits g g' p q may (form_edit limits g g' entry.dir _ edit) (renamed_free g forest p q entry.dir entry.node entry.dir renames at.parent at.leads to.parent g'
         (turned_in g g' forest.rising entry.dir (last_of p) (last_of q) entry.node dir_node dir_placed turns))
 
+    -- such a rename needs memory only for a long name
+    pub name_needed : (x : Name) (i entries : ℕ) → IsFree g q entry.dir i entries → last_of q ≡ x → IsTrue (is_long x) → IsTrue (needs_memory limits (tree_of g) (Rename p q))
+    name_needed x i entries to last long =
+        let none = seen_none g q forest (free_walk limits g forest p q text q entry.dir i entries renames.new_named to) in
+        needs limits (tree_of g) (Rename p q) may.allowed
+        ((λ j. is_missing (none j) && (not (is_same (parent_of p) (parent_of q)) || (ap is_long last ∙ long) j)) ∙ or_true (not (is_same (parent_of p) (parent_of q))))
+      where
+        or_true : (b : Bool) → b || true ≡ true
+        or_true true = refl
+        or_true false = refl
+
     -- ---- onto another entry
 
     module _ (victim : Entry) (to : IsAt g q victim) where
@@ -169,10 +180,10 @@ module _ (limits : Limits) (g : Slots) (forest : IsForest g) (p q : Key) (may : 
           (crossed g g' forest.rising entry.dir (last_of p) dir (last_of q) entry.node dir_node dir_placed (ap node_of to.directory)
           (crosses g edit.between g' entry.dir dir entry.place (last_of p) (last_of q) entry.node (insert (links_at g dir) i (x, entry.node)) apart edit.linking put_in edit.unlinking at.stands)))
 
-      -- only then the rename needs memory
+      -- to another directory the rename needs memory
       pub memory_needed : IsTrue (needs_memory limits (tree_of g) (Rename p q))
       memory_needed = needs limits (tree_of g) (Rename p q) may.allowed
-          (λ j. is_missing (seen_none g q forest (free_walk limits g forest p q text q dir i entries renames.new_named to) j) && not (never_same (parent_of p) (parent_of q) other j))
+          (λ j. is_missing (seen_none g q forest (free_walk limits g forest p q text q dir i entries renames.new_named to) j) && (not (never_same (parent_of p) (parent_of q) other j) || is_long (last_of q)))
         where
           other : parent_of p ≢ parent_of q
           other same = let both : Some entry.dir ≡ Some dir = sym at.parent ∙ ap (walk g) same ∙ to.parent in apart (let e : entry.dir ≡ dir = cc in e)

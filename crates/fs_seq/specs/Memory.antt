@@ -1,7 +1,7 @@
 -- Which calls may need memory. All others never fail for want of it.
 use Rattle.std.specs.Prelude.{◌+◌, Bool, true, false, not, ◌&&◌, ◌||◌, nat_lt, min, length, take, drop, is_some}
 use Rattle.fs_names.specs.Keys.{parent_of, last_of}
-use Rattle.fs_names.specs.Names.{names_above}
+use Rattle.fs_names.specs.Names.{names_above, is_long}
 use Rattle.fs_names.specs.Limits.{read_limit, in_blocks}
 use Rattle.fs_names.specs.declared.limits.TheConstants.{LIST_LIMIT}
 use Rattle.fs_names.specs.declared.limits.Limits.{Limits}
@@ -12,13 +12,13 @@ use Rattle.fs_calls.specs.Sights.{is_same}
 use Rattle.fs_calls.specs.declared.call.Call.{Call}
 use Rattle.fs_calls.specs.declared.call.Call.TheVariants.{Mkdir, Mknod, Unlink, Rmdir, Rename, Exchange, Stat, Readdir, ListAfter, Read, Write, Truncate}
 
--- a call without an error takes memory where it adds an entry to a directory, makes a file longer, changes one in blocks, which others may share, or replies names or bytes
+-- a call without an error takes memory where it adds an entry to a directory or gives one a long name, makes a file longer, changes one in blocks, which others may share, or replies names or bytes
 abbrev pub takes_memory : Limits → Tree → Call → Bool
 takes_memory limits t (Mkdir p) = true
 takes_memory limits t (Mknod p) = true
 takes_memory limits t (Unlink p) = false
 takes_memory limits t (Rmdir p) = false
-takes_memory limits t (Rename p q) = is_missing (tree_shapes t q) && not (is_same (parent_of p) (parent_of q))
+takes_memory limits t (Rename p q) = is_missing (tree_shapes t q) && (not (is_same (parent_of p) (parent_of q)) || is_long (last_of q))
 takes_memory limits t (Exchange p q) = false
 takes_memory limits t (Stat p) = false
 takes_memory limits t (Readdir p) = has_entries (tree_shapes t p)

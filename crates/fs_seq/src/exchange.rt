@@ -47,7 +47,7 @@ fn find_both(nodes: &Slab<Node>, path: &Path, other: &Path) -> Result<(Entry, En
 }
 
 /// Lets the entry at a place of a directory lead to another node.
-fn lead(nodes: &mut Slab<Node>, dir: usize, i: usize, node: usize)
+pub(crate) fn lead(nodes: &mut Slab<Node>, dir: usize, i: usize, node: usize)
     requires directory { place_at (graph nodes.old) dir ≡ Some (IsDir (links_at (graph nodes.old) dir)) }
     requires within { i < length (links_at (graph nodes.old) dir) }
     ensures { Leads (graph nodes.old) (graph nodes.new) dir i node }

@@ -10,7 +10,7 @@ ghost use Rattle.fs_slab.specs.code.Nodes.{graph, place};
 ghost use Rattle.fs_slab.specs.code.Slots.{IsForest, HasForm, links_of, tree_of, walk};
 
 use crate::create::attach;
-use crate::rows::Row;
+use crate::rows::{Row, compare};
 use fs_blocks::{File, Spare};
 use fs_calls::ranges::{fits_size, is_full};
 use fs_memory::Memory;
@@ -78,7 +78,7 @@ fn place_of<'a>(
     let Some((name, parent)) = row.key.split_last() else {
         return None;
     };
-    if before.key.cmp(&row.key) != Ordering::Less || !may_have(row, limits) {
+    if compare(&before.key, &row.key) != Ordering::Less || !may_have(row, limits) {
         return None;
     }
     let Some(dir) = reached(nodes, parent) else {

@@ -1,7 +1,7 @@
 //! The sequential tree, running: one tree for one thread.
 //!
 //! `SeqTree::apply` gives a call the reply of the table of errors, and leaves the tree that the table says. Out of memory
-//! it leaves the tree as it was, and it fails so only for a call that has to allocate (`specs/Memory.antt`). `apply_counted` and
+//! it leaves the tree as it was, and it fails so only for a call that needs memory (`specs/Memory.antt`). `apply_counted` and
 //! `copy_counted` fail exactly where a `Memory` counts a refusal.
 //!
 //! `SeqTree::copy` makes the same tree again, `SeqTree::rows` tells its entries, and `SeqTree::from_rows` makes a tree of

@@ -1,6 +1,6 @@
 //! The calls that change nothing: what stands at a path.
 
-ghost use Rattle.std.specs.Prelude.{◌≡◌, ◌≢◌, Some, MatchResult, IfOk, OnOk, OnErr, IsTrue, min, map, take, drop};
+ghost use Rattle.std.specs.Prelude.{◌≡◌, ◌≢◌, ◌≤◌, ◌+◌, ◌++◌, ◌∷◌, [], length, Some, MatchResult, IfOk, OnOk, OnErr, IsTrue, min, map, take, drop};
 ghost use Rattle.std.specs.FinMap.{is_sorted};
 ghost use Rattle.fs_names.specs.Names.{name_cmp, names_above};
 ghost use Rattle.fs_names.specs.Keys.{last_of};
@@ -16,7 +16,7 @@ ghost use Rattle.fs_seq.specs.code.Effects.{IsFound, NeedsMemory, node_error};
 
 use fs_calls::{Bytes, Call, Errno, NameList, NodeCall, Reply};
 use fs_memory::Memory;
-use fs_names::{Kind, LIST_LIMIT, Limits, Path};
+use fs_names::{Kind, LIST_LIMIT, Limits, Name, NameRoom, Path};
 use fs_slab::nodes::{above, resolve};
 use fs_slab::{Link, Node};
 use slab::Slab;
@@ -52,18 +52,32 @@ pub fn stat(nodes: &Slab<Node>, path: &Path) -> Reply
     }
 }
 
-/// The names of links, in their order.
+/// How many bytes of room a name may take, whatever it is.
+const NAME_ROOM: usize = 256;
+
+/// Adds a name to a list that has room for any one.
+fn push_name(names: &mut NameRoom, name: &Name)
+    requires { NAME_ROOM ≤ names.old.room }
+    ensures names { names.new.names ≡ names.old.names ++ name.now ∷ [] }
+    ensures room { names.old.room ≤ names.new.room + NAME_ROOM }
+{
+    let _it_is_short = name.bytes();
+    names.push_reserved(name);
+}
+
+/// The names of links, no more than a call answers, in their order.
 fn names_of(alloc: Global, memory: &mut Memory, links: &[Link]) -> Result<NameList, AllocError>
+    requires { length links.now ≤ LIST_LIMIT }
     ensures ok { IfOk result (λ names. names ≡ map (λ l. l.0) (pairs links.now)) }
     ensures memory { OnErr result (IsTrue (has_any (map (λ l. l.0) (pairs links.now)))) }
     ensures granted { OnOk result (memory.new ≡ memory.old) }
     ensures refused { OnErr result (memory.new ≢ memory.old) }
 {
-    let mut names = memory.with_room(alloc, links.len())?;
+    let mut names = NameRoom::new(alloc, memory, links.len() * NAME_ROOM)?;
     for link in links {
-        names.push_reserved(link.name.name().copy());
+        push_name(&mut names, link.name.name());
     }
-    Ok(NameList::new(names))
+    Ok(names.into_list())
 }
 
 /// All names of a directory, in byte order, where they are no more than a call answers.
@@ -88,23 +102,14 @@ pub fn readdir(
     }
 }
 
-/// The bytes of a path's last name; the root has none.
-fn last_bytes(path: &Path) -> &[u8]
-    ensures { result.now ≡ last_of path.now }
-{
-    if path.is_empty() {
-        return &[];
-    }
-    path.last_name().bytes()
-}
-
 /// The links of which a list tells the names: those above a path's last name, and no more than a count.
-fn piece<'a>(links: &'a [Link], after: &Path, count: u64) -> &'a [Link]
+fn piece<'a>(links: &'a [Link], after: &Path, count: u32) -> &'a [Link]
     requires { IsTrue (is_sorted name_cmp (pairs links.now)) }
-    ensures { map (λ l. l.0) (pairs result.now) ≡ take (min count LIST_LIMIT) (names_above (last_of after.now) (map (λ l. l.0) (pairs links.now))) }
+    ensures most { length result.now ≤ LIST_LIMIT }
+    ensures names { map (λ l. l.0) (pairs result.now) ≡ take (min count LIST_LIMIT) (names_above (last_of after.now) (map (λ l. l.0) (pairs links.now))) }
 {
-    let rest = above(links, last_bytes(after));
-    let most = count.min(LIST_LIMIT as u64) as usize;
+    let rest = above(links, after.last_bytes());
+    let most = (count as usize).min(LIST_LIMIT);
     &rest[..most.min(rest.len())]
 }
 
@@ -115,7 +120,7 @@ pub fn list(
     nodes: &Slab<Node>,
     path: &Path,
     after: &Path,
-    count: u64,
+    count: u32,
 ) -> Result<Reply, AllocError>
     requires { IsForest (graph nodes.now) }
     ensures reply { IfOk result (λ r. (limits : Limits) → r ≡ reply limits (tree_of (graph nodes.now)) (Call.ListAfter path.now after.now count)) }

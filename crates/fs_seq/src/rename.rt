@@ -1,9 +1,9 @@
 //! Renames: the entry of a node moves, and the node that stood at its new place goes.
 
-ghost use Rattle.std.specs.Prelude.{◌≡◌, ◌≢◌, ◌<◌, ◌≤◌, Option, None, Some, IsTrue, IsSome, IfOk, OnOk, OnErr, length, remove, slice_set};
+ghost use Rattle.std.specs.Prelude.{◌≡◌, ◌≢◌, ◌<◌, ◌≤◌, Option, None, Some, IsTrue, IsSome, IfOk, OnOk, OnErr, length, remove, slice_get};
 ghost use Rattle.std.specs.FinMap.{find, put, is_sorted};
-ghost use Rattle.fs_names.specs.Names.{name_cmp};
-ghost use Rattle.fs_slab.specs.code.Nodes.{pair, pairs, graph};
+ghost use Rattle.fs_names.specs.Names.{Name, name_cmp};
+ghost use Rattle.fs_slab.specs.code.Nodes.{pair, pairs, graph, name_of};
 ghost use Rattle.fs_slab.specs.code.Slots.{IsForest, Sets, place_at, links_at, shape_at, tree_of, Dir as IsDir};
 ghost use Rattle.fs_calls.specs.Sights.{Shape};
 ghost use Rattle.fs_calls.specs.Rows.{place_fault};
@@ -13,6 +13,7 @@ ghost use Rattle.fs_seq.specs.code.Renaming.{Plans, Displaces, Transfers};
 ghost use Rattle.fs_seq.specs.code.Effects.{AnswersWithin};
 ghost use Rattle.slab.specs.Slab.{ContainsKey};
 
+use crate::exchange::lead;
 use fs_calls::ranges::is_full;
 use fs_calls::rows::PairSight;
 use fs_calls::{Call, Errno, PairCall, Reply, Sight, rename_error};
@@ -89,50 +90,38 @@ fn decide(nodes: &Slab<Node>, from: &Path, to: &Path, limits: Limits) -> Result<
 }
 
 /// Gives a link another name and another number.
-fn reset(link: &mut Link, name: &Name, node: usize)
-    ensures { pair link.new ≡ (name.now, node) }
+fn reset(link: &mut Link, name: Name, node: usize)
+    ensures { pair link.new ≡ (name, node) }
 {
     link.name.set(name);
     link.node = node;
 }
 
 /// Takes the link at a place out, and puts it back under a name, where it belongs, in the capacity that it had.
-fn replace(links: &mut Vec<Link>, i: usize, name: &Name, node: usize)
+fn replace(links: &mut Vec<Link>, i: usize, name: Name, node: usize)
     requires within { i < length (pairs links.old.items) }
     requires rising { IsTrue (is_sorted name_cmp (remove (pairs links.old.items) i)) }
-    requires absent { find name_cmp name.now (remove (pairs links.old.items) i) ≡ None }
-    ensures { pairs links.new.items ≡ put name_cmp name.now node (remove (pairs links.old.items) i) }
+    requires absent { find name_cmp name (remove (pairs links.old.items) i) ≡ None }
+    ensures { pairs links.new.items ≡ put name_cmp name node (remove (pairs links.old.items) i) }
 {
     let mut link = links.remove(i);
+    let Err(at) = search(links, &name) else {
+        unreachable!();
+    };
     reset(&mut link, name, node);
-    match search(links, name) {
-        Ok(_) => unreachable!(),
-        Err(at) => match links.insert(at, link) {
-            Ok(()) => {}
-            Err(_) => unreachable!(),
-        },
-    }
-}
-
-/// Lets the place of a directory have another link.
-fn set_link(nodes: &mut Slab<Node>, dir: usize, i: usize, name: &Name, node: usize)
-    requires directory { place_at (graph nodes.old) dir ≡ Some (IsDir (links_at (graph nodes.old) dir)) }
-    requires within { i < length (links_at (graph nodes.old) dir) }
-    ensures { Sets (graph nodes.old) (graph nodes.new) dir (Some (IsDir (slice_set (links_at (graph nodes.old) dir) i (name.now, node)))) }
-{
-    match &mut nodes[dir] {
-        Node::Dir(links) => reset(&mut links[i], name, node),
-        Node::File(_) => {}
+    match links.insert(at, link) {
+        Ok(()) => {}
+        Err(_) => unreachable!(),
     }
 }
 
 /// Takes the link at a place of a directory out, and puts it back under a name, where it belongs.
-fn replace_link(nodes: &mut Slab<Node>, dir: usize, i: usize, name: &Name, node: usize)
+fn replace_link(nodes: &mut Slab<Node>, dir: usize, i: usize, name: Name, node: usize)
     requires directory { place_at (graph nodes.old) dir ≡ Some (IsDir (links_at (graph nodes.old) dir)) }
     requires within { i < length (links_at (graph nodes.old) dir) }
     requires rising { IsTrue (is_sorted name_cmp (remove (links_at (graph nodes.old) dir) i)) }
-    requires absent { find name_cmp name.now (remove (links_at (graph nodes.old) dir) i) ≡ None }
-    ensures { Sets (graph nodes.old) (graph nodes.new) dir (Some (IsDir (put name_cmp name.now node (remove (links_at (graph nodes.old) dir) i)))) }
+    requires absent { find name_cmp name (remove (links_at (graph nodes.old) dir) i) ≡ None }
+    ensures { Sets (graph nodes.old) (graph nodes.new) dir (Some (IsDir (put name_cmp name node (remove (links_at (graph nodes.old) dir) i)))) }
 {
     match &mut nodes[dir] {
         Node::Dir(links) => replace(links, i, name, node),
@@ -140,17 +129,17 @@ fn replace_link(nodes: &mut Slab<Node>, dir: usize, i: usize, name: &Name, node:
     }
 }
 
-/// Leads the victim's entry, which has this name, to the entry's node, takes the entry out, and removes the victim's
+/// Leads the victim's entry, which keeps its name, to the entry's node, takes the entry out, and removes the victim's
 /// node. No directory gets an entry more, so nothing is allocated.
-fn displace(nodes: &mut Slab<Node>, entry: Entry, victim: Entry, name: &Name)
+fn displace(nodes: &mut Slab<Node>, entry: Entry, victim: Entry)
     requires dir { place_at (graph nodes.old) entry.dir ≡ Some (IsDir (links_at (graph nodes.old) entry.dir)) }
     requires place { entry.place < length (links_at (graph nodes.old) entry.dir) }
     requires victim_dir { place_at (graph nodes.old) victim.dir ≡ Some (IsDir (links_at (graph nodes.old) victim.dir)) }
     requires victim_place { victim.place < length (links_at (graph nodes.old) victim.dir) }
     requires victim_node { IsSome (place_at (graph nodes.old) victim.node) }
-    ensures { Displaces (graph nodes.old) (graph nodes.new) entry victim name.now }
+    ensures { (x : Name) → name_of (slice_get (links_at (graph nodes.old) victim.dir) victim.place) ≡ Some x → Displaces (graph nodes.old) (graph nodes.new) entry victim x }
 {
-    set_link(nodes, victim.dir, victim.place, name, entry.node);
+    lead(nodes, victim.dir, victim.place, entry.node);
     remove_link(nodes, entry.dir, entry.place);
     nodes.remove(victim.node);
 }
@@ -186,7 +175,8 @@ fn transfer(
 }
 
 /// Renames a node, with all below it; the node that stood at the new path is removed. A rename costs no more than its
-/// two directories, and allocates only where it adds an entry to another one.
+/// two directories, and asks for memory only where no entry stands at the new path: where it adds one to another directory,
+/// or where the new name is long.
 pub fn rename(
     alloc: Global,
     memory: &mut Memory,
@@ -210,10 +200,11 @@ pub fn rename(
     match plan {
         Plan::Stay => Ok(Reply::Done),
         Plan::Onto(entry, victim) => {
-            displace(nodes, entry, victim, name);
+            displace(nodes, entry, victim);
             Ok(Reply::Done)
         }
         Plan::Within(entry) => {
+            let name = name.copy_counted(memory)?;
             replace_link(nodes, entry.dir, entry.place, name, entry.node);
             Ok(Reply::Done)
         }

@@ -2,6 +2,7 @@
 
 ghost use Rattle.std.specs.Prelude.{◌≡◌, ◌++◌, ◌∷◌, [], Some, true, IfOk, OnOk, map, reverse};
 ghost use Rattle.std.specs.List.{list_all};
+ghost use Rattle.fs_names.specs.Keys.{key_cmp};
 ghost use Rattle.slab.specs.Slab.{ContainsKey};
 ghost use Rattle.fs_seq.specs.Rows.{row_of, is_plain};
 ghost use Rattle.fs_slab.specs.code.Nodes.{graph, pairs, place};
@@ -13,6 +14,7 @@ use fs_names::{Kind, Name};
 use fs_slab::{Link, Node};
 use slab::Slab;
 use std::alloc::{AllocError, Global};
+use std::cmp::Ordering;
 use std::marker::Model;
 
 /// An entry of a tree: what stands at a key, which may have more names than a path.
@@ -23,6 +25,20 @@ pub struct Row {
     pub kind: Kind,
     /// The bytes of a file; a directory has none.
     pub bytes: Vec<u8>,
+}
+
+/// How a key stands to another in the order of the entries of a tree: name by name, so that a directory comes before what is
+/// below it.
+pub fn compare(key: &[Name], other: &[Name]) -> Ordering
+    ensures { result ≡ key_cmp key.now other.now }
+{
+    for i in 0..key.len().min(other.len()) {
+        let order = key[i].cmp(&other[i]);
+        if order != Ordering::Equal {
+            return order;
+        }
+    }
+    key.len().cmp(&other.len())
 }
 
 /// A node to which a walk has still to come, by its key and its number.
@@ -47,9 +63,9 @@ fn longer(alloc: Global, key: &[Name], name: &Name) -> Result<Vec<Name>, AllocEr
 {
     let mut longer = Vec::with_capacity(alloc, key.len() + 1)?;
     for above in key {
-        longer.push(above.copy())?;
+        longer.push(above.copy()?)?;
     }
-    longer.push(name.copy())?;
+    longer.push(name.copy()?)?;
     Ok(longer)
 }
 

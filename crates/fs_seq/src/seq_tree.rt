@@ -286,7 +286,7 @@ impl SeqTree {
         memory: &mut Memory,
         path: &Path,
         after: &Path,
-        count: u64,
+        count: u32,
     ) -> Result<Reply, AllocError>
         ensures reply { IfOk result (λ r. r ≡ reply_at self.now (Call.ListAfter path.now after.now count)) }
         ensures memory { OnErr result (IsTrue (needs_memory self.now.limits self.now.tree (Call.ListAfter path.now after.now count))) }

@@ -8,14 +8,15 @@ use Rattle.std.proofs.lemmas.Bool.Decides.{nat_tests}
 use Rattle.std.proofs.lemmas.List.{drop-drop}
 use Rattle.fs_names.specs.declared.limits.Limits.{Limits}
 use Rattle.fs_calls.specs.declared.call.Call.{Call}
+use Rattle.fs_words.specs.Headers.{is_too_long}
 use Rattle.fs_words.specs.Lines.{is_passed_over, lines_of}
 use Rattle.fs_words.specs.Words as words
 use Rattle.fs_words.specs.Reading.{◌>>=◌, words_of, fault_at, at_line}
 use Rattle.fs_words.specs.declared.fault.FaultKind.TheVariants as kind
 use Rattle.fs_text.specs.Calls.{call_of}
-use Rattle.fs_script.specs.Limits.{calls_in}
+use Rattle.fs_script.specs.Limits.{call_limit, calls_in}
 use Rattle.fs_script.specs.Script.{is_thread, with_call, with_thread, new_thread, thread_line, new_call, call_line, block_line, schedule_from, blocks_from, nothing_yet, script_of}
-use Rattle.fs_script.specs.declared.limits.TheConstants.{THREAD_LIMIT, CALL_LIMIT}
+use Rattle.fs_script.specs.declared.limits.TheConstants.{THREAD_LIMIT}
 use Rattle.fs_script.specs.declared.script.Script.{Script}
 use Rattle.fs_script.specs.declared.script.Word.{Word}
 use Rattle.fs_script.proofs.HeaderLemmas.{script_in, short_script, lines_read, headed_script, again}
@@ -81,9 +82,9 @@ call_again s t texts e = go (length s.lists == 0) refl
     go false f = by (step_split (call_of s.limits texts) (new_call s) t (sym (cond-false _ _ _ f) ∙ e))
       where
         by : (c : Call) × (call_of s.limits texts ≡ Ok c) × (new_call s c ≡ Ok t) → CallAgain s texts t
-        by (c, read, new) = room (nat_le CALL_LIMIT (calls_in s.lists)) refl
+        by (c, read, new) = room (nat_le (call_limit s.limits) (calls_in s.lists)) refl
           where
-            room : (d : Bool) → nat_le CALL_LIMIT (calls_in s.lists) ≡ d → CallAgain s texts t
+            room : (d : Bool) → nat_le (call_limit s.limits) (calls_in s.lists) ≡ d → CallAgain s texts t
             room true h = absurd (no_ok kind.TooLarge t (sym (cond-true _ _ _ h) ∙ new))
             room false h =
                 record {
@@ -93,7 +94,7 @@ call_again s t texts e = go (length s.lists == 0) refl
                   again = λ u limits same few.
                       cond-false _ _ _ (ap (λ n. n == 0) same ∙ f)
                       ∙ ap (λ r. r >>= new_call u) (ap (λ (l : Limits). call_of l texts) limits ∙ read)
-                      ∙ cond-false _ _ _ (fewer_room (calls_in s.lists) (calls_in u.lists) CALL_LIMIT h few);
+                      ∙ cond-false _ _ _ (ap (λ (l : Limits). nat_le (call_limit l) (calls_in u.lists)) limits ∙ fewer_room (calls_in s.lists) (calls_in u.lists) (call_limit s.limits) h few);
                 }
 
 -- ---- a line of blocks
@@ -281,6 +282,6 @@ headed ks (first ∷ rest) script is =
     again h.limits first h.announces (blocks_thinned ks rest) ∙ blocks_again ks 2 2 (nothing_yet h.limits) script rest tt refl h.read
 
 -- a text with some lines of a script is read as the script with the calls and words of these
-pub thinned_again : (input made : List ℕ) (script : Script) (ks : List Bool) → script_of input ≡ Ok script → lines_of made ≡ thinned ks (lines_of input) → length made ≤ 16777216 → script_of made ≡ Ok (kept_script ks script)
+pub thinned_again : (input made : List ℕ) (script : Script) (ks : List Bool) → script_of input ≡ Ok script → lines_of made ≡ thinned ks (lines_of input) → is_too_long made ≡ false → script_of made ≡ Ok (kept_script ks script)
 thinned_again input made script ks is lines short =
     short_script made short ∙ ap script_in lines ∙ headed ks (lines_of input) script (lines_read input script is)

@@ -1,7 +1,8 @@
 -- Counts of calls and flags, one more at a time.
 use Rattle.std.proofs.Common.{◌≡◌, ℕ, zero, suc, ◌+◌, ◌<◌, ◌≤◌, ◌^◌, Bool, true, false, cond, List, [], ◌∷◌, length, take, drop, get_or, refl, sym, ap, ◌∙◌, arith}
 use Rattle.fs_calls.specs.declared.call.Call.{Call}
-use Rattle.fs_script.specs.Limits.{calls_in}
+use Rattle.fs_script.specs.Limits.{call_limit, calls_in}
+use Rattle.fs_script.proofs.NumbersLeft.{most_calls}
 use Rattle.fs_script.specs.declared.limits.TheConstants.{CALL_LIMIT}
 use Rattle.fs_script.specs.declared.script.Script.{Script}
 use Rattle.fs_sched.specs.Runs as runs
@@ -55,7 +56,11 @@ add_fits lists at count n is len few =
     let all : calls_in (take (at + 1) lists) ≤ calls_in lists = calls_take_few lists (at + 1) in
     omega (arith, is, len, few, more, all)
 
-pub few_kept : (kept : List Bool) (s : Script) → calls_in s.lists ≤ CALL_LIMIT → calls_in (kept_script kept s).lists ≤ CALL_LIMIT
+-- the calls that the limits of a script allow are no more than any allow
+pub at_most_all : (s : Script) → calls_in s.lists ≤ call_limit s.limits → calls_in s.lists ≤ CALL_LIMIT
+at_most_all s few = let most = most_calls s.limits in omega (arith, few, most)
+
+pub few_kept : (kept : List Bool) (s : Script) → calls_in s.lists ≤ call_limit s.limits → calls_in (kept_script kept s).lists ≤ call_limit (kept_script kept s).limits
 few_kept kept s few = let fewer : calls_in (kept_lists s.lists kept) ≤ calls_in s.lists = lists_fewer s.lists kept in omega (arith, fewer, few)
 
 pub calls_more : (lists : List (List Call)) (calls : List Call) (at count : ℕ) → count ≡ calls_in (take at lists) → calls ≡ get_or lists at [] → count + length calls ≡ calls_in (take (at + 1) lists)

@@ -2,9 +2,8 @@
 
 ghost use Rattle.std.specs.Prelude.{◌≡◌, ◌≢◌, ◌≤◌, ◌<◌, ◌+◌, ℕ, Ok, IfOk, OnOk, true, false, length, get_or, slice_set, take, if◌then◌else◌};
 ghost use Rattle.std.specs.List.{list_any};
-ghost use Rattle.fs_script.specs.Limits.{calls_in};
 ghost use Rattle.fs_script.specs.Script.{script_of};
-ghost use Rattle.fs_script.specs.declared.limits.TheConstants.{CALL_LIMIT};
+ghost use Rattle.fs_script.specs.Limits.{call_limit, calls_in};
 ghost use Rattle.fs_shrink.specs.Moves.{is_named};
 ghost use Rattle.fs_shrink.specs.Shrinks.{IsKept, IsShrunk, IsSmallest};
 ghost use Rattle.fs_shrink.specs.code.Passes.{IsPass, KeepsNamed};
@@ -39,7 +38,7 @@ fn without(
     from: usize,
     end: usize,
 ) -> Result<Vec<bool>, AllocError>
-    requires few { calls_in script.now.lists ≤ CALL_LIMIT }
+    requires few { calls_in script.now.lists ≤ call_limit script.now.limits }
     ensures sized { IfOk result (λ left. length left.items ≡ length kept.now) }
     ensures named { IfOk result (λ left. KeepsNamed script.now what.now kept.now left.items) }
 {
@@ -81,7 +80,7 @@ fn cut_range(
     runs: &mut u64,
 ) -> Result<(), NoRoom>
     requires read { script_of text.now ≡ Ok script.now }
-    requires few { calls_in script.now.lists ≤ CALL_LIMIT }
+    requires few { calls_in script.now.lists ≤ call_limit script.now.limits }
     requires shrunk { IsShrunk script.now what.now kept.old.items }
     requires runs { runs.old < TRIAL_LIMIT }
     ensures shrunk { OnOk result (IsShrunk script.now what.now kept.new.items) }
@@ -114,7 +113,7 @@ fn cut_pieces(
     runs: &mut u64,
 ) -> Result<(), NoRoom>
     requires read { script_of text.now ≡ Ok script.now }
-    requires few { calls_in script.now.lists ≤ CALL_LIMIT }
+    requires few { calls_in script.now.lists ≤ call_limit script.now.limits }
     requires some { 0 < size }
     requires shrunk { IsShrunk script.now what.now kept.old.items }
     requires runs { runs.old ≤ TRIAL_LIMIT }
@@ -140,7 +139,7 @@ pub(crate) fn cut_by_halves(
     runs: &mut u64,
 ) -> Result<(), NoRoom>
     requires read { script_of text.now ≡ Ok script.now }
-    requires few { calls_in script.now.lists ≤ CALL_LIMIT }
+    requires few { calls_in script.now.lists ≤ call_limit script.now.limits }
     requires shrunk { IsShrunk script.now what.now kept.old.items }
     requires runs { runs.old ≤ TRIAL_LIMIT }
     ensures shrunk { OnOk result (IsShrunk script.now what.now kept.new.items) }
@@ -171,7 +170,7 @@ fn cut_one(
     kept: &mut Vec<bool>,
 ) -> Result<bool, NoRoom>
     requires read { script_of text.now ≡ Ok script.now }
-    requires few { calls_in script.now.lists ≤ CALL_LIMIT }
+    requires few { calls_in script.now.lists ≤ call_limit script.now.limits }
     requires there { at < length kept.old.items }
     requires stays { get_or kept.old.items at false ≡ true }
     requires unnamed { is_named script.now what.now at ≡ false }
@@ -192,7 +191,7 @@ fn cut_one(
 
 /// Whether a flag stands for something that may go.
 fn may_go(script: &Script, what: &[Clause], kept: &[bool], at: usize) -> bool
-    requires few { calls_in script.now.lists ≤ CALL_LIMIT }
+    requires few { calls_in script.now.lists ≤ call_limit script.now.limits }
     requires there { at < length kept.now }
     ensures stays { result ≡ true → get_or kept.now at false ≡ true }
     ensures unnamed { result ≡ true → is_named script.now what.now at ≡ false }
@@ -218,7 +217,7 @@ fn cut_each(
     runs: &mut u64,
 ) -> Result<Pass, NoRoom>
     requires read { script_of text.now ≡ Ok script.now }
-    requires few { calls_in script.now.lists ≤ CALL_LIMIT }
+    requires few { calls_in script.now.lists ≤ call_limit script.now.limits }
     requires shrunk { IsShrunk script.now what.now kept.old.items }
     requires runs { runs.old ≤ TRIAL_LIMIT }
     ensures shrunk { OnOk result (IsShrunk script.now what.now kept.new.items) }
@@ -249,7 +248,7 @@ pub(crate) fn cut_ones(
     runs: &mut u64,
 ) -> Result<bool, NoRoom>
     requires read { script_of text.now ≡ Ok script.now }
-    requires few { calls_in script.now.lists ≤ CALL_LIMIT }
+    requires few { calls_in script.now.lists ≤ call_limit script.now.limits }
     requires shrunk { IsShrunk script.now what.now kept.old.items }
     requires runs { runs.old ≤ TRIAL_LIMIT }
     ensures shrunk { OnOk result (IsShrunk script.now what.now kept.new.items) }

@@ -2,7 +2,7 @@
 
 ghost use Rattle.std.specs.Prelude.{◌≡◌, ◌≤◌, ◌+◌, ◌<◌, ◌^◌, length, IfOk, map, drop, if◌then◌else◌};
 ghost use Rattle.std.specs.List.{list_any};
-ghost use Rattle.fs_script.specs.Limits.{calls_in};
+ghost use Rattle.fs_script.specs.Limits.{call_limit, calls_in};
 ghost use Rattle.fs_script.specs.declared.limits.TheConstants.{CALL_LIMIT};
 ghost use Rattle.fs_shrink.specs.Moves.{calls_before, index_at, is_call, is_index, is_named, is_named_by, kept_count, moved, moved_call, moved_clause, moved_condition, place_at};
 
@@ -52,13 +52,14 @@ fn place_on(kept: &[bool], lists: &CallLists, place: u64, seat: Option<usize>) -
     }
 }
 
+#[tactic(auto, using(crate::proofs::Counting::at_most_all))]
 fn moved_call(
     alloc: Global,
     kept: &[bool],
     script: &Script,
     call: &CallName,
 ) -> Result<CallName, AllocError>
-    requires { calls_in script.now.lists ≤ CALL_LIMIT }
+    requires { calls_in script.now.lists ≤ call_limit script.now.limits }
     ensures { IfOk result (λ moved. moved ≡ moved_call kept.now script.now call.now) }
 {
     let seat = script.names.seat(call.thread.as_slice());
@@ -73,13 +74,13 @@ fn moved_condition(
     script: &Script,
     condition: &Condition,
 ) -> Result<Condition, AllocError>
-    requires { calls_in script.now.lists ≤ CALL_LIMIT }
+    requires { calls_in script.now.lists ≤ call_limit script.now.limits }
     ensures { IfOk result (λ moved. moved ≡ moved_condition kept.now script.now condition.now) }
 {
     match condition {
         Condition::Reply(call, reply) => {
             let call = moved_call(alloc, kept, script, call)?;
-            Ok(Condition::Reply(call, copy_of_reply(alloc, reply)?))
+            Ok(Condition::Reply(call, copy_of_reply(reply)?))
         }
         Condition::Fails(call) => Ok(Condition::Fails(moved_call(alloc, kept, script, call)?)),
         Condition::Line(line) => Ok(Condition::Line(line.copy()?)),
@@ -98,7 +99,7 @@ fn moved_clause(
     script: &Script,
     clause: &Clause,
 ) -> Result<Clause, AllocError>
-    requires { calls_in script.now.lists ≤ CALL_LIMIT }
+    requires { calls_in script.now.lists ≤ call_limit script.now.limits }
     ensures { IfOk result (λ moved. moved ≡ moved_clause kept.now script.now clause.now) }
 {
     let condition = moved_condition(alloc, kept, script, &clause.condition)?;
@@ -115,7 +116,7 @@ pub(crate) fn moved(
     script: &Script,
     what: &[Clause],
 ) -> Result<Vec<Clause>, AllocError>
-    requires { calls_in script.now.lists ≤ CALL_LIMIT }
+    requires { calls_in script.now.lists ≤ call_limit script.now.limits }
     ensures { IfOk result (λ clauses. clauses.items ≡ moved kept.now script.now what.now) }
 {
     let mut clauses = Vec::new(alloc);
@@ -139,8 +140,9 @@ fn is_index(at: usize, lists: &CallLists, place: u64, seat: Option<usize>) -> bo
     }
 }
 
+#[tactic(auto, using(crate::proofs::Counting::at_most_all))]
 fn is_call(script: &Script, at: usize, call: &CallName) -> bool
-    requires { calls_in script.now.lists ≤ CALL_LIMIT }
+    requires { calls_in script.now.lists ≤ call_limit script.now.limits }
     ensures { result ≡ is_call script.now at call.now }
 {
     let seat = script.names.seat(call.thread.as_slice());
@@ -148,7 +150,7 @@ fn is_call(script: &Script, at: usize, call: &CallName) -> bool
 }
 
 fn is_named_by(script: &Script, at: usize, condition: &Condition) -> bool
-    requires { calls_in script.now.lists ≤ CALL_LIMIT }
+    requires { calls_in script.now.lists ≤ call_limit script.now.limits }
     ensures { result ≡ is_named_by script.now at condition.now }
 {
     match condition {
@@ -162,7 +164,7 @@ fn is_named_by(script: &Script, at: usize, condition: &Condition) -> bool
 
 /// Whether the call with this index is named.
 pub(crate) fn is_named(script: &Script, what: &[Clause], at: usize) -> bool
-    requires { calls_in script.now.lists ≤ CALL_LIMIT }
+    requires { calls_in script.now.lists ≤ call_limit script.now.limits }
     ensures { result ≡ is_named script.now what.now at }
 {
     for clause in what {

@@ -14,7 +14,7 @@ use std::alloc::AllocError;
 pub(crate) enum NoRoom {
     /// An allocation failed.
     OutOfMemory,
-    /// The text of what stays would have more bytes than a text may.
+    /// The text of what stays is longer than a text may be by its limits.
     TooLong,
 }
 

@@ -3,8 +3,8 @@
 ghost use Rattle.std.specs.Prelude.{◌≡◌, ◌≢◌, ◌+◌, ◌-◌, ◌<◌, ◌≤◌, ◌^◌, ◌++◌, ℕ, List, Option, true, false, replicate, length, Ok, Err, IfOk, OnOk, OnErr, IfErr, IfSome, IsErrOf};
 ghost use Rattle.std.specs.Io.KnownBytes.{Appends, IsAtEnd};
 ghost use Rattle.fs_words.specs.declared.fault.ScriptFault.{ScriptFault};
-ghost use Rattle.fs_script.specs.Limits.{calls_in};
 ghost use Rattle.fs_script.specs.Script.{script_of};
+ghost use Rattle.fs_script.specs.Limits.{call_limit, calls_in};
 ghost use Rattle.fs_script.specs.declared.limits.TheConstants.{CALL_LIMIT};
 ghost use Rattle.fs_sched.specs.Devices.{KeepsDevices, WritesBeginning};
 ghost use Rattle.fs_sched.specs.Runs.{ReachesStop};
@@ -63,8 +63,9 @@ fn push_flags(count: usize, kept: &mut Vec<bool>) -> Result<(), AllocError>
 }
 
 /// A flag for each call and each word.
+#[tactic(auto, using(crate::proofs::Counting::at_most_all))]
 fn all_flags(alloc: Global, script: &Script) -> Result<Vec<bool>, AllocError>
-    requires { calls_in script.now.lists ≤ CALL_LIMIT }
+    requires { calls_in script.now.lists ≤ call_limit script.now.limits }
     ensures { IfOk result (λ kept. kept.items ≡ replicate (calls_in script.now.lists) true ++ replicate (length script.now.words) true) }
 {
     let mut kept = Vec::new(alloc);
@@ -80,7 +81,7 @@ fn said_of(
     what: &[Clause],
     kept: &[bool],
 ) -> Result<Vec<u8>, AllocError>
-    requires { calls_in script.now.lists ≤ CALL_LIMIT }
+    requires { calls_in script.now.lists ≤ call_limit script.now.limits }
     ensures { IfOk result (λ said. said.items ≡ what_text (moved kept.now script.now what.now)) }
 {
     let moved = moved(alloc, kept, script, what)?;
@@ -98,7 +99,7 @@ fn with_what_stays(
     is_smallest: bool,
 ) -> Result<Made<Option<Shrunk>>, NoRoom>
     requires read { script_of text.now ≡ Ok script.now }
-    requires few { calls_in script.now.lists ≤ CALL_LIMIT }
+    requires few { calls_in script.now.lists ≤ call_limit script.now.limits }
     requires shrunk { IsShrunk script.now what.now kept.now }
     requires smallest { is_smallest ≡ true → IsSmallest script.now what.now kept.now }
     requires stopped { is_smallest ≡ false → runs ≡ TRIAL_LIMIT }
@@ -129,7 +130,7 @@ fn shrunk_from(
     kept: &mut Vec<bool>,
 ) -> Result<Made<Option<Shrunk>>, NoRoom>
     requires read { script_of text.now ≡ Ok script.now }
-    requires few { calls_in script.now.lists ≤ CALL_LIMIT }
+    requires few { calls_in script.now.lists ≤ call_limit script.now.limits }
     requires shrunk { IsShrunk script.now what.now kept.old.items }
     ensures { IfOk result (λ made. IsShrinking script.now what.now made.end made.text.items) }
 {
@@ -155,7 +156,7 @@ fn smallest(
     what: &[Clause],
 ) -> Result<Made<Option<Shrunk>>, NoRoom>
     requires read { script_of text.now ≡ Ok script.now }
-    requires few { calls_in script.now.lists ≤ CALL_LIMIT }
+    requires few { calls_in script.now.lists ≤ call_limit script.now.limits }
     requires named { names_calls script.now what.now ≡ true }
     requires has { RunHas Schedule.Given script.now what.now true }
     ensures { IfOk result (λ made. IsShrinking script.now what.now made.end made.text.items) }
@@ -172,7 +173,7 @@ fn shrink(
     what: &[Clause],
 ) -> Result<Made<Option<Shrunk>>, FindFault>
     requires read { script_of text.now ≡ Ok script.now }
-    requires few { calls_in script.now.lists ≤ CALL_LIMIT }
+    requires few { calls_in script.now.lists ≤ call_limit script.now.limits }
     requires named { names_calls script.now what.now ≡ true }
     ensures made { IfOk result (λ made. IsShrinking script.now what.now made.end made.text.items) }
     ensures fault { IfErr result (IsFaultOfShrink what.now text.now) }

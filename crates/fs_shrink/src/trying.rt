@@ -1,11 +1,10 @@
 //! Whether a script with some of its calls and words still has what is said of it.
 
-ghost use Rattle.std.specs.Prelude.{◌≡◌, ◌≤◌, Ok, IfOk, length};
+ghost use Rattle.std.specs.Prelude.{◌≡◌, ◌≤◌, Ok, IfOk, false};
 ghost use Rattle.fs_words.specs.Lines.{lines_of};
-ghost use Rattle.fs_words.specs.declared.limits.TheConstants.{TEXT_LIMIT};
-ghost use Rattle.fs_script.specs.Limits.{calls_in};
+ghost use Rattle.fs_words.specs.Headers.{is_too_long};
 ghost use Rattle.fs_script.specs.Script.{script_of};
-ghost use Rattle.fs_script.specs.declared.limits.TheConstants.{CALL_LIMIT};
+ghost use Rattle.fs_script.specs.Limits.{call_limit, calls_in};
 ghost use Rattle.fs_script.specs.declared.script.Script.{Script};
 ghost use Rattle.fs_shrink.specs.Kept.{kept_script};
 ghost use Rattle.fs_shrink.specs.Shrinks.{IsTried, IsKept};
@@ -17,16 +16,16 @@ use crate::thinning::thin;
 use fs_find::{Clause, run_has};
 use fs_sched::{RunFault, Schedule, script_in};
 use fs_script::Script;
-use fs_words::TEXT_LIMIT;
+use fs_words::headers::is_too_long;
 use std::alloc::Global;
 
 /// The lines that stay, as a text.
 fn short_text(alloc: Global, input: &[u8], kept: &[bool]) -> Result<Vec<u8>, NoRoom>
     ensures lines { IfOk result (λ made. lines_of made.items ≡ thinned kept.now (lines_of input.now)) }
-    ensures short { IfOk result (λ made. length made.items ≤ TEXT_LIMIT) }
+    ensures short { IfOk result (λ made. is_too_long made.items ≡ false) }
 {
     match thin(alloc, input, kept) {
-        Ok(text) if text.len() > TEXT_LIMIT => Err(NoRoom::TooLong),
+        Ok(text) if is_too_long(&text) => Err(NoRoom::TooLong),
         Ok(text) => Ok(text),
         Err(_) => Err(NoRoom::OutOfMemory),
     }
@@ -54,7 +53,7 @@ pub(crate) fn script_with(alloc: Global, text: &[u8], kept: &[bool]) -> Result<S
 
 /// Whether the run of a script by its own words has what is said; it has not where there is no such run.
 fn is_tried(alloc: Global, script: &Script, what: &[Clause]) -> Result<bool, NoRoom>
-    requires { calls_in script.now.lists ≤ CALL_LIMIT }
+    requires { calls_in script.now.lists ≤ call_limit script.now.limits }
     ensures { IfOk result (IsTried script.now what.now) }
 {
     match run_has(alloc, script, Schedule::Given, what) {
@@ -74,7 +73,7 @@ pub(crate) fn is_kept(
     kept: &[bool],
 ) -> Result<bool, NoRoom>
     requires read { script_of text.now ≡ Ok script.now }
-    requires few { calls_in script.now.lists ≤ CALL_LIMIT }
+    requires few { calls_in script.now.lists ≤ call_limit script.now.limits }
     ensures { IfOk result (IsKept script.now what.now kept.now) }
 {
     let cut = script_with(alloc, text, kept)?;

@@ -32,7 +32,8 @@ impl HeldName {
         ensures granted { OnOk result (memory.new ≡ memory.old) }
         ensures refused { OnErr result (memory.new ≢ memory.old) }
     {
-        let name = memory.boxed(alloc, name.copy())?;
+        let copy = name.copy_counted(memory)?;
+        let name = memory.boxed(alloc, copy)?;
         Ok(HeldName { name })
     }
 
@@ -44,10 +45,10 @@ impl HeldName {
     }
 
     /// Holds another name from now on, in the same memory.
-    pub fn set(&mut self, name: &Name)
-        ensures { self.new ≡ name.now }
+    pub fn set(&mut self, name: Name)
+        ensures { self.new ≡ name }
     {
-        *self.name = name.copy();
+        *self.name = name;
     }
 
     /// How it stands to a name in byte order.

@@ -1,10 +1,9 @@
 //! Nodes in a slab, walks along names, and the entries of directories.
 
-ghost use Rattle.std.specs.Prelude.{◌≡◌, ◌≢◌, ◌<◌, ◌≤◌, ◌+◌, ◌++◌, List, Some, IfSome, IsTrue, OnOk, OnErr, length, map, take, drop, insert, remove, vec_len, vec_capacity};
+ghost use Rattle.std.specs.Prelude.{◌≡◌, ◌≢◌, ◌<◌, ◌≤◌, ◌+◌, ◌++◌, Some, IfSome, IsTrue, OnOk, OnErr, length, map, take, drop, insert, remove, vec_len, vec_capacity};
 ghost use Rattle.std.specs.FinMap.{is_sorted};
 ghost use Rattle.slab.specs.Slab.{ContainsKey, HasRoomFor};
-ghost use Rattle.fs_names.specs.Names.{Name, name_cmp, names_above};
-ghost use Rattle.fs_names.specs.Shapes as shapes;
+ghost use Rattle.fs_names.specs.Names.{name_cmp, names_above};
 ghost use Rattle.fs_calls.specs.Sights.{bytes_of};
 ghost use Rattle.fs_calls.specs.code.Seen.{sight};
 ghost use Rattle.fs_slab.specs.code.Nodes.{pair, pairs, place, graph, Searches, Steps, Resolves, LooksUp, number_there, shape_there, place_there, entry_there, full_there};
@@ -16,7 +15,7 @@ use fs_calls::ranges::is_full;
 use fs_calls::rows::step_error;
 use fs_calls::{Errno, Sight};
 use fs_memory::Memory;
-use fs_names::{LIST_LIMIT, Name, Path};
+use fs_names::{Name, Path};
 use slab::Slab;
 use std::alloc::AllocError;
 
@@ -50,19 +49,6 @@ pub enum Spot {
     Free(usize, usize, usize),
 }
 
-/// What the rows of errors see of a directory with so many entries.
-fn sight_of_dir(entries: usize) -> Sight
-    ensures { (names : List Name) → entries ≡ length names → result ≡ sight (Some (shapes.Dir names)) }
-{
-    if entries == 0 {
-        Sight::EmptyDir
-    } else if entries <= LIST_LIMIT {
-        Sight::Dir
-    } else {
-        Sight::CrowdedDir
-    }
-}
-
 impl Node {
     /// What the rows of errors see of it.
     pub fn sight(&self) -> Sight
@@ -70,7 +56,7 @@ impl Node {
     {
         match self {
             Node::File(_) => Sight::File,
-            Node::Dir(links) => sight_of_dir(links.len()),
+            Node::Dir(links) => Sight::of_dir(links.len()),
         }
     }
 

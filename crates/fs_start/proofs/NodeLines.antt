@@ -7,7 +7,7 @@ use Rattle.std.proofs.lemmas.List.Splits.{slice_split-cons_yes, slice_split-cons
 use Rattle.std.proofs.lemmas.Option.{slice_get-get_or}
 use Rattle.std.proofs.lemmas.Slice.Eq.{bytes_eq-Decides}
 use Rattle.std.proofs.Math.Seq.{get_or-append_seam}
-use Rattle.std.specs.Prelude.{nat_lt, take, drop, ◌==◌, Option, Some, None}
+use Rattle.std.specs.Prelude.{take, drop, ◌==◌, Option, Some, None}
 use Rattle.std.specs.List.{slice_split, onto_first}
 use Rattle.std.specs.Str.{bytes_eq}
 use Rattle.fs_names.specs.Limits.{same_limits, node_limit}
@@ -24,10 +24,10 @@ use Rattle.fs_words.specs.declared.fault.FaultKind.TheVariants as kind
 use Rattle.fs_words.specs.declared.fault.ScriptFault.{ScriptFault}
 use Rattle.fs_text.specs.Journal.{entries_from, entries_of}
 use Rattle.fs_text.proofs.ReadNames.{Given, given_then, given_is}
-use Rattle.fs_script.specs.Headers.{started_header, announced}
+use Rattle.fs_words.specs.Headers.{started_header, announced, is_too_long}
 use Rattle.fs_script.specs.Journals.{Read, node_in_line, grown, in_start, with_start, started_from, behind_line, announced_journal, journal_behind, journal_of, ends_line, line_end, nodes_journal, start_read, by_limits, start_of}
 use Rattle.fs_start.specs.Faults.{told_lines, lines_before, IsNodeTooMany}
-use Rattle.fs_script.proofs.HeaderLemmas.{announced_is}
+use Rattle.fs_words.proofs.HeaderLemmas.{announced_is}
 use Rattle.fs_script.proofs.StartNames.{any_then, placed, cut}
 
 -- ---- lines that tell something
@@ -149,7 +149,7 @@ announced_many text first more (Some limits) are is =
 
 journal_many : (text : List ℕ) → Given (Many text) (journal_of text)
 unfolding journal_of
-journal_many text = by (nat_lt 16777216 (length text)) (lines_of text) refl
+journal_many text = by (is_too_long text) (lines_of text) refl
   where
     by : (long : Bool) (lines : List (List ℕ)) → lines_of text ≡ lines
         → Given (Many text) (cond {A = Result (List ℕ × List (List ℕ)) ScriptFault} long (Err (fault_at 1 kind.TooLarge)) (first_line lines) >>= journal_behind text)

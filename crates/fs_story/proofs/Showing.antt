@@ -1,14 +1,12 @@
 -- Moments that are shown one after the other.
-use Rattle.std.proofs.Common.{◌≡◌, ℕ, ◌+◌, ◌<◌, ◌≤◌, ◌==◌, Bool, true, false, List, [], ◌∷◌, ◌++◌, length, drop, get_or, set, map, Option, None, refl, sym, ap, ap₂, ◌∙◌, subst, append_assoc, append-nil, arith}
+use Rattle.std.proofs.Common.{◌≡◌, ℕ, ◌<◌, ◌==◌, Bool, true, false, List, [], ◌∷◌, ◌++◌, length, get_or, set, map, Option, None, refl, sym, ap, ap₂, ◌∙◌, subst, append_assoc, append-nil}
 use Rattle.std.specs.Prelude.{if◌then◌else◌}
 use Rattle.std.proofs.lemmas.Bool.{eqb-true, eqb-false}
-use Rattle.std.proofs.lemmas.List.{map-append, at_drop_more, at_drop_all, get_or-set_same, get_or-set_other}
+use Rattle.std.proofs.lemmas.List.{map-append, get_or-set_same, get_or-set_other}
 use Rattle.fs_story.specs.Shown.{deed_told, last_wait, number_after, shown, shown_from, shown_one, wait_of, with_moment, Adds, Saying}
 use Rattle.fs_story.specs.code.Waiting.{AreWaits, with_moments, number_behind, HasShown}
-use Rattle.fs_story.specs.declared.shown.Waits.{Waits}
 use Rattle.fs_story.specs.declared.story.Teller.{Teller}
 use Rattle.fs_witness.specs.declared.moments.Moment.{Moment}
-use Rattle.fs_witness.specs.declared.moments.Moment.TheVariants.{Event, Checkpoint}
 use Rattle.fs_witness.specs.declared.moments.Told.{Told}
 
 -- one moment more is shown behind the others

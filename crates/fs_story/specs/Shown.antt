@@ -1,5 +1,5 @@
 -- Which moments of a run are shown: each event, or those that tell something new; and each checkpoint.
-use Rattle.std.specs.Prelude.{ℕ, ◌≡◌, map, Bool, true, false, ◌==◌, ◌&&◌, ◌||◌, not, ◌+◌, List, [], ◌∷◌, ◌++◌, Option, Some, None, if◌then◌else◌}
+use Rattle.std.specs.Prelude.{ℕ, map, Bool, true, false, ◌==◌, ◌&&◌, ◌||◌, not, ◌+◌, List, [], ◌∷◌, ◌++◌, Option, Some, None, if◌then◌else◌}
 use Rattle.fs_machine.specs.declared.answers.Stepped.{Stepped}
 use Rattle.fs_machine.specs.declared.answers.Stepped.TheVariants as step
 use Rattle.fs_story.specs.declared.page.Deed.{Deed}

@@ -76,8 +76,8 @@ fn depths(
         return (None, None);
     };
     (
-        depth_below(above.first, paths.0, &name),
-        depth_below(above.second, paths.1, &name),
+        depth_below(above.first, paths.0, name),
+        depth_below(above.second, paths.1, name),
     )
 }
 

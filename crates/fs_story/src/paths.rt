@@ -7,10 +7,12 @@ use fs_words::Addition;
 use std::alloc::{AllocError, Global};
 
 /// The name of the entry by which a directory leads to a node.
-pub(crate) fn name_in(store: &Store, dir: NodeNo, node: NodeNo) -> Option<Name> {
+pub(crate) fn name_in(store: &Store, dir: NodeNo, node: NodeNo) -> Option<&Name> {
     let mut next = store.next_name(dir, None);
     for _ in 0..store.entries(dir) {
-        let (name, found) = next?;
+        let Some((name, found)) = next else {
+            return None;
+        };
         if found == node {
             return Some(name);
         }
@@ -20,7 +22,7 @@ pub(crate) fn name_in(store: &Store, dir: NodeNo, node: NodeNo) -> Option<Name> 
 }
 
 /// The names on the way from a node up to the root. Where the node is not below the root, there is none.
-fn names_up(alloc: Global, store: &Store, node: NodeNo) -> Result<Option<Vec<Name>>, AllocError> {
+fn names_up(alloc: Global, store: &Store, node: NodeNo) -> Result<Option<Vec<&Name>>, AllocError> {
     let mut names = Vec::new(alloc);
     let mut at = node;
     for _ in 0..NODE_LIMIT {
@@ -40,7 +42,7 @@ fn names_up(alloc: Global, store: &Store, node: NodeNo) -> Result<Option<Vec<Nam
 }
 
 /// The names as the word of a path, the last one first.
-fn word_of(alloc: Global, names: &[Name]) -> Result<Vec<u8>, AllocError> {
+fn word_of(alloc: Global, names: &[&Name]) -> Result<Vec<u8>, AllocError> {
     let mut word = Addition::new(Vec::new(alloc));
     for name in names.iter().rev() {
         word.push_step(alloc, name)?;

@@ -1,12 +1,11 @@
 -- Entries that were written behind the header are read again.
 use Rattle.std.proofs.Common.{◌≡◌, ℕ, ◌+◌, ◌<◌, ◌≤◌, true, false, ltb, List, [], ◌∷◌, ◌++◌, length, map, refl, ap, ◌∙◌, arith, rules, codes, Ok, Err, decimal}
-use Rattle.std.specs.Prelude.{zero, suc, if◌then◌else◌, IsTrue, Some}
+use Rattle.std.specs.Prelude.{◌^◌, zero, suc, if◌then◌else◌, IsTrue, Some}
 use Rattle.std.specs.Str.{bytes_eq}
 use Rattle.std.specs.List.{flat_map, AllByRecursion, join_with_byte}
 use Rattle.std.proofs.lemmas.List.Elements.{All-from_recursion}
-use Rattle.std.proofs.lemmas.Bool.{cond-true, cond-false, le-leb}
+use Rattle.std.proofs.lemmas.Bool.{cond-true, cond-false, le-leb, lt-ltb}
 use Rattle.std.specs.Cmp.Derive.{both_true}
-use Rattle.std.proofs.lemmas.Bool.Decides.{nat_tests}
 use Rattle.percent_encoding.specs.Percent.{percent_decode}
 use Rattle.hex.specs.Hex.{IsBytes}
 use Rattle.fs_names.specs.Names.{AreBytes, IsName}
@@ -27,15 +26,18 @@ use Rattle.fs_timeline.specs.declared.entry.Entry.TheVariants.{Begin, Commit, Re
 use Rattle.fs_words.specs.Lines.{lines_of, pieces_of, has_empty, is_passed_over}
 use Rattle.fs_words.specs.Words.{hex_word, escaped, path_word}
 use Rattle.fs_words.specs.Reading.{◌>>=◌, or_fault, or_bad_path, path_at, number_at, hex_at, name_at, read_name, words_of, fault_at, at_line, first_line}
-use Rattle.fs_text.specs.Calls.{call_words, call_of, paths_and_number, list_form, formed_call, is_formed, has_call_form}
+use Rattle.fs_text.specs.Calls.{call_words, call_of, count_at, paths_and_count, list_form, formed_call, is_formed, has_call_form}
 use Rattle.fs_text.specs.Journal.{kind_word, errno_word, reply_words, entry_words, entry_line, journal_header, journal_text, names_at, reply_of, entry_of, return_of, is_tree_line, entries_from, entries_of}
 use Rattle.fs_words.specs.declared.fault.FaultKind.TheVariants as kind
-use Rattle.fs_text.specs.Fits.{FitsName, FitsPath, IsU64, FitsCall, FitsReply, FitsEntry, AllFit}
+use Rattle.fs_text.specs.Fits.{FitsName, FitsPath, IsU64, IsU32, FitsCall, FitsReply, FitsEntry, AllFit}
 use Rattle.fs_text.specs.Laws.{ReadsBack}
+use Rattle.fs_words.specs.Headers.{text_limit}
+use Rattle.fs_words.proofs.HeaderLemmas.{short_enough}
 use Rattle.fs_words.proofs.WordLemmas.{IsWord, pieces_of_joined, has_no_empty, IsLine, IsLine_joined, ended, lines_of_ended}
 use Rattle.fs_words.proofs.NumberLemmas.{number_again, IsWord_decimal, hex_again, IsWord_hex}
 use Rattle.fs_words.proofs.EscapeLemmas.{escape_again, IsWord_escaped}
-use Rattle.fs_words.proofs.PathLemmas.{KeyFacts, NameFacts, IsShort, path_again, IsWord_path, name_facts}
+use Rattle.fs_names.proofs.WrittenLemmas.{NameFacts, name_facts}
+use Rattle.fs_words.proofs.PathLemmas.{KeyFacts, IsShort, path_again, IsWord_path}
 
 -- ---- one word
 
@@ -49,8 +51,16 @@ key_facts limits key h = let each = all_facts limits key h.names in record { few
 path_read : (limits : Limits) (p : Key) → FitsPath limits p → path_at limits (path_word p) ≡ Ok p
 path_read limits p h = ap or_bad_path (path_again limits p (key_facts limits p h))
 
+wide : (n : ℕ) → IsU32 n → IsU64 n
+wide n h = omega (arith, h)
+
 number_read : (n : ℕ) → IsU64 n → number_at (decimal n) ≡ Ok n
 number_read n h = ap (or_fault kind.BadNumber) (number_again n h)
+
+count_read : (n : ℕ) → IsU32 n → count_at (decimal n) ≡ Ok n
+count_read n h =
+    ap (λ r. r >>= λ count. if ltb count (2 ^ 32) then Ok count else Err kind.BadNumber) (number_read n (wide n h))
+    ∙ cond-true _ _ _ (lt-ltb _ _ h)
 
 pub byte_at : (bs : List ℕ) → AreBytes bs → IsBytes bs
 byte_at [] h i = omega arith
@@ -62,7 +72,7 @@ hex_read bs h = ap (or_fault kind.BadHex) (hex_again bs (byte_at bs h))
 
 -- ---- a call
 
-list_formed : (limits : Limits) → IsTrue (has_list limits) → list_form limits ≡ Some (paths_and_number call.ListAfter)
+list_formed : (limits : Limits) → IsTrue (has_list limits) → list_form limits ≡ Some (paths_and_count call.ListAfter)
 list_formed limits has = cond-true _ _ _ has
 
 call_again : (limits : Limits) (c : Call) → FitsCall limits c → call_of limits (call_words c) ≡ Ok c
@@ -77,7 +87,7 @@ call_again limits (call.Stat p) h = ap (λ r. r >>= λ key. Ok (call.Stat key)) 
 call_again limits (call.Readdir p) h = ap (λ r. r >>= λ key. Ok (call.Readdir key)) (path_read limits p h)
 call_again limits (call.ListAfter p after count) h =
     ap (λ o. formed_call limits o (path_word p ∷ path_word after ∷ decimal count ∷ [])) (list_formed limits h.3)
-    ∙ rw (path_read limits p h.0, path_read limits after h.1, number_read count h.2) refl
+    ∙ rw (path_read limits p h.0, path_read limits after h.1, count_read count h.2) refl
 call_again limits (call.Read p off count) h = rw (path_read limits p h.0, number_read off h.1, number_read count h.2) refl
 call_again limits (call.Write p off file) h = rw (path_read limits p h.0, number_read off h.1, hex_read file h.2) refl
 call_again limits (call.Truncate p size) h = rw (path_read limits p h.0, number_read size h.1) refl
@@ -186,7 +196,7 @@ call_good limits (call.Rename p q) h = (literal (codes "rename") (search rules) 
 call_good limits (call.Exchange p q) h = (literal (codes "exchange") (search rules) (search rules), (IsWord_path p, (IsWord_path q, tt)))
 call_good limits (call.Stat p) h = (literal (codes "stat") (search rules) (search rules), (IsWord_path p, tt))
 call_good limits (call.Readdir p) h = (literal (codes "readdir") (search rules) (search rules), (IsWord_path p, tt))
-call_good limits (call.ListAfter p after count) h = (literal (codes "list") (search rules) (search rules), (IsWord_path p, (IsWord_path after, (IsWord_decimal count h.2, tt))))
+call_good limits (call.ListAfter p after count) h = (literal (codes "list") (search rules) (search rules), (IsWord_path p, (IsWord_path after, (IsWord_decimal count (wide count h.2), tt))))
 call_good limits (call.Read p off count) h = (literal (codes "read") (search rules) (search rules), (IsWord_path p, (IsWord_decimal off h.1, (IsWord_decimal count h.2, tt))))
 call_good limits (call.Write p off file) h = (literal (codes "write") (search rules) (search rules), (IsWord_path p, (IsWord_decimal off h.1, (IsWord_hex file h.2, tt))))
 call_good limits (call.Truncate p size) h = (literal (codes "truncate") (search rules) (search rules), (IsWord_path p, (IsWord_decimal size h.1, tt)))
@@ -279,16 +289,13 @@ header_line = All-from_recursion (λ b. 31 < b) journal_header (search rules)
 pub journal_lines : (limits : Limits) (es : List Entry) → AllFit limits es → lines_of (journal_text es) ≡ journal_header ∷ map joined es
 journal_lines limits es h = ap lines_of (journal_ended es) ∙ lines_of_ended (journal_header ∷ map joined es) (header_line, are_lines limits es h)
 
-not_above : (n : ℕ) → n ≤ 16777216 → ltb 16777216 n ≡ false
-not_above n h = grind (arith, nat_tests)
-
 -- entries written behind the header line are read again as the same entries, where the text keeps the length limit
-pub journal_again : (es : List Entry) → AllFit V1 es → length (journal_text es) ≤ 16777216 → entries_of (journal_text es) ≡ Ok es
+pub journal_again : (es : List Entry) → AllFit V1 es → length (journal_text es) ≤ text_limit V1 → entries_of (journal_text es) ≡ Ok es
 unfolding entries_of
 journal_again es h short =
     ap (λ r. r >>= entries_from V1 2)
     (ap (λ r. r >>= λ f. if bytes_eq f.0 journal_header then Ok (f.1) else Err (fault_at 1 kind.BadHeader))
-    (cond-false _ _ _ (not_above (length (journal_text es)) short) ∙ ap first_line (journal_lines V1 es h)))
+    (cond-false _ _ _ (short_enough (journal_text es) short) ∙ ap first_line (journal_lines V1 es h)))
     ∙ lines_again V1 2 es h
 
 pub reads_back : ReadsBack

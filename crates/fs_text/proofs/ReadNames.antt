@@ -14,7 +14,7 @@ use Rattle.fs_calls.specs.declared.call.Call.TheVariants as call
 use Rattle.fs_timeline.proofs.KeptNames.{NamesCall}
 use Rattle.fs_words.specs.Words.{Word}
 use Rattle.fs_words.specs.Reading.{◌>>=◌, or_bad_path, path_at, number_at, hex_at}
-use Rattle.fs_text.specs.Calls.{CallForm, one_path, two_paths, paths_and_number, a_number, two_numbers, number_and_bytes, list_form, longer_form_of, form_of, one_path_of, two_paths_of, a_number_at, paths_and_number_of, a_number_of, two_numbers_of, number_and_bytes_of, arguments_at, formed_call, call_of}
+use Rattle.fs_text.specs.Calls.{CallForm, one_path, two_paths, paths_and_count, a_number, two_numbers, number_and_bytes, list_form, longer_form_of, form_of, one_path_of, two_paths_of, count_at, paths_and_count_of, a_number_of, two_numbers_of, number_and_bytes_of, arguments_at, formed_call, call_of}
 
 -- what is given, if it is something, is such
 abbrev pub Given : {A F : Type 0} → (A → Type 0) → Result A F → Type 0
@@ -53,7 +53,7 @@ module _ (limits : Limits) where
   abbrev Takes : CallForm → Type 0
   Takes (one_path make) = (p : Key) → Short p → Shorts (make p)
   Takes (two_paths make) = (p q : Key) → Short p → Short q → Shorts (make p q)
-  Takes (paths_and_number make) = (p q : Key) (n : ℕ) → Short p → Short q → Shorts (make p q n)
+  Takes (paths_and_count make) = (p q : Key) (n : ℕ) → Short p → Short q → Shorts (make p q n)
   Takes (a_number make) = (p : Key) (n : ℕ) → Short p → Shorts (make p n)
   Takes (two_numbers make) = (p : Key) (m n : ℕ) → Short p → Shorts (make p m n)
   Takes (number_and_bytes make) = (p : Key) (n : ℕ) (bytes : List ℕ) → Short p → Shorts (make p n bytes)
@@ -73,7 +73,7 @@ module _ (limits : Limits) where
   list_takes : TakesSome (list_form limits)
   list_takes = by (has_list limits) refl
     where
-      by : (b : Bool) → has_list limits ≡ b → TakesSome (cond {A = Option CallForm} b (Some (paths_and_number call.ListAfter)) None)
+      by : (b : Bool) → has_list limits ≡ b → TakesSome (cond {A = Option CallForm} b (Some (paths_and_count call.ListAfter)) None)
       by true has = λ p q n h g. (h, g, has)
       by false other = tt
 
@@ -107,20 +107,17 @@ module _ (limits : Limits) where
   two_given (p ∷ q ∷ []) = given_then Short _ (path_at limits p) _ (path_given p) (λ x h. given_then Short _ (path_at limits q) _ (path_given q) (λ y g. (h, g)))
   two_given (p ∷ q ∷ r ∷ ws) = tt
 
-  number_at_given : (p n : Word) → Given (λ (found : Key × ℕ). Short found.0) (a_number_at limits p n)
-  number_at_given p n = given_then Short _ (path_at limits p) _ (path_given p) (λ x h. any_then _ (number_at n) _ (λ size. h))
-
-  both_given : (ws : List Word) → Given (λ (found : Key × Key × ℕ). Short found.0 × Short found.1) (paths_and_number_of limits ws)
+  both_given : (ws : List Word) → Given (λ (found : Key × Key × ℕ). Short found.0 × Short found.1) (paths_and_count_of limits ws)
   both_given [] = tt
   both_given (p ∷ []) = tt
   both_given (p ∷ q ∷ []) = tt
-  both_given (p ∷ q ∷ n ∷ []) = given_then Short _ (path_at limits p) _ (path_given p) (λ x h. given_then _ _ (a_number_at limits q n) _ (number_at_given q n) (λ found g. (h, g)))
+  both_given (p ∷ q ∷ n ∷ []) = given_then Short _ (path_at limits p) _ (path_given p) (λ x h. given_then Short _ (path_at limits q) _ (path_given q) (λ y g. any_then _ (count_at n) _ (λ count. (h, g))))
   both_given (p ∷ q ∷ n ∷ r ∷ ws) = tt
 
   number_given : (ws : List Word) → Given (λ (found : Key × ℕ). Short found.0) (a_number_of limits ws)
   number_given [] = tt
   number_given (p ∷ []) = tt
-  number_given (p ∷ n ∷ []) = number_at_given p n
+  number_given (p ∷ n ∷ []) = given_then Short _ (path_at limits p) _ (path_given p) (λ x h. any_then _ (number_at n) _ (λ size. h))
   number_given (p ∷ n ∷ r ∷ ws) = tt
 
   numbers_given : (ws : List Word) → Given (λ (found : Key × ℕ × ℕ). Short found.0) (two_numbers_of limits ws)
@@ -140,7 +137,7 @@ module _ (limits : Limits) where
   arguments_given : (form : CallForm) (ws : List Word) → Takes form → Given Shorts (arguments_at limits form ws)
   arguments_given (one_path make) ws takes = given_then Short Shorts (one_path_of limits ws) _ (one_given ws) takes
   arguments_given (two_paths make) ws takes = given_then _ Shorts (two_paths_of limits ws) _ (two_given ws) (λ both h. takes both.0 both.1 h.0 h.1)
-  arguments_given (paths_and_number make) ws takes = given_then _ Shorts (paths_and_number_of limits ws) _ (both_given ws) (λ found h. takes found.0 found.1 found.2 h.0 h.1)
+  arguments_given (paths_and_count make) ws takes = given_then _ Shorts (paths_and_count_of limits ws) _ (both_given ws) (λ found h. takes found.0 found.1 found.2 h.0 h.1)
   arguments_given (a_number make) ws takes = given_then _ Shorts (a_number_of limits ws) _ (number_given ws) (λ found h. takes found.0 found.1 h)
   arguments_given (two_numbers make) ws takes = given_then _ Shorts (two_numbers_of limits ws) _ (numbers_given ws) (λ found h. takes found.0 found.1 found.2 h)
   arguments_given (number_and_bytes make) ws takes = given_then _ Shorts (number_and_bytes_of limits ws) _ (bytes_given ws) (λ found h. takes found.0 found.1 found.2 h)

@@ -1,5 +1,5 @@
 -- Calls as words of a line, both ways.
-use Rattle.std.specs.Prelude.{ℕ, Bool, false, ◌==◌, List, [], ◌∷◌, length, Result, Ok, Err, Option, Some, None, if◌then◌else◌, codes, decimal}
+use Rattle.std.specs.Prelude.{ℕ, ◌^◌, Bool, false, ◌==◌, nat_lt, List, [], ◌∷◌, length, Result, Ok, Err, Option, Some, None, if◌then◌else◌, codes, decimal}
 use Rattle.std.specs.Str.{bytes_eq}
 use Rattle.fs_names.specs.Keys.{Key}
 use Rattle.fs_names.specs.Limits.{has_list}
@@ -34,14 +34,14 @@ call_words (Truncate p size) = codes "truncate" ∷ path_word p ∷ decimal size
 pub data CallForm : Type 0 where
   one_path : (Key → Call) → CallForm
   two_paths : (Key → Key → Call) → CallForm
-  paths_and_number : (Key → Key → ℕ → Call) → CallForm
+  paths_and_count : (Key → Key → ℕ → Call) → CallForm
   a_number : (Key → ℕ → Call) → CallForm
   two_numbers : (Key → ℕ → ℕ → Call) → CallForm
   number_and_bytes : (Key → ℕ → List ℕ → Call) → CallForm
 
 -- the form of the call that lists a directory in pieces, where texts by these limits have it
 abbrev pub list_form : Limits → Option CallForm
-list_form limits = if has_list limits then Some (paths_and_number ListAfter) else None
+list_form limits = if has_list limits then Some (paths_and_count ListAfter) else None
 
 -- the form of a call by its first word, where more than one path stands behind that
 abbrev pub longer_form_of : Limits → Word → Option CallForm
@@ -88,14 +88,18 @@ abbrev pub a_number_of : Limits → List Word → Result (Key × ℕ) FaultKind
 a_number_of limits (p ∷ n ∷ []) = a_number_at limits p n
 a_number_of limits _ = Err kind.BadLine
 
--- three words as two paths and a number
-abbrev pub paths_and_number_at : Limits → Word → Word → Word → Result (Key × Key × ℕ) FaultKind
-paths_and_number_at limits p q n = path_at limits p >>= λ key. a_number_at limits q n >>= λ found. Ok (key, found.0, found.1)
+-- a word as a number of 32 bits: a greater one is none
+abbrev pub count_at : Word → Result ℕ FaultKind
+count_at n = number_at n >>= λ count. if nat_lt count (2 ^ 32) then Ok count else Err kind.BadNumber
 
--- the words of two paths and a number; another number of words is a bad line
-abbrev pub paths_and_number_of : Limits → List Word → Result (Key × Key × ℕ) FaultKind
-paths_and_number_of limits (p ∷ q ∷ n ∷ []) = paths_and_number_at limits p q n
-paths_and_number_of limits _ = Err kind.BadLine
+-- three words as two paths and a number of 32 bits
+abbrev pub paths_and_count_at : Limits → Word → Word → Word → Result (Key × Key × ℕ) FaultKind
+paths_and_count_at limits p q n = path_at limits p >>= λ key. path_at limits q >>= λ after. count_at n >>= λ count. Ok (key, after, count)
+
+-- the words of two paths and such a number; another number of words is a bad line
+abbrev pub paths_and_count_of : Limits → List Word → Result (Key × Key × ℕ) FaultKind
+paths_and_count_of limits (p ∷ q ∷ n ∷ []) = paths_and_count_at limits p q n
+paths_and_count_of limits _ = Err kind.BadLine
 
 -- three words as a path and two numbers
 abbrev pub two_numbers_at : Limits → Word → Word → Word → Result (Key × ℕ × ℕ) FaultKind
@@ -119,7 +123,7 @@ number_and_bytes_of limits _ = Err kind.BadLine
 abbrev pub arguments_at : Limits → CallForm → List Word → Result Call FaultKind
 arguments_at limits (one_path make) words = one_path_of limits words >>= λ key. Ok (make key)
 arguments_at limits (two_paths make) words = two_paths_of limits words >>= λ both. Ok (make both.0 both.1)
-arguments_at limits (paths_and_number make) words = paths_and_number_of limits words >>= λ found. Ok (make found.0 found.1 found.2)
+arguments_at limits (paths_and_count make) words = paths_and_count_of limits words >>= λ found. Ok (make found.0 found.1 found.2)
 arguments_at limits (a_number make) words = a_number_of limits words >>= λ found. Ok (make found.0 found.1)
 arguments_at limits (two_numbers make) words = two_numbers_of limits words >>= λ found. Ok (make found.0 found.1 found.2)
 arguments_at limits (number_and_bytes make) words = number_and_bytes_of limits words >>= λ found. Ok (make found.0 found.1 found.2)
@@ -128,7 +132,7 @@ arguments_at limits (number_and_bytes make) words = number_and_bytes_of limits w
 abbrev pub argument_count : CallForm → ℕ
 argument_count (one_path make) = 1
 argument_count (two_paths make) = 2
-argument_count (paths_and_number make) = 3
+argument_count (paths_and_count make) = 3
 argument_count (a_number make) = 2
 argument_count (two_numbers make) = 3
 argument_count (number_and_bytes make) = 3

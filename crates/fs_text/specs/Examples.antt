@@ -12,6 +12,7 @@ use Rattle.fs_timeline.specs.declared.entry.Entry.{Entry}
 use Rattle.fs_timeline.specs.declared.entry.Entry.TheVariants.{Begin, Commit, Return}
 use Rattle.fs_words.specs.Words.{number_of, escaped}
 use Rattle.fs_words.specs.Reading.{fault_at}
+use Rattle.fs_text.specs.Calls.{count_at}
 use Rattle.fs_text.specs.Journal.{entry_line, journal_text, entries_of}
 use Rattle.fs_words.specs.declared.fault.ScriptFault.{ScriptFault}
 use Rattle.fs_words.specs.declared.fault.FaultKind.{FaultKind}
@@ -74,3 +75,5 @@ pub record NumbersRead : Type 0 where
   pub two_zeros : number_of (codes "00") ≡ None
   pub signed : number_of (codes "+1") ≡ None
   pub nothing : number_of [] ≡ None
+  pub largest_count : count_at (codes "4294967295") ≡ Ok (2 ^ 32 - 1)
+  pub too_large_count : count_at (codes "4294967296") ≡ Err BadNumber

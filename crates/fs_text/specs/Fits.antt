@@ -26,6 +26,10 @@ pub record FitsPath (limits : Limits) (key : Key) : Type 0 where
 abbrev pub IsU64 : ℕ → Type 0
 IsU64 n = n < 2 ^ 64
 
+-- a number of 32 bits
+abbrev pub IsU32 : ℕ → Type 0
+IsU32 n = n < 2 ^ 32
+
 -- the paths, numbers and bytes of a call, which these limits have
 abbrev pub FitsCall : Limits → Call → Type 0
 FitsCall limits (call.Mkdir p) = FitsPath limits p
@@ -36,7 +40,7 @@ FitsCall limits (call.Rename p q) = FitsPath limits p × FitsPath limits q
 FitsCall limits (call.Exchange p q) = FitsPath limits p × FitsPath limits q
 FitsCall limits (call.Stat p) = FitsPath limits p
 FitsCall limits (call.Readdir p) = FitsPath limits p
-FitsCall limits (call.ListAfter p after count) = FitsPath limits p × FitsPath limits after × IsU64 count × IsTrue (has_list limits)
+FitsCall limits (call.ListAfter p after count) = FitsPath limits p × FitsPath limits after × IsU32 count × IsTrue (has_list limits)
 FitsCall limits (call.Read p off count) = FitsPath limits p × IsU64 off × IsU64 count
 FitsCall limits (call.Write p off bytes) = FitsPath limits p × IsU64 off × AreBytes bytes
 FitsCall limits (call.Truncate p size) = FitsPath limits p × IsU64 size

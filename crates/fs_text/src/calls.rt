@@ -2,7 +2,7 @@
 
 ghost use Rattle.std.specs.Prelude.{◌≡◌, ◌∷◌, [], map, option_map};
 ghost use Rattle.fs_calls.specs.declared.call.Call.TheVariants.{ListAfter, Read, Write, Truncate};
-ghost use Rattle.fs_text.specs.Calls.{one_path, two_paths, paths_and_number, a_number, two_numbers, number_and_bytes, a_number_at, arguments_at, call_of, form_of, list_form, argument_count, has_call_form};
+ghost use Rattle.fs_text.specs.Calls.{one_path, two_paths, paths_and_count, a_number, two_numbers, number_and_bytes, a_number_at, count_at, arguments_at, call_of, form_of, list_form, argument_count, has_call_form};
 ghost use Rattle.fs_words.specs.Reading.{hex_at};
 ghost use Rattle.fs_words.specs.code.Answers.{Gives};
 ghost use Rattle.fs_text.specs.code.Forms.{call_on, call_on_both, form_meant};
@@ -143,6 +143,13 @@ fn a_number_at<'a>(
     }
 }
 
+/// The number of 32 bits that a word is; else `BadNumber`.
+fn count_at(word: &[u8]) -> Result<u32, FaultKind>
+    ensures { result ≡ count_at word.now }
+{
+    u32::try_from(number_at(word)?).map_err(|_| FaultKind::BadNumber)
+}
+
 #[tactic(auto, using(fs_words::proofs::ReadLemmas::fails_bind))]
 fn list_at<'a>(
     alloc: Global,
@@ -152,14 +159,18 @@ fn list_at<'a>(
     after: &'a [u8],
     count: &[u8],
 ) -> Result<Call, FaultKind>
-    ensures { Gives (λ call. call) result (arguments_at limits (paths_and_number ListAfter) (path.now ∷ after.now ∷ count.now ∷ [])) }
+    ensures { Gives (λ call. call) result (arguments_at limits (paths_and_count ListAfter) (path.now ∷ after.now ∷ count.now ∷ [])) }
 {
     let path = match path_with(alloc, recent, limits, path) {
         Ok(path) => path,
         Err(kind) => return Err(kind),
     };
-    match a_number_at(alloc, recent, limits, after, count) {
-        Ok((after, count)) => Ok(Call::ListAfter(path, after, count)),
+    let after = match path_with(alloc, recent, limits, after) {
+        Ok(after) => after,
+        Err(kind) => return Err(kind),
+    };
+    match count_at(count) {
+        Ok(count) => Ok(Call::ListAfter(path, after, count)),
         Err(kind) => Err(kind),
     }
 }

@@ -5,7 +5,8 @@ ghost use Rattle.fs_text.specs.Journal.{kind_named, errno_of, stated_at, stated_
 ghost use Rattle.fs_words.specs.code.Answers.{Gives};
 
 use fs_calls::{Errno, NameList, Reply};
-use fs_names::{Kind, Limits, Name};
+use fs_memory::Memory;
+use fs_names::{Kind, Limits, Name, NameRoom};
 use fs_words::FaultKind;
 use fs_words::lines::push_item;
 use fs_words::words::{hex_at, is_word, name_at, number_at};
@@ -108,11 +109,41 @@ pub fn names_at(alloc: Global, limits: Limits, words: &[&[u8]]) -> Result<Vec<Na
     Ok(names)
 }
 
+/// For how many bytes a list of the names of words has to have room at most.
+fn bytes_for(words: &[&[u8]]) -> usize {
+    let mut bytes = words.len();
+    for word in words {
+        bytes = bytes.saturating_add(word.len());
+    }
+    bytes
+}
+
+/// The same names as a list.
+fn name_list_at(alloc: Global, limits: Limits, words: &[&[u8]]) -> Result<NameList, FaultKind>
+    ensures { Gives (λ names. names) result (names_at limits (map (λ w. w.now) words.now)) }
+{
+    let Ok(mut names) = NameRoom::new(alloc, &mut Memory::new(), bytes_for(words)) else {
+        return Err(FaultKind::OutOfMemory);
+    };
+    let mut at = 0;
+    'names: while at < words.len() {
+        let name = match name_at(alloc, limits, words[at]) {
+            Ok(name) => name,
+            Err(kind) => return Err(kind),
+        };
+        if names.push(&name).is_err() {
+            return Err(FaultKind::OutOfMemory);
+        }
+        at += 1;
+    }
+    Ok(names.into_list())
+}
+
 fn names_of(alloc: Global, limits: Limits, words: &[&[u8]]) -> Result<Reply, FaultKind>
     ensures { Gives (λ reply. reply) result (names_of limits (map (λ w. w.now) words.now)) }
 {
-    match names_at(alloc, limits, words) {
-        Ok(names) => Ok(Reply::Names(NameList::new(names))),
+    match name_list_at(alloc, limits, words) {
+        Ok(names) => Ok(Reply::Names(names)),
         Err(kind) => Err(kind),
     }
 }

@@ -9,8 +9,8 @@ ghost use Rattle.fs_text.specs.Fits.{FitsName, FitsPath, FitsCall, FitsReply, Fi
 ghost use Rattle.fs_calls.specs.declared.call.Call.TheVariants.{ListAfter, Read, Write};
 ghost use Rattle.fs_text.specs.Journal.{reply_words, entry_words, entry_line, kind_word, errno_word};
 
-use fs_calls::{Call, Errno, Reply};
-use fs_names::{Kind, Name, Path};
+use fs_calls::{Call, Errno, NameList, Reply};
+use fs_names::{Kind, Path};
 use fs_timeline::Entry;
 use fs_words::Addition;
 use fs_words::addition::put_back;
@@ -77,7 +77,7 @@ fn push_list(
     alloc: Global,
     path: &Path,
     after: &Path,
-    count: u64,
+    count: u32,
     line: &mut Addition,
 ) -> Result<(), AllocError>
     ensures ok { OnOk result (line.new.added ≡ line.old.added ++ join_with_byte 32 (call_words (ListAfter path.now after.now count))) }
@@ -85,7 +85,7 @@ fn push_list(
     ensures before { line.new.before ≡ line.old.before }
 {
     push_with_paths(alloc, b"list ", path, after, line)?;
-    line.push_with_number(b" ", count)
+    line.push_with_number(b" ", u64::from(count))
 }
 
 fn push_read(
@@ -150,15 +150,15 @@ pub fn errno_text(errno: Errno) -> &'static [u8]
 }
 
 /// Each name behind a space.
-#[tactic(auto, using(crate::proofs::FitLemmas::name_fits))]
-fn push_names(alloc: Global, names: &[Name], line: &mut Addition) -> Result<(), AllocError>
+fn push_names(alloc: Global, names: &NameList, line: &mut Addition) -> Result<(), AllocError>
     ensures ok { OnOk result (line.new.added ≡ line.old.added ++ flat_map (λ n. 32 ∷ escaped n) names.now) }
     ensures fits { OnOk result (AllByRecursion (FitsName largest) names.now) }
     ensures before { line.new.before ≡ line.old.before }
 {
-    for name in names {
+    let mut left = names.names();
+    'names: while let Some(name) = left.next() {
         line.push(b" ")?;
-        line.push_escaped(alloc, name.bytes())?;
+        line.push_escaped(alloc, name)?;
     }
     Ok(())
 }
@@ -177,7 +177,7 @@ fn push_reply(alloc: Global, reply: &Reply, line: &mut Addition) -> Result<(), A
         }
         Reply::Names(names) => {
             line.push(b"names")?;
-            push_names(alloc, names.as_slice(), line)
+            push_names(alloc, names, line)
         }
         Reply::Bytes(bytes) => {
             line.push(b"bytes ")?;

@@ -13,9 +13,9 @@ use Rattle.fs_words.specs.declared.fault.ScriptFault.{ScriptFault}
 use Rattle.fs_words.specs.declared.fault.FaultKind.{FaultKind}
 use Rattle.fs_words.specs.declared.fault.FaultKind.TheVariants as kind
 use Rattle.fs_text.specs.Calls.{call_of}
-use Rattle.fs_script.specs.Limits.{calls_in, events_in}
+use Rattle.fs_script.specs.Limits.{call_limit, calls_in, events_in}
 use Rattle.fs_script.specs.Script.{is_thread, is_star, seat_named, with_call, with_thread, new_thread, thread_line, new_call, call_line, block_line, with_word, new_events, events_word, timed_word, has_finish, schedule_word, schedule_line, schedule_from, blocks_from}
-use Rattle.fs_script.specs.declared.limits.TheConstants.{THREAD_LIMIT, CALL_LIMIT, EVENT_LIMIT}
+use Rattle.fs_script.specs.declared.limits.TheConstants.{THREAD_LIMIT, EVENT_LIMIT}
 use Rattle.fs_script.specs.declared.script.Script.{Script}
 use Rattle.fs_script.specs.declared.script.Word.{Word}
 use Rattle.fs_script.specs.declared.script.Word.TheVariants.{Events, Finish, Checkpoint}
@@ -75,7 +75,7 @@ thread_line_begun s (name ∷ []) h = thread_begun s name h
 thread_line_begun s (name ∷ next ∷ more) h = fault_holds IsBegun kind.BadLine
 
 call_begun : (s : Script) (c : Call) → IsBegun s → Holds IsBegun (new_call s c)
-call_begun s c h = else_holds IsBegun (nat_le CALL_LIMIT (calls_in s.lists)) _ _ (λ few. ok_holds IsBegun (record s { lists = with_call c s.lists }) (record { names = h.names; none = h.none }))
+call_begun s c h = else_holds IsBegun (nat_le (call_limit s.limits) (calls_in s.lists)) _ _ (λ few. ok_holds IsBegun (record s { lists = with_call c s.lists }) (record { names = h.names; none = h.none }))
 
 block_begun : (s : Script) (ws : List words.Word) → IsBegun s → Holds IsBegun (block_line s ws)
 unfolding block_line

@@ -5,6 +5,7 @@ use Rattle.std.proofs.lemmas.Bool.{ltb-true, ltb-false}
 use Rattle.std.proofs.lemmas.Grind.{flat_map-append}
 use Rattle.fs_calls.specs.declared.call.Call.{Call}
 use Rattle.fs_timeline.specs.declared.entry.Entry.{Entry}
+use Rattle.fs_words.specs.Headers.{is_too_long}
 use Rattle.fs_script.specs.Limits.{events_in, SeatsAreThere}
 use Rattle.fs_script.specs.Script.{script_of}
 use Rattle.fs_script.specs.declared.limits.TheConstants.{EVENT_LIMIT}
@@ -191,7 +192,7 @@ moment_more old new ms m has given timed counted few =
 -- ---- the whole
 
 -- what was written is read back
-pub read_back : (schedule : Schedule) (input text : List ℕ) (script : Script) (run : RunWords) (ms : List Moment) (last : Stage) → script_of input ≡ Ok script → TellsRun schedule script ms last → AreAllWords run ms → IsWritten input script.names run.words.items text → length text ≤ 16777216 → IsReadBack schedule input text
+pub read_back : (schedule : Schedule) (input text : List ℕ) (script : Script) (run : RunWords) (ms : List Moment) (last : Stage) → script_of input ≡ Ok script → TellsRun schedule script ms last → AreAllWords run ms → IsWritten input script.names run.words.items text → is_too_long text ≡ false → IsReadBack schedule input text
 read_back schedule input text script run ms last is tells has written short =
     let words : List Word = run.words.items in
     let seats : SeatsAreThere (length script.lists) (busy_words ms) = moments_there script.lists [] _ last ms (run_moments schedule script ms last tells) (kept_start script.limits script.lists) in

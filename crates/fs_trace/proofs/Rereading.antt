@@ -18,7 +18,7 @@ use Rattle.fs_script.specs.declared.limits.TheConstants.{EVENT_LIMIT}
 use Rattle.fs_script.specs.declared.script.Script.{Script}
 use Rattle.fs_script.specs.declared.script.Word.{Word}
 use Rattle.fs_script.specs.declared.script.Word.TheVariants.{Events, Finish, Checkpoint}
-use Rattle.fs_script.specs.Headers.{script_header}
+use Rattle.fs_words.specs.Headers.{script_header, is_too_long}
 use Rattle.fs_script.proofs.HeaderLemmas.{script_in, short_script, lines_read, IsHeaded, headed_script, again}
 use Rattle.fs_script.proofs.LimitLemmas.{unfinished_more, unfinished_checkpoint, events_more, events_checkpoint}
 use Rattle.fs_trace.specs.Traces.{word_text, AreWordTexts}
@@ -207,7 +207,7 @@ first_again (first ∷ before) after script words texts none is are begins there
     (more, e, again h.limits first h.announces (before ++ codes "schedule" ∷ lines_of more) ∙ read)
 
 -- a script's text with other words is read as the script with these words
-pub read_again : (input text : List ℕ) (script : Script) (words : List Word) → script_of input ≡ Ok script → IsWritten input script.names words text → length text ≤ 16777216 → SeatsAreThere (length script.names) words → AreTimed words → events_in words ≤ EVENT_LIMIT
+pub read_again : (input text : List ℕ) (script : Script) (words : List Word) → script_of input ≡ Ok script → IsWritten input script.names words text → is_too_long text ≡ false → SeatsAreThere (length script.names) words → AreTimed words → events_in words ≤ EVENT_LIMIT
     → script_of text ≡ Ok (record script { words = words })
 read_again input text script words is w short there timed few =
     let (before, after, none, lines, same) = w.has_head (has_schedule input script is) in

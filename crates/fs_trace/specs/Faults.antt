@@ -1,5 +1,5 @@
 -- The faults of schedules that are written.
-use Rattle.std.specs.Prelude.{ℕ, ◌≡◌, ◌<◌, List, length, Ok}
+use Rattle.std.specs.Prelude.{ℕ, ◌≡◌, ◌<◌, true, List, Ok}
 use Rattle.fs_script.specs.Limits.{events_in}
 use Rattle.fs_script.specs.Script.{script_of}
 use Rattle.fs_script.specs.declared.limits.TheConstants.{EVENT_LIMIT}
@@ -9,7 +9,7 @@ use Rattle.fs_sched.specs.Moments.{TellsRun}
 use Rattle.fs_sched.specs.declared.schedule.Schedule.{Schedule}
 use Rattle.fs_sched.specs.Runs.{Stage, IsFaultOfRun}
 use Rattle.fs_witness.specs.declared.moments.Moment.{Moment}
-use Rattle.fs_words.specs.declared.limits.TheConstants.{TEXT_LIMIT}
+use Rattle.fs_words.specs.Headers.{is_too_long}
 use Rattle.fs_trace.specs.Traces.{busy_words, IsScheduleOf}
 use Rattle.fs_trace.specs.declared.fault.ScheduleFault.{ScheduleFault}
 use Rattle.fs_trace.specs.declared.fault.ScheduleFault.TheVariants.{Run, TooManyEvents, TooLong}
@@ -24,9 +24,9 @@ status_of_schedule TooLong = 4
 abbrev pub HasTooManyEvents : Schedule → List ℕ → Type 0
 HasTooManyEvents schedule input = (script : Script) × (script_of input ≡ Ok script) × (ms : List Moment) × (last : Stage) × TellsRun schedule script ms last × (EVENT_LIMIT < events_in (busy_words ms))
 
--- with the moments of a run as its words that script has more bytes than a text may have
+-- with the moments of a run as its words that script is longer than a text may be
 abbrev pub IsTooLongWritten : Schedule → List ℕ → Type 0
-IsTooLongWritten schedule input = (text : List ℕ) × IsScheduleOf schedule input text × (TEXT_LIMIT < length text)
+IsTooLongWritten schedule input = (text : List ℕ) × IsScheduleOf schedule input text × (is_too_long text ≡ true)
 
 -- the fault of a schedule that is written: why the run is not recorded, or no room for its events
 abbrev pub IsFaultOfSchedule : Schedule → List ℕ → ScheduleFault → Type 0

@@ -15,8 +15,8 @@ pub enum ScheduleFault {
     /// The run takes more events than a script may give.
     #[error("the run takes more events than a script gives")]
     TooManyEvents,
-    /// The script with the words of its events has more bytes than a text may have.
-    #[error("the script would have more than 16777216 bytes")]
+    /// The script with the words of its events is longer than a text may be by its limits.
+    #[error("the script would have more bytes than a text has")]
     TooLong,
 }
 

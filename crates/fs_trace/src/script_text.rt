@@ -1,6 +1,6 @@
 //! A script with other words.
 
-ghost use Rattle.std.specs.Prelude.{◌≡◌, ◌≤◌, ◌++◌, ◌∷◌, [], ℕ, List, true, nat_lt, length, IfOk, IfErr, IfSome, OnOk, get_or};
+ghost use Rattle.std.specs.Prelude.{◌≡◌, ◌≤◌, ◌++◌, ◌∷◌, [], ℕ, List, true, false, nat_lt, length, IfOk, IfErr, IfSome, OnOk, get_or};
 ghost use Rattle.fs_script.specs.Limits.{events_in};
 ghost use Rattle.fs_script.specs.declared.limits.TheConstants.{EVENT_LIMIT};
 ghost use Rattle.fs_witness.specs.declared.moments.Moment.{Moment};
@@ -9,7 +9,7 @@ ghost use Rattle.fs_sched.specs.Schedules.{one_event};
 ghost use Rattle.fs_trace.specs.Traces.{busy_event, busy_word, busy_words, times_text, word_text, AreWordTexts, IsGap, IsScheduleText};
 ghost use Rattle.fs_trace.specs.code.Mades.{IsNotHandedOut};
 ghost use Rattle.fs_trace.specs.code.WordTexts.{is_schedule, AddsWords, AreTimed, HasHead, HasWords, IsBeginning, IsGapBehind, IsWritten};
-ghost use Rattle.fs_words.specs.declared.limits.TheConstants.{TEXT_LIMIT};
+ghost use Rattle.fs_words.specs.Headers.{is_too_long};
 
 use crate::fault::ScheduleFault;
 use fs_core::Core;
@@ -18,7 +18,8 @@ use fs_sched::RunFault;
 use fs_script::limits::EVENT_LIMIT;
 use fs_script::{Script, ThreadNames, Word};
 use fs_witness::{Answer, Moment, Told, Witness};
-use fs_words::{Addition, TEXT_LIMIT};
+use fs_words::Addition;
+use fs_words::headers::is_too_long;
 use std::alloc::{AllocError, Global};
 
 /// The most bytes that a line of words is to have; a single word may be longer.
@@ -262,12 +263,12 @@ pub(crate) fn script_text(
     ensures made { (moments : List Moment) → given_words words.words.items ≡ busy_words moments
         → IfOk result (λ text. IsScheduleText input.now script.now.names moments text.items) }
     ensures written { IfOk result (λ text. IsWritten input.now script.now.names words.words.items text.items) }
-    ensures short { IfOk result (λ text. length text.items ≤ TEXT_LIMIT) }
+    ensures short { IfOk result (λ text. is_too_long text.items ≡ false) }
     ensures fault { (moments : List Moment) → given_words words.words.items ≡ busy_words moments
         → IfErr result (IsNotHandedOut input.now script.now.names moments) }
 {
     match with_words(alloc, input, &script.names, words.words.as_slice()) {
-        Ok(text) if text.len() > TEXT_LIMIT => Err(ScheduleFault::TooLong),
+        Ok(text) if is_too_long(&text) => Err(ScheduleFault::TooLong),
         Ok(text) => Ok(text),
         Err(_) => Err(ScheduleFault::Run(RunFault::OutOfMemory)),
     }

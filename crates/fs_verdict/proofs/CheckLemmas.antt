@@ -1,8 +1,9 @@
 -- The verdict on what was read is the verdict on the input.
-use Rattle.std.proofs.Common.{◌≡◌, ℕ, ◌<◌, ◌≤◌, ltb, ⊎_elim, Bool, true, false, List, length, Option, Some, None, Result, Ok, Err, refl, sym, ap, ◌∙◌, subst, arith}
+use Rattle.std.proofs.Common.{◌≡◌, ℕ, ⊎_elim, Bool, true, false, List, Option, Some, None, Result, Ok, Err, sym, ap, ◌∙◌, subst}
 use Rattle.std.specs.Prelude.{IfSome}
-use Rattle.std.proofs.lemmas.Bool.{ltb-true, ltb-false, lt-ltb}
+use Rattle.std.proofs.lemmas.Bool.{false_from_ne_true}
 use Rattle.fs_timeline.specs.declared.verdict.Verdict.{Verdict}
+use Rattle.fs_words.specs.Headers.{is_too_long}
 use Rattle.fs_words.specs.Reading.{fault_at}
 use Rattle.fs_script.specs.Journals.{journal_of}
 use Rattle.fs_script.proofs.HeaderLemmas.{long_journal}
@@ -11,19 +12,12 @@ use Rattle.fs_words.specs.declared.fault.FaultKind.TheVariants as kind
 use Rattle.fs_verdict.specs.Checks.{judged, verdict_of, verdict_line}
 use Rattle.fs_verdict.specs.Devices.{IsSameText, WritesBeginning, WritesBeginningOf}
 
-no_journal : (text : List ℕ) → 16777216 < length text → journal_of text ≡ Err (fault_at 1 kind.TooLarge)
-no_journal text h = long_journal text (lt-ltb 16777216 (length text) h)
-
 verdict_same : (text input : List ℕ) → IsSameText text input → verdict_of text ≡ verdict_of input
-verdict_same text input h = ⊎_elim (λ e. ap verdict_of e) (λ p. ap judged (no_journal text p.0 ∙ sym (no_journal input p.1))) h
+verdict_same text input h = ⊎_elim (λ e. ap verdict_of e) (λ p. ap judged (long_journal text p.0 ∙ sym (long_journal input p.1))) h
 
 -- what has a verdict is not too long
-pub verdict_short : (text items : List ℕ) (v : Verdict) → text ≡ items → verdict_of text ≡ Ok v → length items ≤ 16777216
-verdict_short text items v e h = subst (λ (l : List ℕ). length l ≤ 16777216) e (go (ltb 16777216 (length text)) refl)
-  where
-    go : (b : Bool) → ltb 16777216 (length text) ≡ b → length text ≤ 16777216
-    go true t = let long : verdict_of text ≡ Err (fault_at 1 kind.TooLarge) = ap judged (no_journal text (ltb-true _ _ t)) in absurd (cc)
-    go false t = omega (arith, ltb-false _ _ t)
+pub verdict_short : (text items : List ℕ) (v : Verdict) → text ≡ items → verdict_of text ≡ Ok v → is_too_long items ≡ false
+verdict_short text items v e h = subst (λ (l : List ℕ). is_too_long l ≡ false) e (false_from_ne_true _ (λ t. let long : verdict_of text ≡ Err (fault_at 1 kind.TooLarge) = ap judged (long_journal text t) in absurd (cc)))
 
 pub known_verdict : (r : Option (List ℕ)) (text items : List ℕ) (given : Result Verdict ScriptFault) → text ≡ items → IfSome r (IsSameText items) → verdict_of text ≡ given → IfSome r (λ input. verdict_of input ≡ given)
 known_verdict None text items given e s h = tt

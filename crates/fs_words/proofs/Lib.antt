@@ -7,3 +7,4 @@ pub mod PathLemmas
 pub mod DecimalLemmas
 pub mod DigitLemmas
 pub mod PlainLemmas
+pub mod HeaderLemmas

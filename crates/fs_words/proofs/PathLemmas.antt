@@ -1,53 +1,22 @@
 -- A path that was written is read again.
-use Rattle.std.proofs.Common.{◌≡◌, ◌≢◌, ℕ, ◌+◌, ◌-◌, ◌<◌, ◌≤◌, Bool, true, false, not, ltb, eqb, List, [], ◌∷◌, ◌++◌, length, get_or, sym, refl, ap, ◌∙◌, append-nil, arith, ◌&&◌, None, Option, Ok, length-append, leb}
-use Rattle.std.specs.Prelude.{filter}
-use Rattle.std.specs.List.{All, AllByRecursion, list_any, list_all, slice_split}
-use Rattle.std.proofs.lemmas.List.Splits.{slice_split_at, slice_split_none}
+use Rattle.std.proofs.Common.{◌≡◌, ◌≢◌, ℕ, ◌+◌, ◌-◌, ◌<◌, ◌≤◌, Bool, true, false, ltb, eqb, List, [], ◌∷◌, ◌++◌, length, get_or, sym, refl, ap, ◌∙◌, append-nil, arith, ◌&&◌, None, Option, Ok, length-append, leb}
+use Rattle.std.specs.List.{All, AllByRecursion, list_any}
 use Rattle.std.proofs.lemmas.List.Elements.{All-cons, All-nil, All-append, All-weaker, All-get_or, All-head, All-tail}
-use Rattle.std.proofs.lemmas.Bool.{and_parts, or_from, not-true, leb-true}
+use Rattle.std.proofs.lemmas.Bool.{or_from}
 use Rattle.std.proofs.lemmas.Bool.Decides.{nat_tests}
 use Rattle.std.proofs.lemmas.List.{get_or-append-add}
 use Rattle.fs_names.specs.Failures.{check, or_else}
-use Rattle.fs_names.specs.Names.{Name, can_name, may_stand, is_dots}
+use Rattle.fs_names.specs.Names.{Name, is_dots}
 use Rattle.fs_names.specs.Keys.{Key, names_text, path_text}
-use Rattle.fs_names.specs.Reading.{reading, if_sound, path_fault, names, has_names, has_bytes, is_slash, is_zero, first_fault, name_fault, ends_in_slash}
+use Rattle.fs_names.specs.Reading.{reading, if_sound, path_fault, names, has_names, is_zero, first_fault, name_fault, ends_in_slash}
 use Rattle.fs_names.specs.declared.fault.PathFault.TheVariants.{Nul, NameTooLong, TooManyNames, Dot, TrailingSlash}
+use Rattle.fs_names.proofs.WrittenLemmas.{NameFacts, names_again}
 use Rattle.fs_words.specs.Words.{path_word, path_of}
 use Rattle.fs_names.specs.Names.{AreBytes}
 use Rattle.fs_names.specs.Limits.{name_limit, path_limit}
 use Rattle.fs_names.specs.declared.limits.Limits.{Limits}
 use Rattle.fs_words.proofs.EscapeLemmas.{escape_again, IsWord_escaped}
 use Rattle.fs_words.proofs.WordLemmas.{IsWord}
-
--- what the test of a name says
-pub record NameFacts (n : Name) : Type 0 where
-  pub some : 0 < length n
-  pub clean : All (λ b. (b ≢ 47) × (b ≢ 0)) n
-  pub no_dot : is_dots n ≡ false
-
-clean_byte : (b : ℕ) → may_stand b ≡ true → (b ≢ 47) × (b ≢ 0)
-clean_byte b h =
-    let parts = and_parts (not (eqb b 0)) (not (eqb b 47)) h in
-    let no_zero : eqb b 0 ≡ false = not-true _ parts.0 in
-    let no_slash : eqb b 47 ≡ false = not-true _ parts.1 in
-    (grind (arith, nat_tests), grind (arith, nat_tests))
-
-clean_from_test : (n : Name) → list_all may_stand n ≡ true → All (λ b. (b ≢ 47) × (b ≢ 0)) n
-clean_from_test [] h = All-nil _
-clean_from_test (b ∷ bs) h =
-    let parts = and_parts (may_stand b) (list_all may_stand bs) h in
-    All-cons (λ x. (x ≢ 47) × (x ≢ 0)) b bs (clean_byte b parts.0) (clean_from_test bs parts.1)
-
-pub name_facts : (n : Name) → can_name n ≡ true → NameFacts n
-name_facts n h =
-    let p = and_parts _ _ h in
-    let q = and_parts _ _ p.0 in
-    let r = and_parts _ _ q.0 in
-    record {
-      some = leb-true 1 (length n) r.0;
-      clean = clean_from_test n q.1;
-      no_dot = not-true _ p.1;
-    }
 
 -- no more bytes than a set of limits allows
 abbrev pub IsShort : Limits → Name → Type 0
@@ -58,23 +27,6 @@ pub record KeyFacts (limits : Limits) (key : Key) : Type 0 where
   pub short : AllByRecursion (IsShort limits) key
   pub names : AllByRecursion NameFacts key
   pub bytes : AllByRecursion AreBytes key
-
-not_slash : (b : ℕ) → (b ≢ 47) × (b ≢ 0) → is_slash b ≡ false
-not_slash b h = let no = h.0 in grind (arith, nat_tests)
-
-split_tail : (n : List ℕ) (ns : Key) → NameFacts n → AllByRecursion NameFacts ns → slice_split is_slash (n ++ names_text ns) ≡ n ∷ ns
-split_tail n [] f h = ap (slice_split is_slash) (append-nil n) ∙ slice_split_none is_slash n (All-weaker _ _ not_slash n f.clean)
-split_tail n (m ∷ ms) f h =
-    slice_split_at is_slash n 47 (m ++ names_text ms) (All-weaker _ _ not_slash n f.clean) refl
-    ∙ ap (λ t. n ∷ t) (split_tail m ms h.0 h.1)
-
-kept_names : (ns : Key) → AllByRecursion NameFacts ns → filter has_bytes ns ≡ ns
-kept_names [] h = refl
-kept_names ([] ∷ ns) h = let some : 0 < 0 = h.0.some in absurd (omega (arith, some))
-kept_names ((b ∷ bs) ∷ ns) h = ap (λ t. (b ∷ bs) ∷ t) (kept_names ns h.1)
-
-names_again : (n : Name) (ns : Key) → NameFacts n → AllByRecursion NameFacts ns → names (names_text (n ∷ ns)) ≡ n ∷ ns
-names_again n ns f h = ap (filter has_bytes) (split_tail n ns f h) ∙ kept_names (n ∷ ns) (f, h)
 
 not_many : (limits : Limits) (count : ℕ) → count < path_limit limits → leb (path_limit limits) count ≡ false
 not_many limits count h = grind (arith, nat_tests)

@@ -2,7 +2,7 @@
 use Rattle.std.proofs.Common.{◌≡◌, ℕ, ◌+◌, ◌<◌, ◌≤◌, Bool, true, false, ltb, eqb, cond, inl, inr, List, [], ◌∷◌, ◌++◌, length, get_or, take, drop, map, sym, refl, ap, ◌∙◌, append_assoc, arith, ◌||◌, codes, Some, None, Ok, Err, Result, position}
 use Rattle.std.specs.List.{slice_split, position_or_len, All, onto_first}
 use Rattle.std.specs.Str.{bytes_eq}
-use Rattle.std.proofs.lemmas.Bool.{cond-true, cond-false, lt-ltb, ltb-true, cases_Bool, eq-eqb}
+use Rattle.std.proofs.lemmas.Bool.{cond-true, cond-false, ltb-true, cases_Bool, eq-eqb}
 use Rattle.std.proofs.lemmas.Bool.Decides.{nat_tests}
 use Rattle.std.proofs.lemmas.List.Splits.{slice_split_first, slice_split_none, slice_split-cons_yes, slice_split-cons_no}
 use Rattle.std.proofs.lemmas.List.Elements.{All-from_get_or}
@@ -29,6 +29,7 @@ use Rattle.fs_words.specs.Lines.{is_line_feed, is_space, is_passed_over, without
 use Rattle.std.specs.Borrow.{Bor}
 use Rattle.fs_words.specs.declared.numbered.Line.{Line}
 use Rattle.fs_words.specs.code.LinesLeft.{LinesLeft, from_next, IsNext, AreOver}
+use Rattle.fs_words.specs.Headers.{is_too_long}
 use Rattle.fs_words.specs.Words.{found_bytes, hex_of}
 
 -- ---- file bytes
@@ -250,8 +251,8 @@ path_failed path.TrailingSlash read h = ap or_bad_path h
 -- ---- faults with a line
 
 -- a text that is too long is refused before its header is looked at
-pub too_long : (text : List ℕ) → 16777216 < length text → headed text ≡ Err (fault_at 1 kind.TooLarge)
-too_long text h = cond-true _ _ _ (lt-ltb _ _ h)
+pub too_long : (text : List ℕ) → is_too_long text ≡ true → headed text ≡ Err (fault_at 1 kind.TooLarge)
+too_long text h = cond-true _ _ _ h
 
 -- a fault that is exact is one of the text
 pub fails_there : {Y : Type 0} (n : ℕ) (k : FaultKind) (given : Result Y ScriptFault) → given ≡ Err (fault_at n k) → FailsThere n k given

@@ -1,4 +1,5 @@
 pub mod Lines
 pub mod Words
+pub mod Headers
 pub mod Reading
 pub mod code

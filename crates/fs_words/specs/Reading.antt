@@ -1,5 +1,5 @@
 -- What reading words and lines gives: the first step that fails is the answer.
-use Rattle.std.specs.Prelude.{ℕ, Bool, false, ◌&&◌, nat_le, nat_lt, List, [], ◌∷◌, length, Result, Ok, Err, Option, Some, None, if◌then◌else◌}
+use Rattle.std.specs.Prelude.{ℕ, Bool, false, ◌&&◌, nat_le, List, [], ◌∷◌, length, Result, Ok, Err, Option, Some, None, if◌then◌else◌}
 use Rattle.std.specs.Str.{bytes_eq}
 use Rattle.percent_encoding.specs.Percent.{percent_decode}
 use Rattle.fs_names.specs.Names.{Name, can_name}
@@ -9,7 +9,7 @@ use Rattle.fs_names.specs.Limits.{name_limit}
 use Rattle.fs_names.specs.declared.limits.Limits.{Limits}
 use Rattle.fs_words.specs.Lines.{lines_of, pieces_of, has_empty}
 use Rattle.fs_words.specs.Words.{Word, number_of, hex_of, path_of}
-use Rattle.fs_words.specs.declared.limits.TheConstants.{TEXT_LIMIT}
+use Rattle.fs_words.specs.Headers.{is_too_long}
 use Rattle.fs_words.specs.declared.fault.ScriptFault.{ScriptFault}
 use Rattle.fs_words.specs.declared.fault.FaultKind.{FaultKind}
 use Rattle.fs_words.specs.declared.fault.FaultKind.TheVariants as kind
@@ -84,9 +84,9 @@ abbrev pub first_line : List (List ℕ) → Result (List ℕ × List (List ℕ))
 first_line [] = Err (fault_at 1 kind.BadHeader)
 first_line (line ∷ more) = Ok (line, more)
 
--- the first line of a text, and those behind it; the text keeps its limit
+-- the first line of a text, and those behind it; the text keeps the limit that its first line allows
 abbrev pub headed : List ℕ → Result (List ℕ × List (List ℕ)) ScriptFault
-headed text = if nat_lt TEXT_LIMIT (length text) then Err (fault_at 1 kind.TooLarge) else first_line (lines_of text)
+headed text = if is_too_long text then Err (fault_at 1 kind.TooLarge) else first_line (lines_of text)
 
 -- the lines of a text behind its first one, which has to be this header
 abbrev pub behind_header : List ℕ → List ℕ → Result (List (List ℕ)) ScriptFault

@@ -5,7 +5,7 @@ ghost use Rattle.fs_words.specs.Reading.{headed, behind_header};
 ghost use Rattle.fs_words.specs.code.LinesLeft.{IsNext, AreOver};
 
 use crate::fault::{FaultKind, ScriptFault};
-use crate::limits::TEXT_LIMIT;
+use crate::headers::is_too_long;
 use crate::lines::{cut_line, is_passed_over};
 use std::marker::Model;
 
@@ -38,14 +38,14 @@ impl<'a> Model for Lines<'a> {
 }
 
 impl<'a> Lines<'a> {
-    /// The first line, and those behind it. A text above the limit is `TooLarge`, and one without lines has a
+    /// The first line, and those behind it. A text that is too long is `TooLarge`, and one without lines has a
     /// `BadHeader`, both in line 1.
     pub fn behind_first(text: &'a [u8]) -> Result<(&'a [u8], Lines<'a>), ScriptFault>
         ensures { MatchResult result
             (λ both. (both.1.number ≡ 2) × (headed text.now ≡ Ok (both.0.now, both.1.lines)))
             (λ fault. headed text.now ≡ Err fault) }
     {
-        if text.len() > TEXT_LIMIT {
+        if is_too_long(text) {
             return Err(ScriptFault {
                 line: 1,
                 kind: FaultKind::TooLarge,
@@ -60,7 +60,7 @@ impl<'a> Lines<'a> {
         }
     }
 
-    /// The lines behind the first one, which has to be this header. A text above the limit is `TooLarge`, and one that
+    /// The lines behind the first one, which has to be this header. A text that is too long is `TooLarge`, and one that
     /// begins otherwise has a `BadHeader`, both in line 1.
     pub fn behind_header(text: &'a [u8], header: &[u8]) -> Result<Lines<'a>, ScriptFault>
         ensures { MatchResult result

@@ -178,15 +178,16 @@ pub fn path_with<'a>(
     Ok(path)
 }
 
-fn read_name(limits: Limits, bytes: &[u8]) -> Result<Name, FaultKind>
-    ensures { result ≡ read_name limits bytes.now }
+fn read_name(alloc: Global, limits: Limits, bytes: &[u8]) -> Result<Name, FaultKind>
+    ensures { Gives (λ name. name) result (read_name limits bytes.now) }
 {
     if bytes.len() > limits.name() {
         return Err(FaultKind::BadReply);
     }
-    match Name::read(bytes) {
-        Some(name) => Ok(name),
-        None => Err(FaultKind::BadReply),
+    match Name::read_long(alloc, bytes) {
+        Ok(Some(name)) => Ok(name),
+        Ok(None) => Err(FaultKind::BadReply),
+        Err(_) => Err(FaultKind::OutOfMemory),
     }
 }
 
@@ -195,10 +196,10 @@ pub fn name_at(alloc: Global, limits: Limits, word: &[u8]) -> Result<Name, Fault
     ensures { Gives (λ name. name) result (name_at limits word.now) }
 {
     if is_unescaped(word) {
-        return read_name(limits, word);
+        return read_name(alloc, limits, word);
     }
     let Ok(bytes) = percent_decode(word).into_cow(alloc) else {
         return Err(FaultKind::OutOfMemory);
     };
-    read_name(limits, &bytes)
+    read_name(alloc, limits, &bytes)
 }

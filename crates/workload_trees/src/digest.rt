@@ -1,6 +1,6 @@
 //! A number that stands for all answers of a job.
 
-use fs_calls::Reply;
+use fs_calls::{NameList, Reply};
 use fs_names::Kind;
 
 /// A digest of numbers and bytes, in their order.
@@ -38,6 +38,14 @@ impl Digest {
         }
     }
 
+    /// Names more.
+    fn add_names(&mut self, names: &NameList) {
+        let mut left = names.names();
+        'names: while let Some(name) = left.next() {
+            self.add_bytes(name);
+        }
+    }
+
     /// A reply more.
     pub fn add_reply(&mut self, reply: &Reply) {
         match reply {
@@ -48,9 +56,7 @@ impl Digest {
             }
             Reply::Names(names) => {
                 self.add(4);
-                for name in names.as_slice() {
-                    self.add_bytes(name.bytes());
-                }
+                self.add_names(names);
             }
             Reply::Bytes(bytes) => {
                 self.add(5);

@@ -141,7 +141,7 @@ def explore(
     *,
     before: Iterable[AnyCall] = (),
     limit: Optional[int] = None,
-    limits: Limits = Limits.V2,
+    limits: Limits = Limits.V3,
 ) -> int:
     """Makes the calls of threads in interleavings that are drawn, and looks behind each run; answers how many there were.
 

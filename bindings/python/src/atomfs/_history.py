@@ -198,7 +198,7 @@ class History:
         if start is not None and limits not in (None, start.limits):
             raise ValueError(f"the start tree is by {start.limits}, and not by {limits}")
         #: The limits of names and files.
-        self.limits: Limits = start.limits if start is not None else Limits.V2 if limits is None else Limits(limits)
+        self.limits: Limits = start.limits if start is not None else Limits.V3 if limits is None else Limits(limits)
         self._opening = _opening(start, self.limits)
         self._errors: Errors = dict(errors or {})
         # A call can begin while another one of this thread ends.

@@ -29,7 +29,7 @@ class _Set(NamedTuple):
 _SETS = {
     1: _Set(64, 32, 256, 65_536, 65_536, 1_048_576, False),
     2: _Set(64, 64, 256, 1_048_576, 1_048_576, 1_048_576, False),
-    3: _Set(2_048, 64, 1_048_576, 2_147_483_648, 1_048_576, 16_777_216, True),
+    3: _Set(2_048, 255, 1_048_576, 2_147_483_648, 1_048_576, 16_777_216, True),
 }
 
 
@@ -77,7 +77,7 @@ class Limits(enum.Enum):
 
 
 #: The most nodes of a tree by the limits that it has where none are given, and the most names of its paths.
-NODE_LIMIT, PATH_LIMIT = Limits.V2.nodes, Limits.V2.path_names
+NODE_LIMIT, PATH_LIMIT = Limits.V3.nodes, Limits.V3.path_names
 
 
 def _word(name: str) -> str:
@@ -241,7 +241,7 @@ _ARGUMENTS: Dict[str, List[Any]] = {
     **dict.fromkeys(("rename", "exchange"), [*_ON, *_GIVEN, _AT]),
     "stat": [*_ON, _AT, _AT],
     "readdir": [*_ON, *_TOLD, _AT],
-    "list": [*_ON, *_GIVEN, _NUMBER, *_TOLD, _AT],
+    "list": [*_ON, *_GIVEN, ctypes.c_uint32, *_TOLD, _AT],
     "read": [*_ON, _NUMBER, *_TOLD, _AT],
     "write": [*_ON, _NUMBER, *_GIVEN, _AT, _AT],
     "truncate": [*_ON, _NUMBER, _AT],

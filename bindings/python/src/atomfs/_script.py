@@ -9,15 +9,15 @@ from urllib.parse import unquote_to_bytes
 
 from ._errors import AnyPath, encoded, path_error
 from ._library import Call, Limits, Request, library
-from ._values import NAME, bytes_of, number_of
+from ._values import NAME, bytes_of, names_asked, number_of
 
 if TYPE_CHECKING:
     from ._tree import Tree
 
 # A call by its name and what it takes, or by its line in a script.
 AnyCall = Union[str, Tuple[Any, ...]]
-# How many calls, and threads, a script has at most.
-_CALLS, _THREADS = 65_536, 256
+# How many calls a script has at most, by its limits, and how many threads.
+_CALLS, _THREADS = {Limits.V1: 65_536, Limits.V2: 65_536, Limits.V3: 4_194_304}, 256
 # What each call takes behind its name.
 _TAKES: Dict[Call, Tuple[str, ...]] = {
     **{call: ("path",) for call in (Call.MKDIR, Call.MKNOD, Call.UNLINK, Call.RMDIR, Call.STAT, Call.READDIR)},
@@ -55,7 +55,7 @@ def planned(given: AnyCall, limits: Limits) -> Planned:
         elif what == "bytes":
             data = bytes_of(value)
         else:
-            numbers[what] = number_of(value, what)
+            numbers[what] = names_asked(value) if call is Call.LIST else number_of(value, what)
     raw = [encoded(path) for path in paths]
     if any(library().check_path(one, len(one), limits.value) for one in raw):
         raise path_error(library(), limits, *paths)
@@ -97,8 +97,8 @@ def planned_threads(calls: Mapping[str, Iterable[AnyCall]], limits: Limits) -> D
         if isinstance(given, str):
             raise TypeError(f"the calls of thread {name} are a list, and this is str")
         made[name] = [planned(call, limits) for call in given]
-    if not 0 < len(made) <= _THREADS or sum(map(len, made.values())) > _CALLS:
-        raise ValueError(f"1 to {_THREADS} threads make at most {_CALLS:,} calls")
+    if not 0 < len(made) <= _THREADS or sum(map(len, made.values())) > _CALLS[limits]:
+        raise ValueError(f"1 to {_THREADS} threads make at most {_CALLS[limits]:,} calls")
     return made
 
 

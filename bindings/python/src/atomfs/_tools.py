@@ -36,7 +36,7 @@ def _told(name: str, text: bytes, *given: int) -> str:
 def _refusal(status: int, about: int) -> Exception:
     """The exception of a status that is not OK."""
     if status == Status.TOO_LARGE and not about:
-        return Error(status, "the run takes more events than a script gives, or the script would have more than 16,777,216 bytes")
+        return Error(status, "the run takes more events than a script gives, or the script would have more bytes than a text has")
     return error_of(library(), status, about)
 
 

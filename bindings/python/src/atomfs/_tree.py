@@ -20,7 +20,7 @@ from ._load import Snapshot
 from ._path import Path, class_of
 from ._texts import ROOM, Room, told_text
 from ._tools import Picture
-from ._values import NAME, Data, bytes_of, number_of
+from ._values import NAME, Data, bytes_of, names_asked, number_of
 
 _Self = TypeVar("_Self", bound="Tree")
 Reply = Union[None, "Stat", List[str], bytes, int]
@@ -98,7 +98,7 @@ class Tree:
     """
 
     def __init__(
-        self, limit: Optional[int] = None, *, limits: Limits = Limits.V2, room: int = ROOM, journal: Journal = ALL
+        self, limit: Optional[int] = None, *, limits: Limits = Limits.V3, room: int = ROOM, journal: Journal = ALL
     ) -> None:
         self.lock = threading.RLock()
         self._handle = Handle()
@@ -177,7 +177,7 @@ class Tree:
     # ---- In and out: a new tree begins its journal behind what it is filled with, and is closed where that fails
 
     @classmethod
-    def from_dict(cls: Type[_Self], files: Mapping[str, Any], limit: Optional[int] = None, *, limits: Limits = Limits.V2) -> _Self:
+    def from_dict(cls: Type[_Self], files: Mapping[str, Any], limit: Optional[int] = None, *, limits: Limits = Limits.V3) -> _Self:
         """A tree of these files: by paths, with or without the first slash, `bytes` or `str`, as UTF-8.
 
         None is an empty directory, and a dictionary what is in one.
@@ -193,7 +193,7 @@ class Tree:
         on_error: _load.OnError = "raise",
         limit: Optional[int] = None,
         *,
-        limits: Limits = Limits.V2,
+        limits: Limits = Limits.V3,
     ) -> _Self:
         """A tree of what is below a directory of the disk. A link to a file is that file; one to a directory is an error.
 
@@ -206,7 +206,7 @@ class Tree:
 
     @classmethod
     def from_zip(
-        cls: Type[_Self], file: Union[StrPath, IO[bytes]], limit: Optional[int] = None, *, limits: Limits = Limits.V2
+        cls: Type[_Self], file: Union[StrPath, IO[bytes]], limit: Optional[int] = None, *, limits: Limits = Limits.V3
     ) -> _Self:
         """A tree of what is in a zip, given by its path or as a file object. A name that is no path is refused."""
         with _load.into(cls(limit, limits=limits)) as tree:
@@ -214,7 +214,7 @@ class Tree:
         return tree
 
     @classmethod
-    def from_text(cls: Type[_Self], text: str, limit: Optional[int] = None, *, limits: Limits = Limits.V2) -> _Self:
+    def from_text(cls: Type[_Self], text: str, limit: Optional[int] = None, *, limits: Limits = Limits.V3) -> _Self:
         """A tree by its text, as `tree()` tells it. A line that is none is a `ValueError` with its number."""
         return _load.of_snapshot(cls, limit, Snapshot(limits, text))
 
@@ -334,7 +334,7 @@ class Tree:
     def list(self, path: AnyPath, after: AnyPath = "/", count: int = LISTED) -> Union[List[str], List[bytes]]:
         """The names of a directory above the last name of the path `after`, or from the first on, in byte order: at most `count`, and at
         most 256. A tree by `Limits.V3` alone has it."""
-        raw, count = encoded(after), number_of(count, "count")
+        raw, count = encoded(after), names_asked(count)
         return self._names_by(self._library.list, Call.LIST, path, raw, len(raw), count)
 
     @overload
@@ -615,7 +615,7 @@ class Tree:
         """The picture of the journal so far, as `atomfs.draw` makes it; notebooks show one of the last 100 calls.
 
         `around` is the number of a call: then only this one is drawn, and those that overlap it. With `last` only the last calls are, at
-        most so many, which takes the calls before to be made again on another tree. A text of more than 16 MiB is an `Error`.
+        most so many, which takes the calls before to be made again on another tree. A text of more than 16 MiB, by `Limits.V3` 1 GiB, is an `Error`.
         """
         text = self.journal()
         if last is not None:
@@ -827,7 +827,7 @@ class Begin:
 
     def list(self, path: AnyPath, after: AnyPath = "/", count: int = LISTED) -> int:
         """Tells names of a directory above the last one of `after`, at most `count`."""
-        return self._seat._begin(Call.LIST, path, after, size=number_of(count, "count"))
+        return self._seat._begin(Call.LIST, path, after, size=names_asked(count))
 
     def read(self, path: AnyPath, offset: int, count: int) -> int:
         """Reads at most `count` bytes from an offset on."""

@@ -21,6 +21,11 @@ def number_of(value: int, what: str) -> int:
     return min(number, 2**64 - 1)
 
 
+def names_asked(count: int) -> int:
+    """How many names `list` is asked for, as the library takes it."""
+    return min(number_of(count, "count"), 2**32 - 1)
+
+
 def room_of(buffer: Any) -> memoryview:
     """The bytes of what is to be filled."""
     room = memoryview(buffer).cast("B")

@@ -81,7 +81,7 @@ class AtomFS(FS):
     }
 
     def __init__(
-        self, tree: Optional[Tree] = None, limit: Optional[int] = None, limits: Limits = Limits.V2, journal: Journal = OF_FILE_SYSTEMS
+        self, tree: Optional[Tree] = None, limit: Optional[int] = None, limits: Limits = Limits.V3, journal: Journal = OF_FILE_SYSTEMS
     ) -> None:
         super().__init__()
         # Where no tree can be made there is none to close.

@@ -42,7 +42,7 @@ _LOADED = pytest.StashKey[Dict[Tuple[str, Optional[int], Limits], Snapshot]]()
 # How many calls a picture has at most: of more the program leaves out most words.
 _PICTURED = 2_000
 _MARK = (
-    "atomfs(load=None, limit=None, limits=Limits.V2, at='/sandbox'): atom_tree begins with a directory, a zip or a dictionary, "
+    "atomfs(load=None, limit=None, limits=Limits.V3, at='/sandbox'): atom_tree begins with a directory, a zip or a dictionary, "
     "by these limits, and by atom_patch it stands at this directory of the disk"
 )
 
@@ -54,7 +54,7 @@ def pytest_configure(config: pytest.Config) -> None:
 
 
 def _words(
-    load: Any = None, limit: Optional[int] = None, limits: Limits = Limits.V2, at: str = "/sandbox"
+    load: Any = None, limit: Optional[int] = None, limits: Limits = Limits.V3, at: str = "/sandbox"
 ) -> Tuple[Any, Optional[int], Limits, str]:
     """The words of the mark."""
     return load, limit, limits, at

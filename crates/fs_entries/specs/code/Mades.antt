@@ -4,8 +4,8 @@ use Rattle.fs_timeline.specs.declared.entry.Entry.{Entry}
 use Rattle.fs_io.specs.declared.shell.Made.{Made}
 use Rattle.fs_sched.specs.declared.schedule.Schedule.{Schedule}
 use Rattle.fs_verdict.specs.declared.fault.RunFault.{RunFault}
-use Rattle.fs_replay.specs.Replays.{is_journal, IsUntold}
-use Rattle.fs_entries.specs.Entries.{IsLine, IsTraceAs, IsTraceOfInput}
+use Rattle.fs_replay.specs.Replays.{IsUntold}
+use Rattle.fs_entries.specs.Entries.{IsLine, IsTraceAs}
 use Rattle.fs_entries.specs.declared.running.Traced.{Traced}
 
 -- the line of an entry is added to a text

@@ -1,7 +1,9 @@
 -- Entries whose keys rise, and what is found among them.
-use Rattle.std.specs.Prelude.{◌≡◌, ℕ, Bool, true, false, ◌<◌, ◌≤◌, List, [], not, is_some, ◌-◌, ◌+◌, ◌++◌, length, take, drop, slice_index_or, slice_set, insert, Option, Some, None, Result, Ok, Err}
+use Rattle.std.specs.Prelude.{◌≡◌, ℕ, Bool, true, false, ◌<◌, ◌≤◌, List, [], not, is_some, ◌-◌, ◌+◌, ◌++◌, length, map, take, drop, slice_index_or, slice_set, insert, Option, Some, None, Result, Ok, Err}
+use Rattle.std.specs.Borrow.{Bor}
 use Rattle.std.specs.FinMap.{find, put}
 use Rattle.std.specs.FinMap.Entries.{where_key}
+use Rattle.fs_names.specs.Names.{Name}
 use Rattle.fs_names.specs.Keys.{Key, key_cmp, same_key, after_prefix}
 use Rattle.fs_names.specs.Failures.{or_else}
 use Rattle.fs_names.specs.declared.kind.Kind.{Kind}
@@ -11,6 +13,10 @@ use Rattle.fs_calls.specs.Sights.{tree_shapes, shape_of, resolve, resolve_next}
 use Rattle.fs_calls.specs.declared.errno.Errno.{Errno}
 use Rattle.fs_calls.specs.declared.reply.Reply.{Reply}
 use Rattle.fs_calls.specs.declared.reply.Reply.TheVariants as answer
+
+-- names that are lent, as names
+abbrev pub lent_names : List (Bor Name) → List Name
+lent_names names = map (λ n. n.now) names
 
 -- the kind of a node
 abbrev pub kind_of : Node → Kind

@@ -100,9 +100,9 @@ followed (Some next) to ps = edited next (with_prev to) ps
 abbrev pub put_between : ℕ → ℕ → Name → Option ℕ → Option ℕ → List Place → List Place
 put_between dir n name prev next ps = edited n (entered (Some dir) name prev next) (followed next (Some n) (led dir prev (Some n) (edited dir (λ p. with_entries (p.entries + 1) p) ps)))
 
--- a node leaves its place between two siblings
-abbrev pub taken_out : ℕ → ℕ → Option ℕ → Option ℕ → List Place → List Place
-taken_out dir n prev next ps = edited n (λ p. entered None p.name None None p) (followed next prev (led dir prev next (edited dir (λ p. with_entries (p.entries - 1) p) ps)))
+-- a node leaves its place between two siblings, with another name there
+abbrev pub taken_out : ℕ → ℕ → Name → Option ℕ → Option ℕ → List Place → List Place
+taken_out dir n blank prev next ps = edited n (entered None blank None None) (followed next prev (led dir prev next (edited dir (λ p. with_entries (p.entries - 1) p) ps)))
 
 -- an entry of a directory
 abbrev pub IsEntry : Graph → ℕ → ℕ → Type 0

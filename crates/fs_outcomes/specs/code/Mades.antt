@@ -1,11 +1,11 @@
 -- What is made of the text of a script, before it is written.
-use Rattle.std.specs.Prelude.{ℕ, ◌≡◌, ◌≤◌, List, length, map, Result, IfOk, OnOk, IfErr, IsPermutation}
+use Rattle.std.specs.Prelude.{ℕ, ◌≡◌, false, List, length, map, Result, IfOk, OnOk, IfErr, IsPermutation}
 use Rattle.std.specs.List.{sum_by}
 use Rattle.fs_io.specs.declared.shell.Made.{Made}
 use Rattle.fs_script.specs.Script.{script_of}
 use Rattle.fs_script.specs.declared.script.Script.{Script}
 use Rattle.fs_sched.specs.Devices.{IsFaultOf}
-use Rattle.fs_words.specs.declared.limits.TheConstants.{TEXT_LIMIT}
+use Rattle.fs_words.specs.Headers.{is_too_long}
 use Rattle.fs_verdict.specs.declared.fault.RunFault.{RunFault}
 use Rattle.fs_verdict.specs.declared.fault.RunFault.TheVariants.{Input, Read, Write, OutOfMemory, Full, UnderWay}
 use Rattle.fs_outcomes.specs.Added.{AreAdded}
@@ -68,5 +68,5 @@ IsBadLine (UnderWay c) = ⊥
 -- the lines that add up those of a text; or why there are none
 pub record MakesSum (form : Form) (input : List ℕ) (result : Result (Made (Unit {0})) RunFault) : Type 0 where
   pub ok : IfOk result (λ made. AreAdded form input made.text.items)
-  pub short : OnOk result (length input ≤ TEXT_LIMIT)
+  pub short : OnOk result (is_too_long input ≡ false)
   pub fault : IfErr result IsBadLine

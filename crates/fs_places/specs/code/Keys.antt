@@ -7,8 +7,8 @@ use Rattle.fs_plain.specs.declared.node.Node.{Node}
 use Rattle.fs_plain.specs.Stores.{link_of}
 use Rattle.fs_places.specs.declared.key.Key.{Key}
 use Rattle.fs_places.specs.declared.key.TheConstants.{SPREAD, MIX, HASH}
-use Rattle.fs_places.specs.declared.label.TheConstants.{WIDTH}
-use Rattle.fs_places.specs.code.Heads.{number_with}
+use Rattle.fs_names.specs.declared.order.TheConstants.{WIDTH}
+use Rattle.fs_names.specs.Heads.{number_with}
 
 -- the two halves of a product, one over the other
 unfoldable pub folded : ℕ → ℕ → ℕ

@@ -11,12 +11,6 @@ lesser None next = next
 lesser (Some name) None = Some name
 lesser (Some name) (Some next) = if is_lt (name_cmp next name) then Some next else Some name
 
--- the same of an entry and of a name with its node
-abbrev pub lesser_entry : Option (Name × ℕ) → Option Name → ℕ → Option (Name × ℕ)
-lesser_entry best None n = best
-lesser_entry None (Some next) n = Some (next, n)
-lesser_entry (Some entry) (Some next) n = if is_lt (name_cmp next entry.0) then Some (next, n) else Some entry
-
 -- the name of an entry, where it is one of this directory and above the given name
 abbrev pub name_above : Option Link → ℕ → Option Name → Option Name
 name_above None dir low = None

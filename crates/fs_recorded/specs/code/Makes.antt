@@ -1,5 +1,5 @@
 -- What is made of the text of a history, before it is written.
-use Rattle.std.specs.Prelude.{◌≡◌, ◌⊎◌, ◌<◌, ℕ, Bool, List, [], length, Option, Result, Ok, Err, IfOk, IfErr}
+use Rattle.std.specs.Prelude.{◌≡◌, ◌⊎◌, ℕ, Bool, true, List, [], Option, Result, Ok, Err, IfOk, IfErr}
 use Rattle.fs_calls.specs.Starts.{Start}
 use Rattle.fs_histories.specs.declared.heard.Heard.{Heard}
 use Rattle.fs_linearize.specs.declared.linearizing.Found.{Found}
@@ -8,6 +8,7 @@ use Rattle.fs_words.specs.declared.fault.ScriptFault.{ScriptFault}
 use Rattle.fs_verdict.specs.Devices.{IsFaultOf, WritesBeginning}
 use Rattle.fs_verdict.specs.declared.fault.RunFault.{RunFault}
 use Rattle.fs_verdict.specs.declared.fault.RunFault.TheVariants.{Input, OutOfMemory}
+use Rattle.fs_words.specs.Headers.{is_too_long}
 use Rattle.fs_words.specs.Reading.{fault_at}
 use Rattle.fs_words.specs.declared.fault.FaultKind.TheVariants.{TooLarge}
 use Rattle.fs_recorded.specs.Answers.{outcome_of}
@@ -17,7 +18,7 @@ use Rattle.fs_recorded.specs.declared.answer.Outcome.TheVariants.{Lawful}
 
 -- the fault of a text that is too long, or out of memory
 abbrev pub IsTooLarge : List ℕ → RunFault → Type 0
-IsTooLarge text fault = (fault ≡ OutOfMemory) ⊎ ((16777216 < length text) × (fault ≡ Input (fault_at 1 TooLarge)))
+IsTooLarge text fault = (fault ≡ OutOfMemory) ⊎ ((is_too_long text ≡ true) × (fault ≡ Input (fault_at 1 TooLarge)))
 
 -- what is answered of what is found
 pub record IsAnswered (f : Found) (told : Linearized) : Type 0 where

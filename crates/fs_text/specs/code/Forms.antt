@@ -8,7 +8,7 @@ use Rattle.fs_text.specs.declared.calls.Form.{Form}
 use Rattle.fs_text.specs.declared.calls.Form.TheVariants as form
 use Rattle.fs_text.specs.declared.calls.OnPath.{OnPath}
 use Rattle.fs_text.specs.declared.calls.OnPath.TheVariants as on
-use Rattle.fs_text.specs.Calls.{CallForm, one_path, two_paths, paths_and_number, a_number, two_numbers, number_and_bytes}
+use Rattle.fs_text.specs.Calls.{CallForm, one_path, two_paths, paths_and_count, a_number, two_numbers, number_and_bytes}
 
 -- the call on a path
 abbrev pub call_on : OnPath → Key → Call
@@ -28,7 +28,7 @@ call_on_both pairs.Exchange = Exchange
 abbrev pub form_meant : Form → CallForm
 form_meant (form.OnPath call) = one_path (call_on call)
 form_meant (form.OnBoth call) = two_paths (call_on_both call)
-form_meant form.List = paths_and_number ListAfter
+form_meant form.List = paths_and_count ListAfter
 form_meant form.Truncate = a_number Truncate
 form_meant form.Read = two_numbers Read
 form_meant form.Write = number_and_bytes Write

@@ -1,10 +1,10 @@
 -- What is made of the text of an input, before it is written.
-use Rattle.std.specs.Prelude.{ℕ, ◌<◌, Bool, List, length, Result, IfOk, IfErr}
+use Rattle.std.specs.Prelude.{ℕ, ◌≡◌, Bool, true, List, Result, IfOk, IfErr}
 use Rattle.fs_io.specs.declared.shell.Made.{Made}
 use Rattle.fs_verdict.specs.declared.fault.RunFault.{RunFault}
 use Rattle.fs_verdict.specs.declared.fault.RunFault.TheVariants.{OutOfMemory}
 use Rattle.fs_witness.specs.declared.moments.Moment.{Moment}
-use Rattle.fs_words.specs.declared.limits.TheConstants.{TEXT_LIMIT}
+use Rattle.fs_words.specs.Headers.{is_too_long}
 use Rattle.fs_sched.specs.declared.running.RunEnd.{RunEnd}
 use Rattle.fs_sched.specs.declared.schedule.Schedule.{Schedule}
 use Rattle.fs_sched.specs.Runs.{IsFaultOfRun}
@@ -29,4 +29,4 @@ abbrev pub IsNotHandedOut : List ℕ → List (List ℕ) → List Moment → Sch
 IsNotHandedOut input names ms (Run OutOfMemory) = Unit {0}
 IsNotHandedOut input names ms (Run fault) = ⊥
 IsNotHandedOut input names ms TooManyEvents = ⊥
-IsNotHandedOut input names ms TooLong = (text : List ℕ) × IsScheduleText input names ms text × (TEXT_LIMIT < length text)
+IsNotHandedOut input names ms TooLong = (text : List ℕ) × IsScheduleText input names ms text × (is_too_long text ≡ true)

@@ -18,10 +18,10 @@ pub returns-in-Ok-clause-ran : goal.returns-in-Ok-clause-ran
 returns-in-Ok-clause-ran g c =
     let told = c.in-Ok.ensures.made in
     let picture = subst (λ well. IsPictureOf c.args.schedule told.0.items well told.1.text.items) (sym told.5) told.4.1.picture in
-    (told.1.text.items, known (λ input. IsPictureOf c.args.schedule input c.in-Ok.well told.1.text.items) _ _ _ refl (picture_short c.args.schedule _ _ _ _ refl picture) told.2 picture, told.6)
+    (told.1.text.items, known (λ input. IsPictureOf c.args.schedule input c.in-Ok.well told.1.text.items) _ _ _ refl (picture_short c.args.schedule told.0.items _ _ _ refl picture) told.2 picture, told.6)
 
 pub returns-in-Ok-clause-end : goal.returns-in-Ok-clause-end
-returns-in-Ok-clause-end g c = let told = c.in-Ok.ensures.made in told.3 (picture_short c.args.schedule _ _ _ _ refl told.4.1.picture)
+returns-in-Ok-clause-end g c = let told = c.in-Ok.ensures.made in told.3 (picture_short c.args.schedule told.0.items _ _ _ refl told.4.1.picture)
 
 pub returns-in-Err-clause-input : goal.returns-in-Err-clause-input
 returns-in-Err-clause-input g c f e =
@@ -50,4 +50,4 @@ returns-in-Err-clause-beginning g c e =
     subst (IsFaultOfPicture c.args.schedule c.args.call told.0.items) wrong told.2.1.fault in
     let told = c.in-Err.ensures.beginning (ap Err (unwritten gives _ _ (Run run.Write) c.between.ensures (cc) (λ z. cc) (λ z. cc) never)) in
     let picture = told.3.1.picture in
-    (told.1.end, told.1.text.items, known (λ input. IsPictureOf c.args.schedule input told.1.end told.1.text.items) _ _ _ refl (picture_short c.args.schedule _ _ _ _ refl picture) told.2 picture, told.4)
+    (told.1.end, told.1.text.items, known (λ input. IsPictureOf c.args.schedule input told.1.end told.1.text.items) _ _ _ refl (picture_short c.args.schedule told.0.items _ _ _ refl picture) told.2 picture, told.4)

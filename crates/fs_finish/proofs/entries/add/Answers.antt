@@ -3,6 +3,6 @@ use Rattle.fs_nodes.specs.Seen.{seen}
 use Rattle.fs_plain.proofs.RealLemmas.{bare_reaches}
 use Rattle.fs_finish.proofs.entries.add.Goals as goal
 
-pub link-requires-clause-apart : goal.link-requires-clause-apart
-link-requires-clause-apart c = λ way.
+pub enter-requires-clause-apart : goal.enter-requires-clause-apart
+enter-requires-clause-apart c = λ way.
     c.requires.other (c.in-Some.is ∙ ap (λ (n : ℕ). Some n) (bare_reaches (seen c.args.store.now) c.requires.real c.in-Some.node c.args.dir (c.requires.spare c.in-Some.node c.in-Some.is).empty way))

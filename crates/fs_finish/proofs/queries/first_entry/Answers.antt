@@ -5,7 +5,7 @@ use Rattle.fs_finish.proofs.ListingLemmas.{above_some, above_none}
 use Rattle.fs_finish.proofs.queries.first_entry.Goals as goal
 
 pub returns-in-Some-clause-above : goal.returns-in-Some-clause-above
-returns-in-Some-clause-above c = above_some (option_copied c.args.low) (names_of (shape c.args.store.now c.args.dir)) c.in-Some.name (c.next_name.ensures.real.ascend c.args.dir) c.in-Some.ensures.rest c.bytes.ensures.named
+returns-in-Some-clause-above c = above_some (option_copied c.args.low) (names_of (shape c.args.store.now c.args.dir)) c.in-Some.entry.0.now (c.next_name.ensures.real.ascend c.args.dir) c.in-Some.ensures.rest c.bytes.ensures.named
 
 pub returns-in-None-clause-above : goal.returns-in-None-clause-above
 returns-in-None-clause-above c = above_none (option_copied c.args.low) (names_of (shape c.args.store.now c.args.dir)) c.in-None.ensures.rest

@@ -1,14 +1,10 @@
-use Rattle.std.proofs.Common.{◌∙◌}
+use Rattle.std.proofs.Common.{ap, arith}
 use Rattle.std.specs.Option.{option_copied}
-use Rattle.fs_nodes.specs.Stores.{graph_of}
-use Rattle.fs_finish.proofs.ListingLemmas.{listing_first, listing_pushed}
+use Rattle.fs_nodes.specs.Stores.{graph_of, lent}
+use Rattle.fs_finish.proofs.ListingLemmas.{listing_pushed}
 use Rattle.fs_finish.proofs.queries.put_names.Goals as goal
-
-pub loop-next-init : goal.loop-next-init
-loop-next-init c =
-    listing_first (graph_of c.args.store.now) c.args.dir (option_copied c.args.low) c.args.most c.args.names.now.cap c.args.names.now.items c.first_entry-next.result c.requires.empty c.requires.room c.first_entry-next.ensures.entry c.first_entry-next.ensures.rest
 
 pub loop-next-preserved : goal.loop-next-preserved
 loop-next-preserved c =
-    listing_pushed (graph_of c.args.store.now) c.args.dir (option_copied c.args.low) c.args.most _ _ _ _ _ _ c.in-Some.name c.in-Some.node c.loop-next.invariant c.in-Some.is (λ e. c.if-len-most.false (c.len.ensures ∙ c.loop-next.names.ok.0 ∙ e)) c.push_reserved.ensures.items c.push_reserved.ensures.capacity
-    c.next_entry_after-next.ensures.entry c.next_entry_after-next.ensures.rest
+    listing_pushed (graph_of c.args.store.now) c.args.dir (option_copied c.args.low) c.args.most c.loop-next.names c.put_name.new.names c.loop-next.left _ (lent c.loop-next.next) (lent c.next_entry_after-next.result) c.in-Some.entry.0.now c.in-Some.entry.1 c.loop-next.invariant (ap lent c.in-Some.is)
+    (omega (arith, c.if-left-eq0.false)) c.put_name.ensures.names c.put_name.ensures.room c.next_entry_after-next.ensures.entry c.next_entry_after-next.ensures.rest

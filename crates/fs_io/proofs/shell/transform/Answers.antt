@@ -1,4 +1,4 @@
-use Rattle.std.proofs.Common.{◌≡◌, Err, rules, subst, arith}
+use Rattle.std.proofs.Common.{◌≡◌, Err, rules, subst}
 use Rattle.std.specs.Io.KnownBytes.{Appends}
 use Rattle.fs_io.specs.Devices.{WritesBeginning}
 use Rattle.fs_io.proofs.shell.transform.Goals as goal
@@ -13,7 +13,7 @@ returns-in-Ok-write_text-clause-made g c = (
   c.in_ok-text.text,
   c.in-Ok.made,
   c.in_ok-text.ensures.same,
-  λ short. c.in_ok-text.ensures.end (omega (arith, short)),
+  c.in_ok-text.ensures.end,
   c.in-Ok.ensures,
   search rules,
   subst (Appends _ _) c.deref.ensures.value c.in-Ok-write_text.ensures.ok,

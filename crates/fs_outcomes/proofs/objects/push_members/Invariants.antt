@@ -1,4 +1,4 @@
-use Rattle.std.proofs.Common.{◌≡◌, ◌++◌, ◌==◌, true, drop}
+use Rattle.std.proofs.Common.{◌≡◌, ◌++◌, true, drop}
 use Rattle.fs_outcomes.specs.Lines.{members_from}
 use Rattle.fs_outcomes.proofs.objects.push_members.Given as goal
 

@@ -1,5 +1,5 @@
 use Rattle.std.proofs.Common.{ℕ, Bool, cond, sym, ap, ◌∙◌}
-use Rattle.fs_places.specs.code.Heads.{number_with}
+use Rattle.fs_names.specs.Heads.{number_with}
 use Rattle.fs_places.specs.code.Keys.{hashed, word_of}
 use Rattle.fs_places.proofs.key.word_of.Goals as goal
 

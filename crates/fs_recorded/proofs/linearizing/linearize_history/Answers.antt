@@ -19,7 +19,7 @@ returns-in-Ok-clause-found g c =
     known _ _ _ (IsTold _ _ c.in-Ok.told _ _) refl told.2 (told_made _ _ c.in-Ok.told _ _ _ found.0 found.1 told.1 found.2 found.3 told.5 told.6)
 
 pub returns-in-Ok-clause-end : goal.returns-in-Ok-clause-end
-returns-in-Ok-clause-end g c = let told = c.in-Ok.ensures.made in let found = told.4.1.ok in told.3 (short history_of no_history _ _ found.0 refl found.2)
+returns-in-Ok-clause-end g c = let told = c.in-Ok.ensures.made in let found = told.4.1.ok in told.3 (short history_of no_history told.0.items _ found.0 refl found.2)
 
 pub returns-in-Err-clause-input : goal.returns-in-Err-clause-input
 returns-in-Err-clause-input g c f e =

@@ -18,7 +18,7 @@ returns-in-Ok-clause-found g c =
     known_by histories_of refuses_many _ _ _ (IsToldOf _ c.in-Ok.told _ _) refl told.2 (told_of _ c.in-Ok.told _ _ _ told.1 told.4.1.ok told.5 told.6)
 
 pub returns-in-Ok-clause-end : goal.returns-in-Ok-clause-end
-returns-in-Ok-clause-end g c = let told = c.in-Ok.ensures.made in told.3 (short histories_of refuses_many _ _ told.4.1.ok.histories refl told.4.1.ok.read)
+returns-in-Ok-clause-end g c = let told = c.in-Ok.ensures.made in told.3 (short histories_of refuses_many told.0.items _ told.4.1.ok.histories refl told.4.1.ok.read)
 
 pub returns-in-Err-clause-input : goal.returns-in-Err-clause-input
 returns-in-Err-clause-input g c f e =

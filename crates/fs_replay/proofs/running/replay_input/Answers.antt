@@ -17,10 +17,10 @@ pub returns-in-Ok-clause-answer : goal.returns-in-Ok-clause-answer
 returns-in-Ok-clause-answer g c =
     let told = c.in-Ok.ensures.made in
     let replay = subst (λ well. IsReplayOf c.args.schedule told.0.items c.args.question.now well told.1.text.items) (sym (ap (λ r. r.well) told.5)) told.4.1.answer in
-    (told.1.text.items, known (λ input. IsReplayOf c.args.schedule input c.args.question.now c.in-Ok.replayed.well told.1.text.items) _ _ _ refl (replay_short c.args.schedule _ _ _ _ _ refl replay) told.2 replay, told.6)
+    (told.1.text.items, known (λ input. IsReplayOf c.args.schedule input c.args.question.now c.in-Ok.replayed.well told.1.text.items) _ _ _ refl (replay_short c.args.schedule told.0.items _ _ _ _ refl replay) told.2 replay, told.6)
 
 pub returns-in-Ok-clause-end : goal.returns-in-Ok-clause-end
-returns-in-Ok-clause-end g c = let told = c.in-Ok.ensures.made in told.3 (replay_short c.args.schedule _ _ _ _ _ refl told.4.1.answer)
+returns-in-Ok-clause-end g c = let told = c.in-Ok.ensures.made in told.3 (replay_short c.args.schedule told.0.items _ _ _ _ refl told.4.1.answer)
 
 pub returns-in-Err-clause-input : goal.returns-in-Err-clause-input
 returns-in-Err-clause-input g c f e =
@@ -40,12 +40,12 @@ returns-in-Err-clause-under_way g c call e =
 pub returns-in-Err-clause-few : goal.returns-in-Err-clause-few
 returns-in-Err-clause-few g c n e =
     let told = c.in-Err.ensures.unmade (NoCommit n) (ap Err (unmade gives _ _ (NoCommit n) c.between.ensures (cc) (λ z. cc) (λ z. cc) (λ z. cc))) in
-    known (λ input. IsNotThereIn c.args.schedule input c.args.question.now (NoCommit n)) _ _ _ refl (not_there_short c.args.schedule _ _ _ (NoCommit n) refl told.2.1.fault) told.1 told.2.1.fault
+    known (λ input. IsNotThereIn c.args.schedule input c.args.question.now (NoCommit n)) _ _ _ refl (not_there_short c.args.schedule told.0.items _ _ (NoCommit n) refl told.2.1.fault) told.1 told.2.1.fault
 
 pub returns-in-Err-clause-no_call : goal.returns-in-Err-clause-no_call
 returns-in-Err-clause-no_call g c e =
     let told = c.in-Err.ensures.unmade NoCall (ap Err (unmade gives _ _ NoCall c.between.ensures (cc) (λ z. cc) (λ z. cc) (λ z. cc))) in
-    known (λ input. IsNotThereIn c.args.schedule input c.args.question.now NoCall) _ _ _ refl (not_there_short c.args.schedule _ _ _ NoCall refl told.2.1.fault) told.1 told.2.1.fault
+    known (λ input. IsNotThereIn c.args.schedule input c.args.question.now NoCall) _ _ _ refl (not_there_short c.args.schedule told.0.items _ _ NoCall refl told.2.1.fault) told.1 told.2.1.fault
 
 pub returns-in-Err-clause-beginning : goal.returns-in-Err-clause-beginning
 returns-in-Err-clause-beginning g c e =
@@ -54,4 +54,4 @@ returns-in-Err-clause-beginning g c e =
     never_write _ c.args.schedule _ (subst (IsFaultOfReplay c.args.schedule told.0.items c.args.question.now) wrong told.2.1.fault) in
     let told = c.in-Err.ensures.beginning (ap Err (unwritten gives _ _ (Run run.Write) c.between.ensures (cc) (λ z. cc) (λ z. cc) never)) in
     let replay = told.3.1.answer in
-    (told.1.end.well, told.1.text.items, known (λ input. IsReplayOf c.args.schedule input c.args.question.now told.1.end.well told.1.text.items) _ _ _ refl (replay_short c.args.schedule _ _ _ _ _ refl replay) told.2 replay, told.4)
+    (told.1.end.well, told.1.text.items, known (λ input. IsReplayOf c.args.schedule input c.args.question.now told.1.end.well told.1.text.items) _ _ _ refl (replay_short c.args.schedule told.0.items _ _ _ _ refl replay) told.2 replay, told.4)

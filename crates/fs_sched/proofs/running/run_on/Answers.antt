@@ -29,7 +29,7 @@ returns-in-Ok-counted_text-clause-output g c =
     let kept = first_keeps lists c.args.core c.requires.fresh c.told.ensures.run in
     let calls = c.count_calls-calls.ensures ∙ ap (λ lists. min (2 ^ 64 - 1) (calls_in lists)) c.as_slice.ensures in
     let piece = subst (AreCounts made.counts) c.timeline.ensures c.in-Ok-counted_text.ensures.counts in
-    let counts = uncapped (c.plus.result) (run.told ++ core.timeline) (calls_in lists) c.requires.few (few_from c.args.schedule c.args.script (before_all (state_of c.args.core) (length lists)) run.told (stage_of c.in-Ok.run'.play) kept run.runs) (c.plus.ensures run.told core.timeline run.counted piece) in
+    let counts = uncapped (c.plus.result) (run.told ++ core.timeline) c.args.script.limits (calls_in lists) c.requires.few (few_from c.args.schedule c.args.script (before_all (state_of c.args.core) (length lists)) run.told (stage_of c.in-Ok.run'.play) kept run.runs) (c.plus.ensures run.told core.timeline run.counted piece) in
     let start = subst (λ (t : Start). IsRunText t c.timeline.result.now (graph_of c.store.result.now) made.text.items) c.start.ensures c.in-Ok-counted_text.ensures.text in
     let text = subst (λ store. IsRunText core.start c.timeline.result.now (graph_of store) made.text.items) c.store.ensures start in (
       run.told,

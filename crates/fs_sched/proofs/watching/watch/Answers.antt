@@ -28,7 +28,7 @@ returns-clause-watches g c =
     let one : AreOneRun (entries_told ms) run.told last last = one_text schedule script (entries_told ms) run.told last last led runs in
     let timeline = c.in-Ok.run'.play.core.timeline in
     let piece = subst (AreCounts c.counts_of.result) c.timeline.ensures c.counts_of.ensures.exact in
-    let counts = uncapped c.plus-counts.result (run.told ++ timeline) (calls_in script.lists) c.requires.few (few_entries schedule script run.told last runs) (c.plus-counts.ensures run.told timeline run.counted piece) in
+    let counts = uncapped c.plus-counts.result (run.told ++ timeline) script.limits (calls_in script.lists) c.requires.few (few_entries schedule script run.told last runs) (c.plus-counts.ensures run.told timeline run.counted piece) in
     let all : AreCounts c.plus-counts.result (entries_told ms ++ timeline) = subst (λ (es : List Entry). AreCounts c.plus-counts.result (es ++ timeline)) one.told counts in
     record { moments = ms; last = last; hears = hears; tells = tells; core = refl; end = c.run_end.ensures (entries_told ms ++ timeline) all }
 

@@ -17,6 +17,7 @@ returns c = record {
   third_unended = refl;
   list_in_the_second = refl;
   few_words_of_a_list = refl;
+  large_count_of_a_list = refl;
   spaced_header = refl;
   upper_thread = refl;
   thread_finish = refl;

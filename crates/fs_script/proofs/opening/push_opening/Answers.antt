@@ -1,7 +1,7 @@
 use Rattle.std.proofs.Common.{◌≡◌, ℕ, Bool, true, false, List, ◌++◌, length, sym, ap, ap₂, ◌∙◌, arith}
 use Rattle.std.proofs.lemmas.Result.{on_ok_weaker}
 use Rattle.fs_names.specs.Limits.{largest}
-use Rattle.fs_script.specs.Headers.{started_header}
+use Rattle.fs_words.specs.Headers.{started_header}
 use Rattle.fs_script.specs.Journals.{is_told}
 use Rattle.fs_script.proofs.Openings.{block_pushed, header_pushed, nodes_counted, nodes_fit}
 use Rattle.fs_script.proofs.opening.push_opening.Goals as goal

@@ -39,7 +39,7 @@ returns-then-is_full c =
 pub returns-in-Ok : goal.returns-in-Ok
 returns-in-Ok c =
     let g = graph c.args.nodes.now in
-    let less : key_cmp (last_key (tree_of g)) (key_of c.args.row.now) ≡ Less = ap (λ k. key_cmp k (key_of c.args.row.now)) c.requires.last ∙ sym c.cmp.ensures ∙ less_by_index c.cmp.result c.ne.result c.ne.ensures c.if-ne.false in
+    let less : key_cmp (last_key (tree_of g)) (key_of c.args.row.now) ≡ Less = ap (λ k. key_cmp k (key_of c.args.row.now)) c.requires.last ∙ (λ j. key_cmp (sym c.deref-2.ensures.value j) (sym c.deref-3.ensures.value j)) ∙ sym c.compare.ensures ∙ less_by_index c.compare.result c.ne.result c.ne.ensures c.if-ne.false in
     let at = place_got c.args.nodes.now c.in-Some-reached.dir _ (c.index.ensures ∙ ap Some c.in-Dir.is) in
     let to = stands_to (pairs c.deref-in-Dir.result.now) c.in-Some.name.now c.in-Ok.field-0 c.in-Ok.ensures in
     absurd (not_there c.args.limits g c.requires.forest c.args.row.now c.in-Some.parent.now c.in-Some.name.now (sym c.deref.ensures.value ∙ c.in-Some.ensures.cases.0) c.in-Some-reached.dir (sym c.in-Some-reached.ensures) to.0 less
@@ -48,7 +48,7 @@ returns-in-Ok c =
 pub returns-in-Err : goal.returns-in-Err
 returns-in-Err c =
     let g = graph c.args.nodes.now in
-    let less : key_cmp (last_key (tree_of g)) (key_of c.args.row.now) ≡ Less = ap (λ k. key_cmp k (key_of c.args.row.now)) c.requires.last ∙ sym c.cmp.ensures ∙ less_by_index c.cmp.result c.ne.result c.ne.ensures c.if-ne.false in
+    let less : key_cmp (last_key (tree_of g)) (key_of c.args.row.now) ≡ Less = ap (λ k. key_cmp k (key_of c.args.row.now)) c.requires.last ∙ (λ j. key_cmp (sym c.deref-2.ensures.value j) (sym c.deref-3.ensures.value j)) ∙ sym c.compare.ensures ∙ less_by_index c.compare.result c.ne.result c.ne.ensures c.if-ne.false in
     is_place c.args.limits g c.requires.forest c.args.row.now c.in-Some.parent.now c.in-Some.name.now (sym c.deref.ensures.value ∙ c.in-Some.ensures.cases.0) c.in-Some-reached.dir (sym c.in-Some-reached.ensures) (pairs c.in-Dir.links.items) c.in-Err.i less
     (place_got c.args.nodes.now c.in-Some-reached.dir _ (c.index.ensures ∙ ap Some c.in-Dir.is))
     ((λ i. nat_le (sym c.entries.ensures i) ((length-pairs c.in-Dir.links.items ∙ sym c.in-Dir.links.ok.0 ∙ sym c.len.ensures) i)) ∙ sym c.is_full.ensures ∙ c.if-is_full.false)

@@ -1,11 +1,16 @@
-use Rattle.std.proofs.Common.{◌≡◌, length, map, take, min, sym, ap, ◌∙◌}
-use Rattle.std.proofs.lemmas.List.{length-map, take-map, take_min}
+use Rattle.std.proofs.Common.{arith, ◌≡◌, length, map, take, min, sym, ap, ◌∙◌}
+use Rattle.std.proofs.lemmas.List.{length-map, length-take, take-map, take_min}
 use Rattle.fs_names.specs.Names.{names_above}
 use Rattle.fs_slab.specs.code.Nodes.{pair, pairs}
 use Rattle.fs_seq.proofs.queries.piece.Goals as goal
 
-pub returns : goal.returns
-returns c =
+pub returns-clause-most : goal.returns-clause-most
+returns-clause-most c =
+    let cut : length (take c.min.result c.above-rest.result.now) ≡ min c.min.result (length c.above-rest.result.now) = length-take c.min.result c.above-rest.result.now in
+    omega (arith, cut, c.min.ensures, c.min-most.ensures)
+
+pub returns-clause-names : goal.returns-clause-names
+returns-clause-names c =
     let rest = c.above-rest.result.now in
     let names = map (λ l. l.0) (pairs rest) in
     let most = c.min-most.result in

@@ -1,13 +1,24 @@
-use Rattle.std.proofs.Common.{refl, ap, sym, ◌∙◌, map}
+use Rattle.std.proofs.Common.{◌≡◌, ◌≤◌, refl, ap, sym, subst, ◌∙◌, map, length}
+use Rattle.std.proofs.lemmas.List.{length-map}
+use Rattle.fs_names.specs.declared.limits.TheConstants.{LIST_LIMIT}
 use Rattle.fs_calls.specs.Forms as forms
-use Rattle.fs_calls.specs.Sights.{names_of, has_any}
+use Rattle.fs_calls.specs.Outcomes.{resolution}
+use Rattle.fs_calls.specs.Sights.{tree_shapes, names_of, has_any}
 use Rattle.fs_calls.specs.declared.call.Call.TheVariants.{Readdir}
 use Rattle.fs_calls.specs.declared.reply.Reply.TheVariants as replies
-use Rattle.fs_slab.specs.code.Nodes.{graph, place}
+use Rattle.fs_slab.specs.code.Nodes.{graph, place, pair, pairs}
 use Rattle.fs_slab.specs.code.Slots.{tree_of}
-use Rattle.fs_seq.proofs.Looked.{looking_fault, failed_reply, found_reply, link_names}
+use Rattle.fs_seq.proofs.Looked.{all_told, looking_fault, failed_reply, found_reply, link_names}
 use Rattle.fs_seq.proofs.Replies.{needs, on_err}
 use Rattle.fs_seq.proofs.queries.readdir.Goals as goal
+
+pub names_of-requires : goal.names_of-requires
+names_of-requires c =
+    let links = c.links.result.now in
+    let t = tree_of (graph c.args.nodes.now) in
+    let same : names_of (tree_shapes t c.args.path.now) ≡ map (λ l. l.0) (pairs links) = ap names_of c.in-Ok.ensures.shape ∙ sym (link_names (place c.in-Ok.node.now)) ∙ sym (ap (map (λ l. l.0)) c.links.ensures) in
+    let long : length (map (λ l. l.0) (pairs links)) ≡ length links = length-map (pairs links) (λ l. l.0) ∙ length-map links pair in
+    subst (λ n. n ≤ LIST_LIMIT) (ap length same ∙ long) (all_told (resolution t c.args.path.now) (tree_shapes t c.args.path.now) c.in-Ok.ensures.sound)
 
 pub returns-in-Err-clause-reply : goal.returns-in-Err-clause-reply
 returns-in-Err-clause-reply c limits =

@@ -11,11 +11,11 @@ search-requires c = ap (is_sorted name_cmp) (ap pairs (c.deref.ensures.value ∙
 
 pub unreachable-requires : goal.unreachable-requires
 unreachable-requires c =
-    not_in_place (pairs c.deref.result.now) c.args.name.now c.in-Ok.field-0
-    (ap (find name_cmp c.args.name.now) (ap pairs (c.deref.ensures.value ∙ c.remove-link.ensures.items) ∙ pairs-remove c.args.links.now.items c.args.i) ∙ c.requires.absent)
-    c.in-Ok.ensures
+    not_in_place (pairs c.deref.result.now) c.args.name c.in_default.field-0
+    (ap (find name_cmp c.args.name) (ap pairs (c.deref.ensures.value ∙ c.remove-link.ensures.items) ∙ pairs-remove c.args.links.now.items c.args.i) ∙ c.requires.absent)
+    c.in_default.ensures
 
 pub returns : goal.returns
 returns c =
-    replaced c.args.links.now.items c.remove-link.new.self.items c.insert.new.self.items c.args.i c.in-Err.at c.reset.new.link _ _ c.reset.ensures c.remove-link.ensures.items c.in-Ok-insert.ensures.items
-    (subst (λ z. BelongsAt (pairs z) c.args.name.now c.in-Err.at) c.deref.ensures.value c.in-Err.ensures)
+    replaced c.args.links.now.items c.remove-link.new.self.items c.insert.new.self.items c.args.i c.in-Err.at c.reset.new.link _ _ c.reset.ensures c.remove-link.ensures.items c.in-Ok.ensures.items
+    (subst (λ z. BelongsAt (pairs z) c.args.name c.in-Err.at) c.deref.ensures.value c.in-Err.ensures)

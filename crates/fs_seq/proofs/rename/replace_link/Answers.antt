@@ -23,13 +23,13 @@ replace-requires-clause-rising c =
 pub replace-requires-clause-absent : goal.replace-requires-clause-absent
 replace-requires-clause-absent c =
     let same = links_read c.args.nodes.now c.args.dir _ c.in-Dir.links.items c.index_mut.ensures.value (ap place c.in-Dir.is) in
-    sym (ap (λ z. find name_cmp c.args.name.now (remove z c.args.i)) same) ∙ c.requires.absent
+    sym (ap (λ z. find name_cmp c.args.name (remove z c.args.i)) same) ∙ c.requires.absent
 
 pub returns-in-Dir : goal.returns-in-Dir
 returns-in-Dir c =
     let same = links_read c.args.nodes.now c.args.dir _ c.in-Dir.links.items c.index_mut.ensures.value (ap place c.in-Dir.is) in
     sets_value c.args.nodes.now c.args.dir _ _ _ c.index_mut.ensures.value
-    (ap Dir c.replace.ensures ∙ ap (λ z. Dir (put name_cmp c.args.name.now c.args.node (remove z c.args.i))) (sym same))
+    (ap Dir c.replace.ensures ∙ ap (λ z. Dir (put name_cmp c.args.name c.args.node (remove z c.args.i))) (sym same))
 
 pub returns-in-File : goal.returns-in-File
 returns-in-File c = absurd (dir_not_file c.args.nodes.now c.args.dir _ _ _ c.requires.directory c.index_mut.ensures.value (ap place c.in-File.is))

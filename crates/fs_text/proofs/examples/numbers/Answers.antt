@@ -11,4 +11,6 @@ returns c = record {
   two_zeros = refl;
   signed = refl;
   nothing = refl;
+  largest_count = refl;
+  too_large_count = refl;
 }

@@ -4,11 +4,11 @@ use Rattle.fs_script.proofs.StepLemmas.{entry_there, step_visits, up_goes, last_
 use Rattle.fs_script.proofs.tree.Walk.step.Goals as goal
 
 pub visit-requires : goal.visit-requires
-visit-requires c = entry_there (seen c.args.store.now) c.next.ensures.real _ c.in-Some.node _ c.in-Some.name c.in-Some.ensures.entry
+visit-requires c = entry_there (seen c.args.store.now) c.next.ensures.real _ c.in-Some.entry.1 _ c.in-Some.entry.0.now c.in-Some.ensures.entry
 
 pub returns-in_ok-visit-in-Some-clause-ok : goal.returns-in_ok-visit-in-Some-clause-ok
 returns-in_ok-visit-in-Some-clause-ok c =
-    step_visits (seen c.args.store.now) c.next.ensures.real c.args.self.now c.visit.new.self c.args.line.now.added c.visit.new.line.added c.in-Some.name c.in-Some.node
+    step_visits (seen c.args.store.now) c.next.ensures.real c.args.self.now c.visit.new.self c.args.line.now.added c.visit.new.line.added c.in-Some.entry.0.now c.in-Some.entry.1
     c.requires.leads c.in-Some.ensures.rest c.in-Some.ensures.entry
     c.in_ok-visit-in-Some.ensures.ok c.in_ok-visit-in-Some.ensures.walk
 
