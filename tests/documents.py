@@ -903,7 +903,7 @@ class Touched(Sentences):
         *(("rename", file) for file in ("crates/fs_calls/src/table.rt", "crates/fs_calls/specs/Rows.antt", "crates/fs_machine/specs/Moves.antt", "tests/model.py", "embed/atomfs.h")),
         *(("PATH_LIMIT", file) for file in ("crates/fs_walk/src/walk.rt", "crates/fs_names/specs/Keys.antt", "tests/data/explained/TooManyNames")),
         *(("path_limit", file) for file in ("crates/fs_names/specs/Reading.antt", "crates/fs_text/specs/Fits.antt", "tests/data/explained/TooManyNames")),
-        *(("entry_limit", file) for file in ("crates/fs_calls/specs/Forms.antt", "crates/fs_calls/specs/Examples.antt", "crates/fs_seq/specs/Rows.antt", "tests/data/transcripts/trees")),
+        *(("entry_limit", file) for file in ("crates/fs_calls/specs/Forms.antt", "crates/fs_calls/specs/Examples.antt", "crates/fs_rows/specs/Rows.antt", "tests/data/transcripts/trees")),
         *(("NODE_LIMIT", file) for file in ("crates/fs_nodes/src/store.rt", "crates/fs_names/specs/Limits.antt", "embed/atomfs.h", "docs/SPECIFICATION.md")),
         *(("node_limit", file) for file in ("crates/fs_laws/specs/Events.antt", "tests/core.py", "bindings/rust/src/limits.rs")),
         *(("TEXT_LIMIT", file) for file in ("crates/fs_io/src/source.rt", "crates/fs_words/src/headers.rt", "docs/FORMATS.md", "tests/data/explained/TooLarge")),

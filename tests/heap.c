@@ -7,8 +7,10 @@
 #undef rattle_alloc
 #undef rattle_realloc
 #undef rattle_dealloc
+#include <malloc.h>
 
 static int asked, refused, first_refused, last_refused, held;
+static size_t in_use;
 
 /* From now on the growths from the first to the last are refused, counted from 1: none, where the last is 0. */
 void refuse(int first, int last) {
@@ -26,6 +28,9 @@ int refusals(void) { return refused; }
 /* How many blocks are in use. */
 int blocks(void) { return held; }
 
+/* How many bytes they have, as the allocator rounds them up. */
+size_t bytes(void) { return in_use; }
+
 static int is_refused(void) {
     asked++;
     int is_refused = first_refused <= asked && asked <= last_refused;
@@ -36,14 +41,19 @@ static int is_refused(void) {
 struct tried rattle_alloc(size_t size, size_t align) {
     struct tried tried = is_refused() ? answer(NULL) : given_alloc(size, align);
     held += tried.ok != 0;
+    in_use += tried.ok != 0 ? malloc_usable_size(tried.block) : 0;
     return tried;
 }
 
 struct tried rattle_realloc(void *block, size_t kept, size_t size, size_t align) {
-    return is_refused() ? answer(NULL) : given_realloc(block, kept, size, align);
+    size_t before = malloc_usable_size(block);
+    struct tried tried = is_refused() ? answer(NULL) : given_realloc(block, kept, size, align);
+    in_use += tried.ok != 0 ? malloc_usable_size(tried.block) - before : 0;
+    return tried;
 }
 
 void rattle_dealloc(void *block) {
     held--;
+    in_use -= malloc_usable_size(block);
     given_dealloc(block);
 }

@@ -23,6 +23,8 @@ import outcomes
 from atomfs import Did, Status
 from harness import Case, Outcome
 
+# How many bytes a file gets whose memory is looked at.
+WRITTEN = 2**22
 RUNS = harness.DATA / "worked" / "runs"
 STARTS = harness.DATA / "starts"
 STDOUT = harness.ROOT / "crates" / "checks" / "stdout"
@@ -901,6 +903,25 @@ class Library(Case):
         texts = UNDER_WAY, BEFORE
         rows = ("short names", *map(str.splitlines, texts), 1), ("long names", *(lengthened(text).splitlines() for text in texts), 3)
         self.each(rows, self.many_promised)
+
+    def bytes_kept(self, size):
+        """How many times its bytes a tree by the third limits keeps of a file that is written in pieces of a size."""
+        with atomfs.Tree(self.library, 2, 3) as tree:
+            seat = tree.seat()
+            tree.mknod(seat, b"/f")
+            before = self.heap.bytes()
+            for offset in range(0, WRITTEN, size):
+                tree.write(seat, b"/f", offset, bytes([offset // size % 251]) * size)
+            kept = (self.heap.bytes() - before) / WRITTEN
+            self.same("the last byte", tree.read(seat, b"/f", WRITTEN - 1, 1), bytes([(WRITTEN // size - 1) % 251]))
+        return kept
+
+    def test_shared_writes(self):
+        """A file shares with the journal what is written in pieces of up to 256 KiB; of a larger piece it has a copy."""
+        shared = [(f"{size} bytes", size) for size in (2**14, 2**16, 2**18)]
+        self.each(shared, lambda size: self.assertLess(self.bytes_kept(size), 1.1))
+        self.each([("524288 bytes", 2**19)], lambda size: self.assertGreater(self.bytes_kept(size), 1.9))
+        self.nothing_is_held()
 
 
 if __name__ == "__main__":

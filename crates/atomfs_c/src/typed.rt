@@ -218,7 +218,7 @@ pub extern "C" fn atomfs_list(
     count: &mut usize,
     number: &mut u64,
 ) -> u8
-    ensures called { IsCalled (to_keep handle.old.most) (on_both (λ p q. calls.ListAfter p q most) path.now after.now) seat (λ reply. IsToldNames reply result count.new out.old out.new) result number.new handle.old.held.core handle.new.held.core }
+    ensures called { IsCalled (to_keep handle.old.most) (on_both (calls.ListAfter most) path.now after.now) seat (λ reply. IsToldNames reply result count.new out.old out.new) result number.new handle.old.held.core handle.new.held.core }
     ensures untouched { LeavesText result count.old count.new out.old out.new }
     ensures unnumbered { CLOSED ≤ result → result < FAILED → number.new ≡ number.old }
     ensures lawful { IsLawful handle.new.held.core }

@@ -149,7 +149,7 @@ fn reply<N: Named>(alloc: Global, observer: &mut Observer<'_, N>, look: &Call) -
     match look {
         Call::Stat(path) => observer.stat(alloc, path).ok(),
         Call::Readdir(path) => observer.readdir(alloc, path).ok(),
-        Call::ListAfter(path, after, count) => observer.list(alloc, path, after, *count).ok(),
+        Call::ListAfter(count, path, after) => observer.list(alloc, path, after, *count).ok(),
         Call::Read(path, off, count) => observer.read(alloc, path, *off, *count).ok(),
         _ => None,
     }
@@ -160,7 +160,7 @@ fn look(path: Path, after: Path, number: usize) -> Call {
     match number {
         0 => Call::Stat(path),
         1 => Call::Readdir(path),
-        2 => Call::ListAfter(path, after, 2),
+        2 => Call::ListAfter(2, path, after),
         _ => Call::Read(path, 0, 9),
     }
 }

@@ -101,7 +101,7 @@ pub fn call(alloc: Global, random: &mut Pcg32) -> Option<Call> {
         80..84 => Some(Call::Rmdir(path)),
         84..88 => Some(Call::Stat(path)),
         88..90 => Some(Call::Readdir(path)),
-        90..92 => Some(Call::ListAfter(path, Path::parse(alloc, b"/").ok()?, 9)),
+        90..92 => Some(Call::ListAfter(9, path, Path::parse(alloc, b"/").ok()?)),
         92..96 => Some(Call::Read(path, 1, 4)),
         _ => Some(Call::Truncate(path, 3)),
     }

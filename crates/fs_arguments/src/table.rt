@@ -92,7 +92,7 @@ const JSON: Argument = Argument {
     form: Form::Flag,
     need: Need::Never,
     conflicts: &[],
-    help: "Writes each line as an object of JSON",
+    help: "Writes objects of JSON, one a line",
 };
 
 const WHERE: Argument = Argument {

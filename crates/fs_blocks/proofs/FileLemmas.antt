@@ -49,40 +49,6 @@ Puts-file first first' chunks chunks' off before bytes head rest fits h r in_fir
           (cases_lt i BLOCK);
     }
 
--- bytes are put into the first block alone
-pub Puts-first : (first first' : List ℕ) (chunks : List (List (List ℕ))) (off : ℕ) (bytes : List ℕ) → off + length bytes ≤ BLOCK → Puts (byte_of_block first) (byte_of_block first') off bytes → Puts (byte_of_file first chunks) (byte_of_file first' chunks) off bytes
-Puts-first first first' chunks off bytes most put = record {
-  inside = λ k lt. file_first first' chunks (off + k) (omega arith) ∙ put.inside k lt;
-  below = λ i lt.
-      ⊎_elim
-      (λ (here : i < BLOCK). file_first first' chunks i here ∙ put.below i lt ∙ sym (file_first first chunks i here))
-      (λ (there : BLOCK ≤ i). file_behind first' chunks i there ∙ sym (file_behind first chunks i there))
-      (cases_lt i BLOCK);
-  above = λ i le.
-      ⊎_elim
-      (λ (here : i < BLOCK). file_first first' chunks i here ∙ put.above i le ∙ sym (file_first first chunks i here))
-      (λ (there : BLOCK ≤ i). file_behind first' chunks i there ∙ sym (file_behind first chunks i there))
-      (cases_lt i BLOCK);
-}
-
--- bytes are put behind the first block alone
-pub Puts-rest : (first : List ℕ) (chunks chunks' : List (List (List ℕ))) (off : ℕ) (bytes : List ℕ) → BLOCK ≤ off → Puts (byte_of_rest chunks) (byte_of_rest chunks') (off - BLOCK) bytes → Puts (byte_of_file first chunks) (byte_of_file first chunks') off bytes
-Puts-rest first chunks chunks' off bytes least put = record {
-  inside = λ k lt.
-      let e : (off + k) - BLOCK ≡ (off - BLOCK) + k = omega arith in
-      file_behind first chunks' (off + k) (omega arith) ∙ ap (byte_of_rest chunks') e ∙ put.inside k lt;
-  below = λ i lt.
-      ⊎_elim
-      (λ (here : i < BLOCK). file_first first chunks' i here ∙ sym (file_first first chunks i here))
-      (λ (there : BLOCK ≤ i). file_behind first chunks' i there ∙ put.below (i - BLOCK) (omega arith) ∙ sym (file_behind first chunks i there))
-      (cases_lt i BLOCK);
-  above = λ i le.
-      ⊎_elim
-      (λ (here : i < BLOCK). file_first first chunks' i here ∙ sym (file_first first chunks i here))
-      (λ (there : BLOCK ≤ i). file_behind first chunks' i there ∙ put.above (i - BLOCK) (omega arith) ∙ sym (file_behind first chunks i there))
-      (cases_lt i BLOCK);
-}
-
 -- a file that has only its first block
 pub bytes_from-first : (first : List ℕ) (chunks : List (List (List ℕ))) (len : ℕ) → len ≡ length first → length first ≤ BLOCK → bytes_from (byte_of_file first chunks) 0 len ≡ first
 bytes_from-first first chunks len e most =

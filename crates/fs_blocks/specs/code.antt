@@ -1,4 +1,5 @@
 pub mod Blocks
 pub mod Bytes
 pub mod Forms
+pub mod Ranges
 pub mod Rooms

@@ -1,9 +1,9 @@
 //! A block of a file.
 
 ghost use Rattle.std.specs.Prelude.{◌≡◌, ◌≢◌, ◌≤◌, ◌<◌, ◌+◌, [], length, take, IfOk, OnOk, OnErr, vec_capacity};
-ghost use Rattle.std.specs.Arc.{arc_value};
 ghost use Rattle.fs_calls.specs.Rows.{written, resized};
 
+use crate::piece::{Piece, Shared};
 use crate::rooms::Rooms;
 use crate::sizes::BLOCK;
 use fs_calls::ranges::put;
@@ -23,8 +23,8 @@ enum Form {
     Hole,
     /// In a vector of its own.
     Own(Vec<u8>),
-    /// In one that others share, and that is never changed.
-    Shared(Arc<Vec<u8>>),
+    /// In a vector that others share, and that is never changed.
+    Shared(Shared),
 }
 
 /// The bytes of a block, at most `BLOCK`, seen as their list.
@@ -120,39 +120,30 @@ impl Block {
         match mem::replace(&mut self.form, Form::Hole) {
             Form::Hole => buffers.take(),
             Form::Own(own) => with_room(own, len, buffers),
-            Form::Shared(shared) => match Arc::try_unwrap(shared) {
+            Form::Shared(shared) => match shared.into_vec() {
                 Ok(own) => with_room(own, len, buffers),
                 Err(shared) => copied(shared.as_slice(), buffers),
             },
         }
     }
 
-    /// Puts bytes over those from an offset on; a gap is filled with zeros. Bytes that are shared stay as they are.
-    pub fn write(&mut self, off: usize, bytes: &[u8], buffers: &mut Buffers)
-        requires most { off + length bytes.now ≤ BLOCK }
+    /// Puts bytes over those from an offset on; a gap is filled with zeros. Bytes that are shared stay as they are. The block shares
+    /// the new ones, if they may be shared, where it begins with them and nothing is left behind them.
+    pub fn write(&mut self, off: usize, bytes: Piece<'_>, buffers: &mut Buffers)
+        requires most { off + length bytes ≤ BLOCK }
         requires buffer { 0 < buffers.old }
-        ensures bytes { self.new ≡ written self.old off bytes.now }
+        ensures bytes { self.new ≡ written self.old off bytes.entry }
         ensures buffers { buffers.old ≤ buffers.new + 1 }
     {
-        let mut own = self.taken_out(off + bytes.len(), buffers);
-        put_over(&mut own, off, bytes);
-        self.form = Form::Own(own);
-    }
-
-    /// Puts bytes over those from the start on, and shares them where nothing else is left.
-    pub fn take(&mut self, bytes: &Arc<Vec<u8>>, buffers: &mut Buffers)
-        requires most { length (arc_value bytes.now).items ≤ BLOCK }
-        requires buffer { 0 < buffers.old }
-        ensures bytes { self.new ≡ written self.old 0 (arc_value bytes.now).items }
-        ensures buffers { buffers.old ≤ buffers.new + 1 }
-    {
-        if self.as_slice().len() <= bytes.as_slice().len() {
-            if let Ok(shared) = Arc::try_clone(bytes) {
+        if off == 0 && self.as_slice().len() <= bytes.len() {
+            if let Some(shared) = bytes.shared() {
                 self.form = Form::Shared(shared);
                 return;
             }
         }
-        self.write(0, bytes.as_slice(), buffers);
+        let mut own = self.taken_out(off + bytes.len(), buffers);
+        put_over(&mut own, off, bytes.as_slice());
+        self.form = Form::Own(own);
     }
 
     /// Leaves no more than the first so many bytes.
@@ -183,7 +174,7 @@ impl Block {
             self.cut(size, buffers);
             return;
         }
-        self.write(size, &[], buffers);
+        self.write(size, Piece::plain(&[]), buffers);
     }
 
     /// Lets copies share the bytes, if there is memory for that; they are not copied themselves.
@@ -193,7 +184,7 @@ impl Block {
         self.form = match mem::replace(&mut self.form, Form::Hole) {
             Form::Hole => Form::Hole,
             Form::Own(own) => match Arc::new(alloc, own) {
-                Ok(shared) => Form::Shared(shared),
+                Ok(whole) => Form::Shared(Shared::all(whole)),
                 Err(refused) => Form::Own(refused.value),
             },
             Form::Shared(shared) => Form::Shared(shared),
@@ -209,7 +200,7 @@ impl Block {
         let form = match &self.form {
             Form::Hole => Form::Hole,
             Form::Own(own) => Form::Own(memory.copy_of(own)?),
-            Form::Shared(shared) => Form::Shared(memory.share(shared)?),
+            Form::Shared(shared) => Form::Shared(shared.copy(memory)?),
         };
         Ok(Block { form })
     }

@@ -1,17 +1,16 @@
 //! A chunk of a file.
 
 ghost use Rattle.std.specs.Prelude.{◌≡◌, ◌≢◌, ◌≤◌, ◌<◌, ◌+◌, ◌-◌, ◌*◌, ◌++◌, [], length, replicate, slice_index_or, IfOk, OnOk, OnErr, vec_capacity};
-ghost use Rattle.std.specs.Arc.{arc_value};
 ghost use Rattle.fs_blocks.specs.code.Bytes.{byte_of_chunk, Puts, Cuts};
 ghost use Rattle.fs_blocks.specs.Spares.{parts_of};
 
 use crate::block::{Block, Buffers};
+use crate::piece::Piece;
 use crate::rooms::Rooms;
 use crate::sizes::{BLOCK, CHUNK, SPAN};
 use fs_memory::Memory;
 use std::alloc::{AllocError, Global};
 use std::marker::Model;
-use std::sync::Arc;
 
 /// Vectors with room for the blocks of a chunk each.
 pub type ChunkRooms = Rooms<Block, CHUNK>;
@@ -42,12 +41,18 @@ fn fill(blocks: &mut Vec<Block>, count: usize)
 }
 
 /// Puts bytes into the block of a number.
-fn put_in(blocks: &mut Vec<Block>, number: usize, off: usize, bytes: &[u8], buffers: &mut Buffers)
+fn put_in(
+    blocks: &mut Vec<Block>,
+    number: usize,
+    off: usize,
+    bytes: Piece<'_>,
+    buffers: &mut Buffers,
+)
     requires room { CHUNK ≤ vec_capacity blocks.old }
     requires number { number < CHUNK }
-    requires most { off + length bytes.now ≤ BLOCK }
+    requires most { off + length bytes ≤ BLOCK }
     requires buffer { 0 < buffers.old }
-    ensures bytes { Puts (byte_of_chunk blocks.old.items) (byte_of_chunk blocks.new.items) (number * BLOCK + off) bytes.now }
+    ensures bytes { Puts (byte_of_chunk blocks.old.items) (byte_of_chunk blocks.new.items) (number * BLOCK + off) bytes.entry }
     ensures room { CHUNK ≤ vec_capacity blocks.new }
     ensures buffers { buffers.old ≤ buffers.new + 1 }
 {
@@ -56,12 +61,12 @@ fn put_in(blocks: &mut Vec<Block>, number: usize, off: usize, bytes: &[u8], buff
 }
 
 /// Puts bytes into the blocks that they touch.
-fn put_all(blocks: &mut Vec<Block>, off: usize, bytes: &[u8], buffers: &mut Buffers)
+fn put_all(blocks: &mut Vec<Block>, off: usize, bytes: Piece<'_>, buffers: &mut Buffers)
     requires room { CHUNK ≤ vec_capacity blocks.old }
-    requires most { off + length bytes.now ≤ SPAN }
-    requires buffers { parts_of BLOCK off (length bytes.now) ≤ buffers.old }
-    ensures bytes { Puts (byte_of_chunk blocks.old.items) (byte_of_chunk blocks.new.items) off bytes.now }
-    ensures buffers { buffers.old ≤ buffers.new + parts_of BLOCK off (length bytes.now) }
+    requires most { off + length bytes ≤ SPAN }
+    requires buffers { parts_of BLOCK off (length bytes) ≤ buffers.old }
+    ensures bytes { Puts (byte_of_chunk blocks.old.items) (byte_of_chunk blocks.new.items) off bytes.entry }
+    ensures buffers { buffers.old ≤ buffers.new + parts_of BLOCK off (length bytes.entry) }
 {
     let mut at = off;
     let mut left = bytes;
@@ -97,35 +102,22 @@ impl Chunk {
     }
 
     /// Puts bytes from a place on.
-    pub fn write(&mut self, off: usize, bytes: &[u8], rooms: &mut ChunkRooms, buffers: &mut Buffers)
-        requires most { off + length bytes.now ≤ SPAN }
-        requires room { 0 < rooms.old }
-        requires buffers { parts_of BLOCK off (length bytes.now) ≤ buffers.old }
-        ensures bytes { Puts (byte_of_chunk self.old) (byte_of_chunk self.new) off bytes.now }
-        ensures rooms { rooms.old ≤ rooms.new + 1 }
-        ensures buffers { buffers.old ≤ buffers.new + parts_of BLOCK off (length bytes.now) }
-    {
-        rooms.make_room(&mut self.blocks);
-        put_all(&mut self.blocks, off, bytes, buffers);
-    }
-
-    /// Puts bytes over the first ones of a block, and shares them where nothing else is left of it.
-    pub fn take(
+    pub fn write(
         &mut self,
-        number: usize,
-        bytes: &Arc<Vec<u8>>,
+        off: usize,
+        bytes: Piece<'_>,
         rooms: &mut ChunkRooms,
         buffers: &mut Buffers,
     )
-        requires number { number < CHUNK }
-        requires most { length (arc_value bytes.now).items ≤ BLOCK }
+        requires most { off + length bytes ≤ SPAN }
         requires room { 0 < rooms.old }
-        requires buffer { 0 < buffers.old }
-        ensures bytes { Puts (byte_of_chunk self.old) (byte_of_chunk self.new) (number * BLOCK) (arc_value bytes.now).items }
+        requires buffers { parts_of BLOCK off (length bytes) ≤ buffers.old }
+        ensures bytes { Puts (byte_of_chunk self.old) (byte_of_chunk self.new) off bytes.entry }
+        ensures rooms { rooms.old ≤ rooms.new + 1 }
+        ensures buffers { buffers.old ≤ buffers.new + parts_of BLOCK off (length bytes.entry) }
     {
         rooms.make_room(&mut self.blocks);
-        fill(&mut self.blocks, number + 1);
-        self.blocks[number].take(bytes, buffers);
+        put_all(&mut self.blocks, off, bytes, buffers);
     }
 
     /// Leaves no bytes from a place on.

@@ -8,6 +8,7 @@ ghost use Rattle.fs_blocks.specs.code.Forms.{value_of};
 
 use crate::block::Block;
 use crate::long::Long;
+use crate::piece::Piece;
 use crate::sizes::BLOCK;
 use crate::spare::Spare;
 use fs_calls::ranges::part;
@@ -107,11 +108,11 @@ fn read_slice(bytes: &[u8], off: u64, count: u64, into: &mut Vec<u8>)
 }
 
 /// Writes into a file that has its bytes in the first block.
-fn write_short(first: Block, off: usize, bytes: &[u8], spare: Spare) -> Form
-    requires some { 0 < length bytes.now }
-    requires fits { off + length bytes.now < 2 ^ 63 }
-    requires spare { FitsWrite off (length bytes.now) spare }
-    ensures { value_of result ≡ record { bytes = written first off bytes.now; in_blocks = true } }
+fn write_short(first: Block, off: usize, bytes: Piece<'_>, spare: Spare) -> Form
+    requires some { 0 < length bytes }
+    requires fits { off + length bytes < 2 ^ 63 }
+    requires spare { FitsWrite off (length bytes) spare }
+    ensures { value_of result ≡ record { bytes = written first off bytes.entry; in_blocks = true } }
 {
     let (mut buffers, mut rooms, list, room) = spare.into_parts();
     if off + bytes.len() <= BLOCK {
@@ -125,48 +126,14 @@ fn write_short(first: Block, off: usize, bytes: &[u8], spare: Spare) -> Form
 }
 
 /// Writes into a long file.
-fn write_long(long: Box<Long>, off: usize, bytes: &[u8], spare: Spare) -> Form
-    requires fits { off + length bytes.now < 2 ^ 63 }
-    requires spare { FitsWrite off (length bytes.now) spare }
-    ensures { value_of result ≡ record { bytes = written long.value off bytes.now; in_blocks = true } }
+fn write_long(long: Box<Long>, off: usize, bytes: Piece<'_>, spare: Spare) -> Form
+    requires fits { off + length bytes < 2 ^ 63 }
+    requires spare { FitsWrite off (length bytes) spare }
+    ensures { value_of result ≡ record { bytes = written long.value off bytes.entry; in_blocks = true } }
 {
     let (mut buffers, mut rooms, list, _) = spare.into_parts();
     let mut long = long;
     long.write(off, bytes, list, &mut rooms, &mut buffers);
-    Form::Long(long)
-}
-
-/// Takes bytes of a block, or less, into a file that has its bytes in the first one.
-fn take_short(first: Block, off: usize, bytes: &Arc<Vec<u8>>, spare: Spare) -> Form
-    requires some { 0 < length (arc_value bytes.now).items }
-    requires most { length (arc_value bytes.now).items ≤ BLOCK }
-    requires fits { off + length (arc_value bytes.now).items < 2 ^ 63 }
-    requires spare { FitsWrite off (length (arc_value bytes.now).items) spare }
-    ensures { value_of result ≡ record { bytes = written first off (arc_value bytes.now).items; in_blocks = true } }
-{
-    if off > 0 {
-        return write_short(first, off, bytes.as_slice(), spare);
-    }
-    let (mut buffers, _, _, _) = spare.into_parts();
-    let mut first = first;
-    first.take(bytes, &mut buffers);
-    Form::Short(first)
-}
-
-/// Takes bytes of a block, or less, into a long file.
-fn take_long(long: Box<Long>, off: usize, bytes: &Arc<Vec<u8>>, spare: Spare) -> Form
-    requires some { 0 < length (arc_value bytes.now).items }
-    requires most { length (arc_value bytes.now).items ≤ BLOCK }
-    requires fits { off + length (arc_value bytes.now).items < 2 ^ 63 }
-    requires spare { FitsWrite off (length (arc_value bytes.now).items) spare }
-    ensures { value_of result ≡ record { bytes = written long.value off (arc_value bytes.now).items; in_blocks = true } }
-{
-    if off % BLOCK > 0 {
-        return write_long(long, off, bytes.as_slice(), spare);
-    }
-    let (mut buffers, mut rooms, list, _) = spare.into_parts();
-    let mut long = long;
-    long.take(off, bytes, list, &mut rooms, &mut buffers);
     Form::Long(long)
 }
 
@@ -305,15 +272,11 @@ impl File {
         requires spare { FitsWrite off (length bytes.now) spare }
         ensures { self.new ≡ record self.old { bytes = written self.old.bytes off bytes.now } }
     {
-        self.form = match mem::replace(&mut self.form, Form::Short(Block::hole())) {
-            Form::Plain(_) => unreachable!(),
-            Form::Short(first) => write_short(first, off, bytes, spare),
-            Form::Long(long) => write_long(long, off, bytes, spare),
-        };
+        self.put(off, Piece::plain(bytes), spare);
     }
 
-    /// The same of bytes that others share: a block of which nothing else is left shares them too, where they begin with it
-    /// and are no more.
+    /// The same of bytes that others share. A block shares its part of them where that begins the block, leaves nothing of it
+    /// behind, and is at least a sixteenth of all: so it keeps no more than sixteen times its own bytes alive.
     pub fn take(&mut self, off: usize, bytes: &Arc<Vec<u8>>, spare: Spare)
         requires form { IsTrue self.old.in_blocks }
         requires some { 0 < length (arc_value bytes.now).items }
@@ -321,14 +284,21 @@ impl File {
         requires spare { FitsWrite off (length (arc_value bytes.now).items) spare }
         ensures { self.new ≡ record self.old { bytes = written self.old.bytes off (arc_value bytes.now).items } }
     {
-        if bytes.as_slice().len() > BLOCK {
-            self.write(off, bytes.as_slice(), spare);
-            return;
-        }
+        self.put(off, Piece::owned(bytes), spare);
+    }
+
+    /// Puts a piece over the bytes from an offset on.
+    fn put(&mut self, off: usize, bytes: Piece<'_>, spare: Spare)
+        requires form { IsTrue self.old.in_blocks }
+        requires some { 0 < length bytes }
+        requires fits { off + length bytes < 2 ^ 63 }
+        requires spare { FitsWrite off (length bytes) spare }
+        ensures { self.new ≡ record self.old { bytes = written self.old.bytes off bytes.entry } }
+    {
         self.form = match mem::replace(&mut self.form, Form::Short(Block::hole())) {
             Form::Plain(_) => unreachable!(),
-            Form::Short(first) => take_short(first, off, bytes, spare),
-            Form::Long(long) => take_long(long, off, bytes, spare),
+            Form::Short(first) => write_short(first, off, bytes, spare),
+            Form::Long(long) => write_long(long, off, bytes, spare),
         };
     }
 

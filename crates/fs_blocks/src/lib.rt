@@ -2,8 +2,12 @@
 //!
 //! A file in blocks (`File`) that fits in a block is that block alone. A longer one (`long`) has its first block and a list
 //! of chunks, of `CHUNK` blocks each. A block, a chunk or an end of one that is not there is a hole, and reads as zeros. A
-//! block has its bytes in a vector of its own, or in one that others share (`block`): the latter is never changed, and a write
-//! copies it first, unless no other owner is left.
+//! block has its bytes in a vector of its own, or in a range of one that others share (`block`): the latter is never changed,
+//! and a write copies the range first, unless it is the whole vector and no other owner is left.
+//!
+//! Of a shared vector that is written, each block shares its range (`piece`), and copies nothing, where that begins the block,
+//! leaves nothing behind it, and is at least a sixteenth of the vector. So a block keeps no more than sixteen times its own bytes
+//! alive: whole blocks of up to 256 KiB are shared, and a tail of few bytes is copied.
 //!
 //! Contracts see a file as its bytes and whether they are in blocks (`specs/Files.antt`), and say nothing of blocks.
 //! A change answers no error, since it takes no memory: it uses a `Spare` that was made before, and `specs/Spares.antt` says
@@ -17,6 +21,7 @@ mod block;
 mod chunk;
 pub mod file;
 mod long;
+mod piece;
 mod rooms;
 pub mod sizes;
 pub mod spare;

@@ -1,19 +1,18 @@
 //! A long file.
 
-ghost use Rattle.std.specs.Prelude.{◌≡◌, ◌≢◌, ◌≤◌, ◌<◌, ◌+◌, ◌-◌, ◌*◌, ◌^◌, ◌++◌, ◌%◌, ℕ, [], length, take, drop, replicate, slice_index, slice_index_or, IfOk, OnOk, OnErr, vec_len, vec_capacity};
-ghost use Rattle.std.specs.Arc.{arc_value};
+ghost use Rattle.std.specs.Prelude.{◌≡◌, ◌≢◌, ◌≤◌, ◌<◌, ◌+◌, ◌-◌, ◌*◌, ◌^◌, ◌++◌, ◌%◌, ℕ, [], length, take, drop, replicate, slice_index, IfOk, OnOk, OnErr, vec_len, vec_capacity};
 ghost use Rattle.fs_calls.specs.Rows.{written, resized};
 ghost use Rattle.fs_blocks.specs.Spares.{behind_first, parts_of};
 ghost use Rattle.fs_blocks.specs.code.Bytes.{byte_of_block, byte_of_file, byte_of_rest, bytes_from, IsClear, Puts, Cuts};
 
 use crate::block::{Block, Buffers};
 use crate::chunk::{Chunk, ChunkRooms};
+use crate::piece::Piece;
 use crate::sizes::{BLOCK, CHUNK, SPAN};
 use fs_calls::ranges::part;
 use fs_memory::Memory;
 use std::alloc::{AllocError, Global};
 use std::marker::Model;
-use std::sync::Arc;
 
 /// The bytes of a file in blocks: the first block, and the others in chunks. Seen as their list.
 #[derive(Drop)]
@@ -66,18 +65,18 @@ fn put_in(
     chunks: &mut Vec<Chunk>,
     number: usize,
     off: usize,
-    bytes: &[u8],
+    bytes: Piece<'_>,
     rooms: &mut ChunkRooms,
     buffers: &mut Buffers,
 )
     requires list { number < vec_capacity chunks.old }
-    requires most { off + length bytes.now ≤ SPAN }
+    requires most { off + length bytes ≤ SPAN }
     requires room { 0 < rooms.old }
-    requires buffers { parts_of BLOCK off (length bytes.now) ≤ buffers.old }
-    ensures bytes { Puts (byte_of_rest chunks.old.items) (byte_of_rest chunks.new.items) (number * SPAN + off) bytes.now }
+    requires buffers { parts_of BLOCK off (length bytes) ≤ buffers.old }
+    ensures bytes { Puts (byte_of_rest chunks.old.items) (byte_of_rest chunks.new.items) (number * SPAN + off) bytes.entry }
     ensures list { vec_capacity chunks.new ≡ vec_capacity chunks.old }
     ensures rooms { rooms.old ≤ rooms.new + 1 }
-    ensures buffers { buffers.old ≤ buffers.new + parts_of BLOCK off (length bytes.now) }
+    ensures buffers { buffers.old ≤ buffers.new + parts_of BLOCK off (length bytes.entry) }
 {
     fill(chunks, number + 1);
     chunks[number].write(off, bytes, rooms, buffers);
@@ -87,15 +86,15 @@ fn put_in(
 fn put_all(
     chunks: &mut Vec<Chunk>,
     off: usize,
-    bytes: &[u8],
+    bytes: Piece<'_>,
     rooms: &mut ChunkRooms,
     buffers: &mut Buffers,
 )
-    requires fits { off + length bytes.now < 2 ^ 64 }
-    requires list { off + length bytes.now ≤ vec_capacity chunks.old * SPAN }
-    requires rooms { parts_of SPAN off (length bytes.now) ≤ rooms.old }
-    requires buffers { parts_of BLOCK off (length bytes.now) ≤ buffers.old }
-    ensures { Puts (byte_of_rest chunks.old.items) (byte_of_rest chunks.new.items) off bytes.now }
+    requires fits { off + length bytes < 2 ^ 64 }
+    requires list { off + length bytes ≤ vec_capacity chunks.old * SPAN }
+    requires rooms { parts_of SPAN off (length bytes) ≤ rooms.old }
+    requires buffers { parts_of BLOCK off (length bytes) ≤ buffers.old }
+    ensures { Puts (byte_of_rest chunks.old.items) (byte_of_rest chunks.new.items) off bytes.entry }
 {
     let mut at = off;
     let mut left = bytes;
@@ -115,19 +114,15 @@ fn count_in_first(off: usize, count: usize) -> usize
     ensures first { 0 < result → off + result ≤ BLOCK }
     ensures rest { result < count → BLOCK ≤ off + result }
 {
-    if off < BLOCK {
-        count.min(BLOCK - off)
-    } else {
-        0
-    }
+    count.min(BLOCK.saturating_sub(off))
 }
 
 /// Puts bytes into the first block.
-fn put_first(first: &mut Block, off: usize, bytes: &[u8], buffers: &mut Buffers)
-    requires most { 0 < length bytes.now → off + length bytes.now ≤ BLOCK }
-    requires buffers { parts_of BLOCK off (length bytes.now) ≤ buffers.old }
-    ensures bytes { Puts (byte_of_block first.old) (byte_of_block first.new) off bytes.now }
-    ensures buffers { buffers.old ≤ buffers.new + parts_of BLOCK off (length bytes.now) }
+fn put_first(first: &mut Block, off: usize, bytes: Piece<'_>, buffers: &mut Buffers)
+    requires most { 0 < length bytes → off + length bytes ≤ BLOCK }
+    requires buffers { parts_of BLOCK off (length bytes) ≤ buffers.old }
+    ensures bytes { Puts (byte_of_block first.old) (byte_of_block first.new) off bytes.entry }
+    ensures buffers { buffers.old ≤ buffers.new + parts_of BLOCK off (length bytes.entry) }
 {
     if bytes.is_empty() {
         return;
@@ -139,18 +134,18 @@ fn put_first(first: &mut Block, off: usize, bytes: &[u8], buffers: &mut Buffers)
 fn put_rest(
     chunks: &mut Vec<Chunk>,
     off: usize,
-    bytes: &[u8],
+    bytes: Piece<'_>,
     list: Vec<Chunk>,
     rooms: &mut ChunkRooms,
     buffers: &mut Buffers,
 )
-    requires fits { off + length bytes.now < 2 ^ 64 }
-    requires behind { 0 < length bytes.now → BLOCK ≤ off }
+    requires fits { off + length bytes < 2 ^ 64 }
+    requires behind { 0 < length bytes → BLOCK ≤ off }
     requires empty { list.items ≡ [] }
-    requires list { off + length bytes.now ≤ BLOCK + vec_capacity list * SPAN }
-    requires rooms { parts_of SPAN (off - BLOCK) (length bytes.now) ≤ rooms.old }
-    requires buffers { parts_of BLOCK off (length bytes.now) ≤ buffers.old }
-    ensures { Puts (byte_of_rest chunks.old.items) (byte_of_rest chunks.new.items) (off - BLOCK) bytes.now }
+    requires list { off + length bytes ≤ BLOCK + vec_capacity list * SPAN }
+    requires rooms { parts_of SPAN (off - BLOCK) (length bytes) ≤ rooms.old }
+    requires buffers { parts_of BLOCK off (length bytes) ≤ buffers.old }
+    ensures { Puts (byte_of_rest chunks.old.items) (byte_of_rest chunks.new.items) (off - BLOCK) bytes.entry }
 {
     if bytes.is_empty() {
         return;
@@ -159,58 +154,6 @@ fn put_rest(
     let last = at + (bytes.len() - 1);
     make_room(chunks, last / SPAN + 1, list);
     put_all(chunks, at, bytes, rooms, buffers);
-}
-
-/// Puts bytes over the first ones of a block behind the first one.
-fn take_rest(
-    chunks: &mut Vec<Chunk>,
-    off: usize,
-    bytes: &Arc<Vec<u8>>,
-    list: Vec<Chunk>,
-    rooms: &mut ChunkRooms,
-    buffers: &mut Buffers,
-)
-    requires whole { off % BLOCK ≡ 0 }
-    requires behind { BLOCK ≤ off }
-    requires some { 0 < length (arc_value bytes.now).items }
-    requires most { length (arc_value bytes.now).items ≤ BLOCK }
-    requires empty { list.items ≡ [] }
-    requires list { off + length (arc_value bytes.now).items ≤ BLOCK + vec_capacity list * SPAN }
-    requires room { 0 < rooms.old }
-    requires buffer { 0 < buffers.old }
-    ensures { Puts (byte_of_rest chunks.old.items) (byte_of_rest chunks.new.items) (off - BLOCK) (arc_value bytes.now).items }
-{
-    let at = off - BLOCK;
-    let number = at / SPAN;
-    make_room(chunks, number + 1, list);
-    fill(chunks, number + 1);
-    chunks[number].take(at % SPAN / BLOCK, bytes, rooms, buffers);
-}
-
-/// Puts bytes over the first ones of a block.
-fn take_whole(
-    first: &mut Block,
-    chunks: &mut Vec<Chunk>,
-    off: usize,
-    bytes: &Arc<Vec<u8>>,
-    list: Vec<Chunk>,
-    rooms: &mut ChunkRooms,
-    buffers: &mut Buffers,
-)
-    requires whole { off % BLOCK ≡ 0 }
-    requires some { 0 < length (arc_value bytes.now).items }
-    requires most { length (arc_value bytes.now).items ≤ BLOCK }
-    requires empty { list.items ≡ [] }
-    requires list { off + length (arc_value bytes.now).items ≤ BLOCK + vec_capacity list * SPAN }
-    requires room { BLOCK ≤ off → 0 < rooms.old }
-    requires buffer { 0 < buffers.old }
-    ensures { Puts (byte_of_file first.old chunks.old.items) (byte_of_file first.new chunks.new.items) off (arc_value bytes.now).items }
-{
-    if off == 0 {
-        first.take(bytes, buffers);
-    } else {
-        take_rest(chunks, off, bytes, list, rooms, buffers);
-    }
 }
 
 /// Leaves no bytes behind the first block from a place on.
@@ -341,54 +284,23 @@ impl Long {
     pub fn write(
         &mut self,
         off: usize,
-        bytes: &[u8],
+        bytes: Piece<'_>,
         list: Vec<Chunk>,
         rooms: &mut ChunkRooms,
         buffers: &mut Buffers,
     )
-        requires fits { off + length bytes.now < 2 ^ 64 }
+        requires fits { off + length bytes < 2 ^ 64 }
         requires empty { list.items ≡ [] }
-        requires list { off + length bytes.now ≤ BLOCK + vec_capacity list * SPAN }
-        requires rooms { parts_of SPAN (off - BLOCK) (behind_first off (length bytes.now)) ≤ rooms.old }
-        requires buffers { parts_of BLOCK off (length bytes.now) ≤ buffers.old }
-        ensures { self.new ≡ written self.old off bytes.now }
+        requires list { off + length bytes ≤ BLOCK + vec_capacity list * SPAN }
+        requires rooms { parts_of SPAN (off - BLOCK) (behind_first off (length bytes)) ≤ rooms.old }
+        requires buffers { parts_of BLOCK off (length bytes) ≤ buffers.old }
+        ensures { self.new ≡ written self.old off bytes.entry }
     {
         let before = count_in_first(off, bytes.len());
         let (head, rest) = bytes.split_at(before);
         put_first(&mut self.first, off, head, buffers);
         put_rest(&mut self.chunks, off + before, rest, list, rooms, buffers);
         self.len = self.len.max(off + bytes.len());
-    }
-
-    /// Puts bytes over those of a whole block, or over its first ones; they are shared where nothing else is left of it.
-    pub fn take(
-        &mut self,
-        off: usize,
-        bytes: &Arc<Vec<u8>>,
-        list: Vec<Chunk>,
-        rooms: &mut ChunkRooms,
-        buffers: &mut Buffers,
-    )
-        requires whole { off % BLOCK ≡ 0 }
-        requires fits { off + length (arc_value bytes.now).items < 2 ^ 64 }
-        requires some { 0 < length (arc_value bytes.now).items }
-        requires most { length (arc_value bytes.now).items ≤ BLOCK }
-        requires empty { list.items ≡ [] }
-        requires list { off + length (arc_value bytes.now).items ≤ BLOCK + vec_capacity list * SPAN }
-        requires room { BLOCK ≤ off → 0 < rooms.old }
-        requires buffer { 0 < buffers.old }
-        ensures { self.new ≡ written self.old off (arc_value bytes.now).items }
-    {
-        take_whole(
-            &mut self.first,
-            &mut self.chunks,
-            off,
-            bytes,
-            list,
-            rooms,
-            buffers,
-        );
-        self.len = self.len.max(off + bytes.as_slice().len());
     }
 
     /// Cuts it to a size, or adds zeros up to it.
@@ -410,12 +322,8 @@ impl Long {
         if first == 0 {
             self.first.share(alloc);
         }
-        share_rest(
-            &mut self.chunks,
-            alloc,
-            first.saturating_sub(1),
-            end.saturating_sub(1),
-        );
+        let (from, to) = (first.saturating_sub(1), end.saturating_sub(1));
+        share_rest(&mut self.chunks, alloc, from, to);
     }
 
     /// The same file again. Its blocks are shared, if they are already, and else copied.

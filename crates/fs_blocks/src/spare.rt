@@ -1,6 +1,6 @@
 //! What a change of a file in blocks may use.
 
-ghost use Rattle.std.specs.Prelude.{◌≡◌, ◌≢◌, ◌≤◌, ◌<◌, ◌+◌, ◌^◌, [], Bool, IfOk, OnOk, OnErr, is_some, vec_capacity};
+ghost use Rattle.std.specs.Prelude.{◌≡◌, ◌≢◌, ◌<◌, ◌+◌, ◌^◌, [], IfOk, OnOk, OnErr, is_some, vec_capacity};
 ghost use Rattle.fs_blocks.specs.Spares.{parts_of, FitsWrite, FitsSize};
 
 use crate::block::{Block, Buffers};

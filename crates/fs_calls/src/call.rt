@@ -22,9 +22,9 @@ pub enum Call {
     Stat(Path),
     /// Asks for all names of a directory, which are at most 256.
     Readdir(Path),
-    /// Asks for the names of a directory above the last name of the second path, the least first, and for no more than a
-    /// count, or 256: from the first name on where that path is the root (this project's own).
-    ListAfter(Path, Path, u32),
+    /// Asks for no more than a count, or 256, of the names of the directory at the first path that are above the last name of
+    /// the second, the least first: from the first name on where that path is the root (this project's own).
+    ListAfter(u32, Path, Path),
     /// Asks for the bytes of a file from an offset on, and for no more than a count.
     Read(Path, u64, u64),
     /// Writes bytes into a file at an offset; a gap reads as zeros.

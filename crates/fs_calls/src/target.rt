@@ -74,9 +74,9 @@ fn on_node(memory: &mut Memory, node: NodeCall<'_>, path: Path) -> Result<Call, 
         NodeCall::Stat => Ok(Call::Stat(path)),
         NodeCall::Readdir => Ok(Call::Readdir(path)),
         NodeCall::ListAfter(after, count) => Ok(Call::ListAfter(
+            count,
             path,
             after.copy_counted(memory)?,
-            count,
         )),
         NodeCall::Read(offset, count) => Ok(Call::Read(path, offset, count)),
         NodeCall::Write(offset, bytes) => Ok(Call::Write(
@@ -194,7 +194,7 @@ impl Call {
             Call::Exchange(one, other) => Target::Pair(PairCall::Exchange, one, other),
             Call::Stat(path) => Target::Node(NodeCall::Stat, path),
             Call::Readdir(path) => Target::Node(NodeCall::Readdir, path),
-            Call::ListAfter(path, after, count) => {
+            Call::ListAfter(count, path, after) => {
                 Target::Node(NodeCall::ListAfter(after, *count), path)
             }
             Call::Read(path, off, count) => Target::Node(NodeCall::Read(*off, *count), path),

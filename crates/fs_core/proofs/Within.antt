@@ -11,7 +11,7 @@ use Rattle.fs_timeline.specs.Timeline.{commits}
 use Rattle.fs_calls.specs.Tree as trees
 use Rattle.fs_calls.specs.Tree.{Tree, Node, IsTree, look, names_in}
 use Rattle.fs_calls.specs.Sights.{shape_of}
-use Rattle.fs_seq.specs.Rows.{IsWithinLimits}
+use Rattle.fs_rows.specs.Rows.{IsWithinLimits}
 use Rattle.fs_nodes.specs.Graphs.{Graph, numbers}
 use Rattle.fs_nodes.specs.Stores.{graph_of}
 use Rattle.fs_machine.specs.States.{IsStart, Run}

@@ -21,7 +21,7 @@ asked_with_more number path other off size bytes =
     else (if number == 8 then on_path (λ p. Read p off size) path
     else (if number == 9 then on_path (λ p. Write p off bytes) path
     else (if number == 10 then on_path (λ p. Truncate p size) path
-    else (if number == 11 then on_both (λ p q. ListAfter p q (count_of size)) path other
+    else (if number == 11 then on_both (ListAfter (count_of size)) path other
     else λ limits. Err kind.BadLine)))))
 
 -- the call of a number, with the parts that it has of those that may stand with it

@@ -44,7 +44,7 @@ asked (Rename path other) = on_both call.Rename path.now other.now
 asked (Exchange path other) = on_both call.Exchange path.now other.now
 asked (Stat path) = on_path call.Stat path.now
 asked (Readdir path) = on_path call.Readdir path.now
-asked (ListAfter path after count) = on_both (λ p q. call.ListAfter p q count) path.now after.now
+asked (ListAfter path after count) = on_both (call.ListAfter count) path.now after.now
 asked (Read path off count) = on_path (λ p. call.Read p off count) path.now
 asked (Write path off bytes) = on_path (λ p. call.Write p off bytes.now) path.now
 asked (Truncate path size) = on_path (λ p. call.Truncate p size) path.now
@@ -52,5 +52,5 @@ asked Nothing = λ limits. Err kind.BadLine
 
 -- whether limits have a call: all have each, but the one that lists a directory in pieces
 abbrev pub has_call : Limits → Call → Bool
-has_call limits (call.ListAfter p after count) = has_list limits
+has_call limits (call.ListAfter count p after) = has_list limits
 has_call limits c = true

@@ -140,7 +140,7 @@ impl<'a> Request<'a> {
             Request::Readdir(path) => Ok(Call::Readdir(path_in(alloc, limits, path)?)),
             Request::ListAfter(path, after, count) => {
                 let (path, after) = both_in(alloc, limits, path, after)?;
-                Ok(Call::ListAfter(path, after, count))
+                Ok(Call::ListAfter(count, path, after))
             }
             Request::Read(path, off, count) => Ok(Call::Read(
                 path_in(alloc, limits, path)?,

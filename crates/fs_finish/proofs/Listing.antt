@@ -5,7 +5,7 @@ use Rattle.fs_names.specs.Rooms.{RoomForNames}
 use Rattle.fs_names.specs.Shapes.{names_of}
 use Rattle.fs_nodes.specs.Graphs.{Graph}
 use Rattle.fs_nodes.specs.Stores.{names_above, next_entry, IsNextName}
-use Rattle.fs_finish.specs.declared.room.TheConstants.{NAME_TEXT}
+use Rattle.fs_names.specs.declared.name_list.TheConstants.{NAME_TEXT}
 
 -- the last of some names, or the one that they are above
 abbrev pub last_listed : Option Name → List Name → Option Name

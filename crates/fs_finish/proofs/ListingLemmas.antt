@@ -7,7 +7,7 @@ use Rattle.std.specs.Ordering.{is_lt}
 use Rattle.std.proofs.lemmas.List.{take_all, take_at}
 use Rattle.fs_names.specs.Names as orders
 use Rattle.fs_names.specs.Names.{Name, name_cmp, can_name}
-use Rattle.fs_names.specs.Rooms.{RoomForNames}
+use Rattle.fs_names.specs.Rooms.{RoomForNames, IsRoomFor}
 use Rattle.fs_names.specs.Shapes.{Shape, Dir, File, names_of}
 use Rattle.fs_names.specs.Failures.{check, first_failure}
 use Rattle.fs_names.specs.declared.limits.TheConstants.{LIST_LIMIT}
@@ -20,8 +20,7 @@ use Rattle.fs_nodes.specs.Seen.{Ascends}
 use Rattle.fs_nodes.specs.Stores.{is_above, names_above, next_entry, IsNextName, IsEntryAfter, IsNameAfter}
 use Rattle.fs_nodes.proofs.EntryLemmas.{entry_child}
 use Rattle.fs_finish.specs.Lows.{bytes_above}
-use Rattle.fs_finish.specs.Rooms.{IsRoomFor}
-use Rattle.fs_finish.specs.declared.room.TheConstants.{NAME_TEXT}
+use Rattle.fs_names.specs.declared.name_list.TheConstants.{NAME_TEXT}
 use Rattle.fs_finish.proofs.Listing.{last_listed, IsListed, IsListing}
 
 -- all names are above none
@@ -114,10 +113,6 @@ listing_first graph dir low most list next h entry rest =
       next_is = entry ∙ ap (λ (l : List Name). next_entry graph dir (last_listed low l)) (sym h.0);
       rest = subst (λ (l : List Name). IsNextName (names_of (graph.shape dir)) (last_listed low l) (option_map (λ entry. entry.0) next)) (sym h.0) rest;
     }
-
--- where more may be told, there is room for one
-pub listing_room : (graph : Graph) (dir : ℕ) (low : Option Name) (most : ℕ) (list : RoomForNames) (left : ℕ) (next : Option (Name × ℕ)) → IsListing graph dir low most list left next → 0 < left → NAME_TEXT ≤ list.room
-listing_room graph dir low most list left next l some = let f = l.fits in omega (arith, f, some)
 
 pub listing_pushed : (graph : Graph) (dir : ℕ) (low : Option Name) (most : ℕ) (list new : RoomForNames) (left fewer : ℕ) (next after : Option (Name × ℕ)) (x : Name) (n : ℕ) → IsListing graph dir low most list left next → next ≡ Some (x, n) → left ≡ fewer + 1
     → new.names ≡ list.names ++ x ∷ [] → list.room ≤ new.room + NAME_TEXT → IsEntryAfter graph n after → IsNameAfter graph n (option_map (λ entry. entry.0) after) → IsListing graph dir low most new fewer after

@@ -1,13 +1,12 @@
 -- What a call takes when it begins, so that its finish takes no memory.
-use Rattle.std.specs.Prelude.{ℕ, Bool, true, false, ◌≡◌, ◌≤◌, ◌<◌, ◌+◌, ◌*◌, ◌^◌, [], length, min, Option, Some, None}
+use Rattle.std.specs.Prelude.{ℕ, Bool, true, false, ◌≡◌, ◌≤◌, ◌<◌, ◌+◌, ◌^◌, length, min, Option, Some, None}
 use Rattle.fs_blocks.specs.Spares.{SpareValue, FitsWrite, FitsSize}
 use Rattle.fs_names.specs.Names as names
 use Rattle.fs_names.specs.Names.{shared_bytes}
-use Rattle.fs_names.specs.Rooms.{RoomForNames}
+use Rattle.fs_names.specs.Rooms.{IsRoomFor}
 use Rattle.fs_names.specs.declared.limits.TheConstants.{LIST_LIMIT}
 use Rattle.fs_calls.specs.Forms.{NodeCall, Stat, Readdir, ListAfter, Read, Write, Truncate, Form, AtNode, AtEntry, AtPair}
 use Rattle.fs_finish.specs.Paths.{new_name}
-use Rattle.fs_finish.specs.declared.room.TheConstants.{NAME_TEXT}
 use Rattle.fs_finish.specs.declared.room.Room.{Room}
 use Rattle.fs_finish.specs.declared.room.Room.TheVariants.{Nothing, Content, Blocks, Copies, Lists, Name}
 
@@ -42,10 +41,6 @@ FitsCopies n (Content room) = ⊥
 FitsCopies n (Blocks spare) = ⊥
 FitsCopies n (Lists a b) = ⊥
 FitsCopies n (Name owner) = ⊥
-
--- a list without names, with room for this many of any length
-abbrev pub IsRoomFor : ℕ → RoomForNames → Type 0
-IsRoomFor n list = (list.names ≡ []) × (n * NAME_TEXT ≤ list.room)
 
 -- two lists for this many names
 abbrev pub FitsLists : ℕ → Room → Type 0

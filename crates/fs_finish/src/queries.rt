@@ -1,9 +1,10 @@
 //! How the calls that change nothing finish at their node.
 
-ghost use Rattle.std.specs.Prelude.{◌≡◌, ◌≤◌, ◌+◌, ◌++◌, ◌∷◌, [], None, option_map, length, take, drop};
+ghost use Rattle.std.specs.Prelude.{◌≡◌, ◌≤◌, None, option_map, length, take, drop};
 ghost use Rattle.std.specs.Option.{option_copied};
 ghost use Rattle.fs_names.specs.Limits.{read_limit};
 ghost use Rattle.fs_names.specs.Names.{names_above};
+ghost use Rattle.fs_names.specs.Rooms.{IsRoomFor};
 ghost use Rattle.fs_names.specs.Shapes.{names_of, is_dir};
 ghost use Rattle.fs_nodes.specs.Seen.{seen};
 ghost use Rattle.fs_nodes.specs.Stores as stores;
@@ -12,11 +13,11 @@ ghost use Rattle.fs_calls.specs.Forms as calls;
 ghost use Rattle.fs_calls.specs.Rows.{as_dir, node_row};
 ghost use Rattle.fs_machine.specs.Moves.{walk_errno};
 ghost use Rattle.fs_finish.specs.Lows.{bytes_above};
-ghost use Rattle.fs_finish.specs.Rooms.{SufficesFor, IsRoomFor};
+ghost use Rattle.fs_finish.specs.Rooms.{SufficesFor};
 
 use crate::paths::last_name;
 use crate::replies::Replies;
-use crate::room::{NAME_TEXT, Room, most_listed};
+use crate::room::{Room, most_listed};
 use crate::sights::sight_of;
 use fs_calls::rows::step_error;
 use fs_calls::{Errno, NameList, NodeCall, Reply};
@@ -75,17 +76,6 @@ fn first_entry<'a>(store: &'a Store, dir: NodeNo, low: Option<&Name>) -> Option<
     }
 }
 
-/// One name more, where there is room for one of any length.
-fn put_name(names: &mut NameRoom, name: &Name)
-    requires { NAME_TEXT ≤ names.old.room }
-    ensures names { names.new.names ≡ names.old.names ++ name.now ∷ [] }
-    ensures room { names.old.room ≤ names.new.room + NAME_TEXT }
-{
-    // A name has no more than 255 bytes.
-    let _ = name.bytes();
-    names.push_reserved(name);
-}
-
 /// Puts the names of a directory above one, the least first and no more than so many, into a list that has room for so many.
 fn put_names(store: &Store, dir: NodeNo, low: Option<&Name>, most: usize, names: &mut NameRoom)
     requires { IsRoomFor most names.old }
@@ -98,7 +88,7 @@ fn put_names(store: &Store, dir: NodeNo, low: Option<&Name>, most: usize, names:
         if left == 0 {
             return;
         }
-        put_name(names, entry.0);
+        names.push_reserved(entry.0);
         left -= 1;
         next = store.next_entry_after(entry.1);
     }

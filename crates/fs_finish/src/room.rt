@@ -80,9 +80,6 @@ impl ByteRoom {
     }
 }
 
-/// The most bytes that a name takes up in a list: as many as it can have, and a slash.
-pub const NAME_TEXT: usize = 256;
-
 /// What a call has made room for.
 #[derive(Drop)]
 pub enum Room {
@@ -228,9 +225,8 @@ fn lists(alloc: Global, memory: &mut Memory, count: usize) -> Result<Room, Alloc
     ensures granted { OnOk result (memory.new ≡ memory.old) }
     ensures refused { OnErr result (memory.new ≢ memory.old) }
 {
-    let bytes = count * NAME_TEXT;
-    let one = NameRoom::new(alloc, memory, bytes)?;
-    let other = NameRoom::new(alloc, memory, bytes)?;
+    let one = NameRoom::for_names(alloc, memory, count)?;
+    let other = NameRoom::for_names(alloc, memory, count)?;
     Ok(Room::Lists(one, other))
 }
 

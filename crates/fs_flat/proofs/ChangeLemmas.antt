@@ -18,7 +18,7 @@ use Rattle.fs_calls.specs.declared.call.Call.TheVariants as calls
 use Rattle.fs_calls.specs.declared.errno.Errno.{Errno}
 use Rattle.fs_calls.specs.declared.reply.Reply.{Reply}
 use Rattle.fs_calls.proofs.LookLemmas.{sorted-inserted, sorted-removed, sorted-from_list}
-use Rattle.fs_seq.specs.Rows.{node_of_kind}
+use Rattle.fs_rows.specs.Rows.{node_of_kind}
 use Rattle.fs_flat.specs.code.Cells.{without_key, moved_cell, swapped_cell, is_failed}
 
 -- to insert is to put
@@ -109,7 +109,7 @@ change_any limits t (calls.Rename p q) = refl
 change_any limits t (calls.Exchange p q) = refl
 change_any limits t (calls.Stat p) = refl
 change_any limits t (calls.Readdir p) = refl
-change_any limits t (calls.ListAfter p after count) = refl
+change_any limits t (calls.ListAfter count p after) = refl
 change_any limits t (calls.Read p off count) = refl
 change_any limits t (calls.Write p off bytes) = refl
 change_any limits t (calls.Truncate p size) = refl

@@ -7,8 +7,8 @@ use Rattle.fs_names.specs.declared.kind.Kind.TheVariants as kind
 use Rattle.fs_calls.specs.Replies.{same_kind}
 use Rattle.fs_calls.specs.declared.reply.Reply.TheVariants.{Bytes}
 use Rattle.fs_calls.proofs.LookLemmas.{same_key_exact}
-use Rattle.fs_seq.specs.Rows.{row_of, node_of_kind}
-use Rattle.fs_seq.specs.declared.rows.Row.{Row}
+use Rattle.fs_rows.specs.Rows.{row_of, node_of_kind}
+use Rattle.fs_rows.specs.declared.rows.Row.{Row}
 use Rattle.fs_timeline.proofs.ReplyLemmas.{same_reply_exact}
 
 bytes_exact : (xs ys : List ℕ) → same_bytes xs ys ≡ true → xs ≡ ys

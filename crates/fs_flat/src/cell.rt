@@ -3,7 +3,7 @@
 ghost use Rattle.std.specs.Prelude.{◌≡◌, true, IfOk};
 ghost use Rattle.fs_calls.specs.Replies.{same_kind};
 ghost use Rattle.fs_names.specs.Names.{same_bytes};
-ghost use Rattle.fs_seq.specs.Rows.{row_of};
+ghost use Rattle.fs_rows.specs.Rows.{row_of};
 ghost use Rattle.fs_flat.specs.code.Cells.{kind_of, bytes_at};
 
 use crate::keys::same_key;
@@ -23,7 +23,7 @@ impl Model for Cell {
     ghost use Rattle.std.specs.Rc.{rc_value};
     ghost use Rattle.fs_names.specs.Keys.{Key};
     ghost use Rattle.fs_calls.specs.Tree.{Node};
-    ghost use Rattle.fs_seq.specs.Rows.{row_of};
+    ghost use Rattle.fs_rows.specs.Rows.{row_of};
 
     ghost Value = { Key × Node };
 

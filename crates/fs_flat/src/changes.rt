@@ -9,7 +9,7 @@ ghost use Rattle.fs_calls.specs.Forms as forms;
 ghost use Rattle.fs_calls.specs.Rows.{written, resized, new_bytes};
 ghost use Rattle.fs_calls.specs.Sights.{tree_shapes, bytes_of, is_same};
 ghost use Rattle.fs_calls.specs.Outcomes.{change, filled};
-ghost use Rattle.fs_seq.specs.Rows.{node_of_kind};
+ghost use Rattle.fs_rows.specs.Rows.{node_of_kind};
 ghost use Rattle.fs_flat.specs.code.Cells.{without_key, below_key, beside_key, moved_cell, swapped_cell};
 
 use crate::cell::Cell;

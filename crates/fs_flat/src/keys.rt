@@ -4,8 +4,8 @@ ghost use Rattle.std.specs.Prelude.{◌≡◌, ◌≤◌, ◌++◌, length, is_s
 ghost use Rattle.fs_names.specs.Keys.{after_prefix, parent_of, same_key};
 ghost use Rattle.fs_calls.specs.Tree.{name_in};
 
+use fs_names::order::compare_keys;
 use fs_names::{Name, Path};
-use fs_seq::rows::compare;
 use std::alloc::{AllocError, Global};
 use std::cmp::Ordering;
 
@@ -95,5 +95,5 @@ pub(crate) fn parent(key: &[Name]) -> &[Name]
 pub(crate) fn same_key(key: &[Name], other: &[Name]) -> bool
     ensures { result ≡ same_key key.now other.now }
 {
-    compare(key, other) == Ordering::Equal
+    compare_keys(key, other) == Ordering::Equal
 }

@@ -118,7 +118,7 @@ pub(crate) fn success(
             Ok(status(cells, &key))
         }
         Call::Readdir(path) => Ok(Reply::Names(listed(alloc, &names_at(alloc, cells, path)?)?)),
-        Call::ListAfter(path, after, count) => {
+        Call::ListAfter(count, path, after) => {
             let names = piece(alloc, cells, path, after, *count)?;
             Ok(Reply::Names(listed(alloc, &names)?))
         }

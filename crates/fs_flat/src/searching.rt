@@ -12,7 +12,7 @@ ghost use Rattle.fs_flat.specs.code.Cells.{Searches, IsRange, node_in, without_k
 use crate::cell::Cell;
 use crate::keys::is_prefix;
 use fs_names::Name;
-use fs_seq::rows::compare;
+use fs_names::order::compare_keys;
 use std::cmp::Ordering;
 
 /// Where a key stands among the entries, or where it belongs.
@@ -20,7 +20,7 @@ pub(crate) fn search(cells: &[Cell], key: &[Name]) -> Result<usize, usize>
     requires { IsTrue (is_sorted key_cmp cells.now) }
     ensures { Searches cells.now key.now result }
 {
-    cells.binary_search_by(|cell| compare(cell.key(), key))
+    cells.binary_search_by(|cell| compare_keys(cell.key(), key))
 }
 
 /// The entries before a key, and those behind it.
@@ -44,7 +44,7 @@ fn count_before(cells: &[Cell], key: &[Name]) -> usize
     ensures before { AllWithin (λ (c : Key × Node). is_lt (key_cmp c.0 key.now) ≡ true) cells.now 0 result }
     ensures behind { AllWithin (λ (c : Key × Node). is_lt (key_cmp c.0 key.now) ≡ false) cells.now result (length cells.now) }
 {
-    cells.partition_point(|cell| compare(cell.key(), key).is_lt())
+    cells.partition_point(|cell| compare_keys(cell.key(), key).is_lt())
 }
 
 /// How many of the first entries are at a key or below it, where none is before it.
@@ -106,7 +106,7 @@ pub(crate) fn find<'a>(cells: &'a [Cell], key: &[Name]) -> Option<&'a Cell>
 pub(crate) fn is_below(cell: &Cell, other: &Cell) -> bool
     ensures { result ≡ true → key_cmp cell.now.0 other.now.0 ≡ Ordering.Less }
 {
-    compare(cell.key(), other.key()) == Ordering::Less
+    compare_keys(cell.key(), other.key()) == Ordering::Less
 }
 
 /// Whether the keys were found to rise.

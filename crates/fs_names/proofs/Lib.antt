@@ -11,3 +11,4 @@ pub mod WrittenLemmas
 pub mod LimitLemmas
 pub mod HeadLemmas
 pub mod PaddedLemmas
+pub mod KeyOrder

@@ -2,7 +2,9 @@
 
 ghost use Rattle.std.specs.Prelude.{◌≡◌, ◌≢◌, ◌≤◌, ◌<◌, ◌+◌, ◌++◌, ◌∷◌, [], MatchOption, IfSome, IfOk, OnOk, OnErr, length, vec_len, vec_capacity};
 ghost use Rattle.fs_names.specs.Names.{IsName, same_names};
+ghost use Rattle.fs_names.specs.Rooms.{IsRoomFor};
 
+use crate::limits::LIST_LIMIT;
 use crate::name::Name;
 use crate::scan::{after_slashes, cut_name};
 use fs_memory::Memory;
@@ -66,6 +68,9 @@ impl<'a> Model for Names<'a> {
     ghost invariant = { λ n. AllByRecursion IsName (names n.text.now) };
 }
 
+/// The most bytes that a name takes up in a list: as many as it can have, and a slash.
+pub const NAME_TEXT: usize = 256;
+
 /// Appends a slash and a name to a text that has room for them.
 fn append(text: &mut Vec<u8>, name: &Name)
     requires room { vec_len text.old + length name.now + 1 ≤ vec_capacity text.old }
@@ -91,13 +96,39 @@ impl NameRoom {
         Ok(NameRoom { text })
     }
 
+    /// No names, and room for so many, of any length.
+    pub fn for_names(
+        alloc: Global,
+        memory: &mut Memory,
+        count: usize,
+    ) -> Result<NameRoom, AllocError>
+        requires { count ≤ LIST_LIMIT }
+        ensures ok { IfOk result (IsRoomFor count) }
+        ensures some { OnErr result (0 < count) }
+        ensures granted { OnOk result (memory.new ≡ memory.old) }
+        ensures refused { OnErr result (memory.new ≢ memory.old) }
+    {
+        NameRoom::new(alloc, memory, count * NAME_TEXT)
+    }
+
     /// One name more, for which there is room.
-    pub fn push_reserved(&mut self, name: &Name)
+    fn put(&mut self, name: &Name)
         requires { length name.now + 1 ≤ self.old.room }
         ensures names { self.new.names ≡ self.old.names ++ name.now ∷ [] }
         ensures room { self.old.room ≤ self.new.room + length name.now + 1 }
     {
         append(&mut self.text, name);
+    }
+
+    /// One name more, where there is room for one of any length.
+    pub fn push_reserved(&mut self, name: &Name)
+        requires { NAME_TEXT ≤ self.old.room }
+        ensures names { self.new.names ≡ self.old.names ++ name.now ∷ [] }
+        ensures room { self.old.room ≤ self.new.room + NAME_TEXT }
+    {
+        // A name has no more than 255 bytes.
+        let _ = name.bytes();
+        self.put(name);
     }
 
     /// One name more. After an error the names are as before.
@@ -106,7 +137,7 @@ impl NameRoom {
         ensures err { OnErr result (self.new.names ≡ self.old.names) }
     {
         self.text.reserve(name.bytes().len() + 1)?;
-        self.push_reserved(name);
+        self.put(name);
         Ok(())
     }
 

@@ -1,6 +1,7 @@
 //! How names stand to each other: eight bytes of them are compared as one number.
 
 ghost use Rattle.std.specs.Prelude.{◌≡◌, ◌≤◌, length, take};
+ghost use Rattle.fs_names.specs.Keys.{key_cmp};
 ghost use Rattle.fs_names.specs.Names.{name_cmp};
 ghost use Rattle.fs_names.specs.Heads.{IsHead};
 
@@ -66,4 +67,18 @@ impl Name {
         }
         cmp_behind(self, other)
     }
+}
+
+/// How a key stands to another in the order of the entries of a tree: name by name, so that a directory comes before what is
+/// below it.
+pub fn compare_keys(key: &[Name], other: &[Name]) -> Ordering
+    ensures { result ≡ key_cmp key.now other.now }
+{
+    for i in 0..key.len().min(other.len()) {
+        let order = key[i].cmp(&other[i]);
+        if order != Ordering::Equal {
+            return order;
+        }
+    }
+    key.len().cmp(&other.len())
 }

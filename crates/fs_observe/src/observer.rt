@@ -222,10 +222,10 @@ impl<'a, N: Named> Observer<'a, N> {
         count: u32,
     ) -> Result<Reply, AllocError>
         ensures kept { IfOk result (λ r. GoesOn self.old self.new) }
-        ensures reply { IfOk result (λ r. r ≡ reply_at (next_start self.new.start self.new.list) (Call.ListAfter path.now after.now count)) }
+        ensures reply { IfOk result (λ r. r ≡ reply_at (next_start self.new.start self.new.list) (Call.ListAfter count path.now after.now)) }
         ensures err { OnErr result (self.new ≡ self.old) }
     {
-        let call = Call::ListAfter(path.copy()?, after.copy()?, count);
+        let call = Call::ListAfter(count, path.copy()?, after.copy()?);
         self.look(alloc, &call)
     }
 

@@ -328,7 +328,7 @@ impl Store {
         self.swap_file(file, content);
     }
 
-    /// The same of bytes that others share: a whole block of the file shares them too.
+    /// The same of bytes that others share: blocks of the file may share them too (`Piece` of fs_blocks).
     pub fn take(&mut self, file: NodeNo, off: usize, bytes: &Arc<Vec<u8>>, spare: Spare)
         requires file { IsTrue (is_file (shape self.old file)) }
         requires form { IsTrue (seen self.old).in_blocks }

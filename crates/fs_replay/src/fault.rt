@@ -14,7 +14,7 @@ pub enum ReplayFault {
     #[error("{0}")]
     Run(RunFault),
     /// Fewer calls commit than are asked for.
-    #[error("fewer than {0} calls commit")]
+    #[error("the run has no commit {0}")]
     NoCommit(u64),
     /// No call has this place among those of its thread, or it does not commit.
     #[error("there is no such call, or it does not commit")]

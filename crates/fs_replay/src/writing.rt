@@ -3,7 +3,7 @@
 ghost use Rattle.std.specs.Prelude.{◌≡◌, ◌++◌, ◌∷◌, IfOk, OnOk, map};
 ghost use Rattle.std.specs.List.{flat_map, join_with_byte};
 ghost use Rattle.fs_words.specs.Words.{path_word, escaped};
-ghost use Rattle.fs_seq.specs.Rows.{key_of, node_of_kind, row_of};
+ghost use Rattle.fs_rows.specs.Rows.{key_of, node_of_kind, row_of};
 ghost use Rattle.fs_script.specs.TreeText.{node_line, node_words, tree_text};
 ghost use Rattle.fs_replay.specs.Texts.{nobody_line, who_line};
 

@@ -14,8 +14,8 @@ use Rattle.fs_calls.proofs.TreeLaws.{played_trees_are_trees}
 use Rattle.fs_calls.specs.Starts.{Start}
 use Rattle.fs_calls.specs.Sights.{has_any}
 use Rattle.fs_timeline.specs.declared.entry.Entry.{Entry}
-use Rattle.fs_seq.specs.declared.rows.Row.{Row}
-use Rattle.fs_seq.specs.Rows.{row_of, fits, is_first, is_dirs, misfit, misfit_from, node_of_kind, IsWithinLimits}
+use Rattle.fs_rows.specs.declared.rows.Row.{Row}
+use Rattle.fs_rows.specs.Rows.{row_of, fits, is_first, is_dirs, misfit, misfit_from, node_of_kind, IsWithinLimits}
 use Rattle.fs_words.specs.Lines.{is_passed_over}
 use Rattle.fs_words.specs.Reading.{◌>>=◌, fault_at}
 use Rattle.fs_words.specs.declared.fault.ScriptFault.{ScriptFault}

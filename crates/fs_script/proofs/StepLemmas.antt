@@ -20,7 +20,7 @@ use Rattle.fs_script.specs.TreeText.{node_line, tree_text}
 use Rattle.fs_script.specs.code.Walks.{number_or, links, place_of, forest_of, node_seen, WalkPlace, key_above, Leads, IsLast, links_above, pending, pending_at, text_at, Goes, Steps, visited, row_text, IsUp, at_root}
 use Rattle.fs_script.specs.declared.tree.Step.{Step}
 use Rattle.fs_script.proofs.ForestLemmas.{place_in, named_child, store_forest}
-use Rattle.fs_seq.proofs.RisingLemmas.{walked_rows}
+use Rattle.fs_rows.proofs.RisingLemmas.{walked_rows}
 use Rattle.fs_script.proofs.PendingLemmas.{down, up, no_more, leads_down, leads_up, led, behind_all}
 
 -- ---- links

@@ -72,7 +72,7 @@ pub record ScriptsRead : Type 0 where
   pub empty_script : script "schedule\n" ≡ Ok (record { names = []; lists = []; words = []; limits = V1 })
   pub second_version : script_of (codes "atomfs 2\nschedule\n") ≡ Ok (record { names = []; lists = []; words = []; limits = V2 })
   pub third_version : script_of (codes "atomfs 3\nthread t\nlist /d /d/x 3\nlist / / 256\nschedule\n")
-      ≡ Ok (record { names = codes "t" ∷ []; lists = (ListAfter (at "/d") (at "/d/x") 3 ∷ ListAfter [] [] 256 ∷ []) ∷ []; words = []; limits = V3 })
+      ≡ Ok (record { names = codes "t" ∷ []; lists = (ListAfter 3 (at "/d") (at "/d/x") ∷ ListAfter 256 [] [] ∷ []) ∷ []; words = []; limits = V3 })
   pub first_mkdir : script "thread t\nmkdir /a\nschedule\nt*5\n"
       ≡ Ok (record { names = codes "t" ∷ []; lists = (Mkdir (at "/a") ∷ []) ∷ []; words = Events 0 5 ∷ []; limits = V1 })
   pub helped_mkdir : script "thread m\nmkdir /a\nmkdir /a/d\nmkdir /a/d/x\nthread r\nrename /a /b\nschedule\nm*18 r*6 m*3\n"
@@ -118,7 +118,7 @@ pub record JournalTexts : Type 0 where
   pub from_a_directory : journal_text (record { limits = V1; tree = play (root_start V1) (Mkdir (at "/a") ∷ []) }) (Begin 1 0 (Mkdir (at "/a/b")) ∷ Commit 1 ∷ Return 1 Done ∷ [])
       ≡ codes "atomfs-journal 2\nstart\ndir /\ndir /a\nentries\nbegin 1 0 mkdir /a/b\ncommit 1\nreturn 1 ok\n"
   pub by_the_second : journal_text (root_start V2) (Begin 1 0 (Mkdir (at "/a")) ∷ Commit 1 ∷ Return 1 Done ∷ []) ≡ codes "atomfs-journal 3\nstart\ndir /\nentries\nbegin 1 0 mkdir /a\ncommit 1\nreturn 1 ok\n"
-  pub by_the_third : journal_text (root_start V3) (Begin 1 0 (ListAfter (at "/") (at "/x") 2) ∷ Commit 1 ∷ Return 1 (Names (codes "y" ∷ [])) ∷ []) ≡ codes "atomfs-journal 4\nstart\ndir /\nentries\nbegin 1 0 list / /x 2\ncommit 1\nreturn 1 names y\n"
+  pub by_the_third : journal_text (root_start V3) (Begin 1 0 (ListAfter 2 (at "/") (at "/x")) ∷ Commit 1 ∷ Return 1 (Names (codes "y" ∷ [])) ∷ []) ≡ codes "atomfs-journal 4\nstart\ndir /\nentries\nbegin 1 0 list / /x 2\ncommit 1\nreturn 1 names y\n"
   pub from_a_file : journal_text small_start [] ≡ codes "atomfs-journal 2\nstart\ndir /\ndir /a\nfile /a/f 6869\ndir /b%20c\nentries\n"
 
 -- the lines behind the header of a journal that tells its start tree, read; and the fault of a line of that
@@ -160,7 +160,7 @@ pub record JournalsRead : Type 0 where
   pub root_alone : started "start\ndir /\nentries" ≡ Ok (root_start V1, [])
   pub first_version : journal_of (codes "atomfs-journal 1\ncommit 1\n") ≡ Ok (root_start V1, Commit 1 ∷ [])
   pub third_version : journal_of (codes "atomfs-journal 3\nstart\ndir /\nentries\ncommit 1\n") ≡ Ok (root_start V2, Commit 1 ∷ [])
-  pub fourth_version : journal_of (codes "atomfs-journal 4\nstart\ndir /\nentries\nbegin 1 0 list / /x 2\ncommit 1\n") ≡ Ok (root_start V3, Begin 1 0 (ListAfter [] (at "/x") 2) ∷ Commit 1 ∷ [])
+  pub fourth_version : journal_of (codes "atomfs-journal 4\nstart\ndir /\nentries\nbegin 1 0 list / /x 2\ncommit 1\n") ≡ Ok (root_start V3, Begin 1 0 (ListAfter 2 [] (at "/x")) ∷ Commit 1 ∷ [])
   pub small : started "\nstart\n# a\ndir /\ndir /a\n\nfile /a/f 6869\ndir /b%20c\nentries\n\ncommit 1\ntree\nno  entry" ≡ Ok (small_start, Commit 1 ∷ [])
 
 pub record TreeTexts : Type 0 where

@@ -1,7 +1,7 @@
 //! Trees that are read from their text.
 
 ghost use Rattle.std.specs.Prelude.{◌≡◌, IfOk};
-ghost use Rattle.fs_seq.specs.Rows.{IsWithinLimits};
+ghost use Rattle.fs_rows.specs.Rows.{IsWithinLimits};
 ghost use Rattle.fs_words.specs.code.Answers.{GivesText};
 ghost use Rattle.fs_script.specs.Journals.{by_limits, journal_of, line_end, nodes_journal, start_of, start_read, tree_of};
 

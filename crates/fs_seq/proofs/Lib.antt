@@ -7,13 +7,6 @@ pub mod Rewiring
 pub mod Swapping
 pub mod ExchangeFaults
 pub mod Exchanged
-pub mod RisingLemmas
-pub mod Walked
-pub mod Appended
-pub mod KeyOrder
-pub mod Listed
-pub mod Fitting
-pub mod GraphMade
 pub mod GraphCut
 pub mod GraphFilled
 pub mod Spots

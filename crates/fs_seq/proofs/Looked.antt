@@ -1,7 +1,7 @@
 -- What the calls on one path answer, by what stands there.
 use Rattle.std.proofs.lemmas.Bool.Decides.{nat_tests}
 use Rattle.std.specs.Prelude.{nat_lt}
-use Rattle.std.proofs.Common.{◌≡◌, ℕ, zero, suc, Bool, true, false, Option, ◌≤◌, ◌<◌, ◌*◌, ◌++◌, get_or, arith, List, [], ◌∷◌, length, take, map, Some, None, refl, sym, ap, ◌∙◌}
+use Rattle.std.proofs.Common.{◌≡◌, ℕ, zero, suc, Bool, true, false, Option, ◌≤◌, ◌<◌, ◌++◌, get_or, arith, List, [], ◌∷◌, length, take, map, Some, None, refl, sym, ap, ◌∙◌}
 use Rattle.fs_names.specs.Keys.{Key}
 use Rattle.fs_names.specs.declared.limits.Limits.{Limits}
 use Rattle.fs_slab.specs.declared.nodes.Link.{Link}
@@ -70,10 +70,10 @@ all_told None (Some (Dir names)) h = few (nat_lt LIST_LIMIT (length names)) refl
 
 -- ---- names of links, one by one
 
--- where their room is asked for there is one
-pub some_named : (links : List Link) (room : ℕ) → 0 < length links * room → has_any (map (λ l. l.0) (pairs links)) ≡ true
-some_named [] room h = absurd (omega arith)
-some_named (l ∷ links) room h = refl
+-- where room for their names is asked for there is one
+pub some_named : (links : List Link) → 0 < length links → has_any (map (λ l. l.0) (pairs links)) ≡ true
+some_named [] h = absurd (omega arith)
+some_named (l ∷ links) h = refl
 
 -- one name more
 pub names_next : (links : List Link) (i : ℕ) (l : Link) → i < length links → l ≡ get_or links i l → map (λ k. k.0) (pairs (take (suc i) links)) ≡ map (λ k. k.0) (pairs (take i links)) ++ l.name ∷ []

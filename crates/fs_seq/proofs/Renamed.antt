@@ -12,9 +12,9 @@ use Rattle.fs_calls.specs.Forms.{AtPair, by_text}
 use Rattle.fs_calls.specs.Forms as pairs
 use Rattle.fs_calls.specs.Outcomes.{change}
 use Rattle.fs_seq.specs.Memory.{needs_memory}
-use Rattle.fs_slab.specs.code.Slots.{Dir, Slots, place_at, node_of, links_of, links_at, walk, node_at, tree_of, IsForest, Sets}
+use Rattle.fs_slab.specs.code.Slots.{Dir, Slots, place_at, node_of, links_of, links_at, walk, node_at, tree_of, IsForest, Sets, KeepsForm}
 use Rattle.fs_slab.specs.code.Nodes.{without, IsNameAt, IsTaken, IsFree, IsAt}
-use Rattle.fs_seq.specs.code.Effects.{AnswersWithin, HasFaultBy, KeepsForm}
+use Rattle.fs_seq.specs.code.Effects.{AnswersWithin, HasFaultBy}
 use Rattle.fs_seq.specs.code.Renaming.{Moves, Plans, Displaces, Transfers}
 use Rattle.fs_slab.specs.declared.nodes.Entry.{Entry}
 use Rattle.fs_seq.specs.declared.rename.Plan.{Plan}
@@ -31,7 +31,8 @@ use Rattle.fs_seq.proofs.Rewiring.{Crosses, Turns, Rewires, which, crossed, turn
 use Rattle.fs_seq.proofs.LinkEdits.{set_in_place, set_then_removed}
 use Rattle.fs_seq.proofs.RenameFaults.{new_named, taken_walk, free_walk}
 use Rattle.fs_seq.proofs.Spots.{has_names}
-use Rattle.fs_seq.proofs.KeptForms.{form_edit, form_displaced, form_transferred}
+use Rattle.fs_seq.proofs.KeptForms.{form_displaced, form_transferred}
+use Rattle.fs_slab.proofs.FormLemmas.{form_edit}
 use Rattle.fs_seq.proofs.Replies.{works, fails, answers, needs}
 
 -- ---- replies

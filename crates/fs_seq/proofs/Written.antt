@@ -19,9 +19,9 @@ use Rattle.fs_calls.specs.Rows.{node_fault, node_reply, new_bytes, node_row, ans
 use Rattle.fs_calls.proofs.RowNames.{on_dir}
 use Rattle.fs_seq.specs.Memory.{needs_memory}
 use Rattle.fs_slab.specs.declared.nodes.Node.{Node}
-use Rattle.fs_slab.specs.code.Slots.{Place, Dir, File, shape_of, walk, tree_of, IsForest, HasForm}
+use Rattle.fs_slab.specs.code.Slots.{Place, Dir, File, shape_of, walk, tree_of, IsForest, HasForm, KeepsForm}
 use Rattle.fs_slab.specs.code.Nodes.{place, graph}
-use Rattle.fs_seq.specs.code.Effects.{AnswersWithin, KeepsForm, Rewrites, refilled}
+use Rattle.fs_seq.specs.code.Effects.{AnswersWithin, Rewrites, refilled}
 use Rattle.fs_slab.proofs.NodeLemmas.{place_got}
 use Rattle.fs_slab.proofs.SlabLemmas.{sets_value, same_graph}
 use Rattle.fs_slab.proofs.FormLemmas.{form_set}

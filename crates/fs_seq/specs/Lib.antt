@@ -1,5 +1,3 @@
 pub mod Memory
 pub mod Looks
-pub mod Rows
-pub mod Laws
 pub mod code

@@ -2,5 +2,3 @@
 pub mod Effects
 pub mod Renaming
 pub mod Exchanging
-pub mod Walks
-pub mod Added

@@ -1,51 +1,22 @@
 //! The calls that make a node.
 
-ghost use Rattle.std.specs.Prelude.{◌≡◌, ◌≢◌, ◌≤◌, Some, None, [], length, IfOk, OnOk, OnErr, IsTrue};
+ghost use Rattle.std.specs.Prelude.{◌≡◌, ◌≢◌, Some, None, [], IfOk, OnOk, OnErr, IsTrue};
 ghost use Rattle.fs_names.specs.Limits.{in_blocks};
 ghost use Rattle.fs_calls.specs.Tree.{inserted};
-ghost use Rattle.fs_slab.specs.code.Nodes.{graph, place};
-ghost use Rattle.fs_slab.specs.code.Slots.{IsForest, HasForm, place_at, links_at, links_of, tree_of, Dir as IsDir};
+ghost use Rattle.fs_slab.specs.code.Nodes.{graph, place, tree_node};
+ghost use Rattle.fs_slab.specs.code.Slots.{IsForest, HasForm, KeepsForm, links_of, tree_of};
 ghost use Rattle.fs_seq.specs.Memory.{needs_memory};
-ghost use Rattle.fs_seq.specs.code.Effects.{AnswersWithin, Attaches, FindsGap, Gives, KeepsForm, making_fault, tree_node};
+ghost use Rattle.fs_seq.specs.code.Effects.{AnswersWithin, FindsGap, Gives, making_fault};
 
 use fs_blocks::File;
 use fs_calls::path_errors::root_error;
 use fs_calls::{Call, EntryCall, Errno, Reply};
 use fs_memory::Memory;
-use fs_names::{Limits, Name, Path};
-use fs_slab::nodes::{add_link, look_up};
-use fs_slab::{HeldName, Link, Node};
+use fs_names::{Limits, Path};
+use fs_slab::Node;
+use fs_slab::nodes::{attach, look_up};
 use slab::Slab;
 use std::alloc::{AllocError, Global};
-
-/// Adds a node, and an entry for it to a directory at a place.
-pub fn attach(
-    alloc: Global,
-    memory: &mut Memory,
-    nodes: &mut Slab<Node>,
-    dir: usize,
-    i: usize,
-    name: &Name,
-    node: Node,
-) -> Result<(), AllocError>
-    requires directory { place_at (graph nodes.old) dir ≡ Some (IsDir (links_at (graph nodes.old) dir)) }
-    requires within { i ≤ length (links_at (graph nodes.old) dir) }
-    ensures ok { OnOk result (Attaches (graph nodes.old) (graph nodes.new) dir i name.now (place node)) }
-    ensures err { OnErr result (graph nodes.new ≡ graph nodes.old) }
-    ensures granted { OnOk result (memory.new ≡ memory.old) }
-    ensures refused { OnErr result (memory.new ≢ memory.old) }
-{
-    memory.reserve_keys(nodes, 1)?;
-    let number = nodes.vacant_key();
-    let held = HeldName::new(alloc, memory, name)?;
-    let link = Link {
-        name: held,
-        node: number,
-    };
-    add_link(memory, nodes, dir, i, link)?;
-    nodes.insert_reserved(node);
-    Ok(())
-}
 
 /// Where a new entry belongs, or why there can be none: the number of its directory and the place among the entries.
 fn gap(nodes: &Slab<Node>, path: &Path, limits: Limits) -> Result<(usize, usize), Errno>

@@ -1,6 +1,6 @@
 //! The calls that change nothing: what stands at a path.
 
-ghost use Rattle.std.specs.Prelude.{◌≡◌, ◌≢◌, ◌≤◌, ◌+◌, ◌++◌, ◌∷◌, [], length, Some, MatchResult, IfOk, OnOk, OnErr, IsTrue, min, map, take, drop};
+ghost use Rattle.std.specs.Prelude.{◌≡◌, ◌≢◌, ◌≤◌, length, Some, MatchResult, IfOk, OnOk, OnErr, IsTrue, min, map, take, drop};
 ghost use Rattle.std.specs.FinMap.{is_sorted};
 ghost use Rattle.fs_names.specs.Names.{name_cmp, names_above};
 ghost use Rattle.fs_names.specs.Keys.{last_of};
@@ -16,7 +16,7 @@ ghost use Rattle.fs_seq.specs.code.Effects.{IsFound, NeedsMemory, node_error};
 
 use fs_calls::{Bytes, Call, Errno, NameList, NodeCall, Reply};
 use fs_memory::Memory;
-use fs_names::{Kind, LIST_LIMIT, Limits, Name, NameRoom, Path};
+use fs_names::{Kind, LIST_LIMIT, Limits, NameRoom, Path};
 use fs_slab::nodes::{above, resolve};
 use fs_slab::{Link, Node};
 use slab::Slab;
@@ -52,19 +52,6 @@ pub fn stat(nodes: &Slab<Node>, path: &Path) -> Reply
     }
 }
 
-/// How many bytes of room a name may take, whatever it is.
-const NAME_ROOM: usize = 256;
-
-/// Adds a name to a list that has room for any one.
-fn push_name(names: &mut NameRoom, name: &Name)
-    requires { NAME_ROOM ≤ names.old.room }
-    ensures names { names.new.names ≡ names.old.names ++ name.now ∷ [] }
-    ensures room { names.old.room ≤ names.new.room + NAME_ROOM }
-{
-    let _it_is_short = name.bytes();
-    names.push_reserved(name);
-}
-
 /// The names of links, no more than a call answers, in their order.
 fn names_of(alloc: Global, memory: &mut Memory, links: &[Link]) -> Result<NameList, AllocError>
     requires { length links.now ≤ LIST_LIMIT }
@@ -73,9 +60,9 @@ fn names_of(alloc: Global, memory: &mut Memory, links: &[Link]) -> Result<NameLi
     ensures granted { OnOk result (memory.new ≡ memory.old) }
     ensures refused { OnErr result (memory.new ≢ memory.old) }
 {
-    let mut names = NameRoom::new(alloc, memory, links.len() * NAME_ROOM)?;
+    let mut names = NameRoom::for_names(alloc, memory, links.len())?;
     for link in links {
-        push_name(&mut names, link.name.name());
+        names.push_reserved(link.name.name());
     }
     Ok(names.into_list())
 }
@@ -123,8 +110,8 @@ pub fn list(
     count: u32,
 ) -> Result<Reply, AllocError>
     requires { IsForest (graph nodes.now) }
-    ensures reply { IfOk result (λ r. (limits : Limits) → r ≡ reply limits (tree_of (graph nodes.now)) (Call.ListAfter path.now after.now count)) }
-    ensures memory { OnErr result (NeedsMemory (tree_of (graph nodes.now)) (Call.ListAfter path.now after.now count)) }
+    ensures reply { IfOk result (λ r. (limits : Limits) → r ≡ reply limits (tree_of (graph nodes.now)) (Call.ListAfter count path.now after.now)) }
+    ensures memory { OnErr result (NeedsMemory (tree_of (graph nodes.now)) (Call.ListAfter count path.now after.now)) }
     ensures granted { OnOk result (memory.new ≡ memory.old) }
     ensures refused { OnErr result (memory.new ≢ memory.old) }
 {

@@ -6,15 +6,15 @@ ghost use Rattle.fs_calls.specs.Tree.{IsTree};
 ghost use Rattle.fs_calls.specs.Outcomes.{reply_at, called};
 ghost use Rattle.fs_seq.specs.Memory.{needs_memory};
 ghost use Rattle.fs_seq.specs.Looks.{is_look};
-ghost use Rattle.fs_seq.specs.Rows.{misfit, row_of, is_plain};
+ghost use Rattle.fs_rows.specs.Rows.{misfit, row_of, is_plain};
 ghost use Rattle.std.specs.List.{list_all};
 
-use crate::from_rows::{self, NotTree};
-use crate::rows::{self, Row};
 use crate::{create, exchange, queries, remove, rename, write};
 use fs_calls::{Call, Data, Reply};
 use fs_memory::Memory;
 use fs_names::{Limits, Path};
+use fs_rows::from_rows::{self, NotTree};
+use fs_rows::rows::{self, Row};
 use fs_slab::{Node, copying};
 use slab::Slab;
 use std::alloc::{AllocError, Global};
@@ -187,7 +187,7 @@ impl SeqTree {
         match call {
             Call::Stat(path) => Ok(self.stat(path)),
             Call::Readdir(path) => self.readdir(alloc, memory, path),
-            Call::ListAfter(path, after, count) => self.list(alloc, memory, path, after, *count),
+            Call::ListAfter(count, path, after) => self.list(alloc, memory, path, after, *count),
             Call::Read(path, off, count) => self.read(alloc, memory, path, *off, *count),
             Call::Mkdir(_) | Call::Mknod(_) | Call::Unlink(_) | Call::Rmdir(_) => unreachable!(),
             Call::Rename(_, _) | Call::Exchange(_, _) => unreachable!(),
@@ -288,8 +288,8 @@ impl SeqTree {
         after: &Path,
         count: u32,
     ) -> Result<Reply, AllocError>
-        ensures reply { IfOk result (λ r. r ≡ reply_at self.now (Call.ListAfter path.now after.now count)) }
-        ensures memory { OnErr result (IsTrue (needs_memory self.now.limits self.now.tree (Call.ListAfter path.now after.now count))) }
+        ensures reply { IfOk result (λ r. r ≡ reply_at self.now (Call.ListAfter count path.now after.now)) }
+        ensures memory { OnErr result (IsTrue (needs_memory self.now.limits self.now.tree (Call.ListAfter count path.now after.now))) }
         ensures granted { OnOk result (memory.new ≡ memory.old) }
         ensures refused { OnErr result (memory.new ≢ memory.old) }
     {

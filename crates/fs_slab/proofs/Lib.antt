@@ -1,5 +1,6 @@
 pub mod GraphLemmas
 pub mod Edits
+pub mod GraphMade
 pub mod SearchLemmas
 pub mod Resolving
 pub mod NodeLemmas

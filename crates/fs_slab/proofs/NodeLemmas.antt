@@ -10,7 +10,7 @@ use Rattle.fs_slab.specs.declared.nodes.Link.{Link}
 use Rattle.fs_slab.specs.declared.nodes.Node.{Node}
 use Rattle.fs_slab.specs.declared.nodes.Node.TheVariants as nodes
 use Rattle.fs_slab.specs.code.Slots.{Place, Dir, File, Slots, place_at, links_of, node_of, links_at, child, node_at}
-use Rattle.fs_slab.specs.code.Nodes.{verdict, pairs, place, slot_place, graph, number_of, name_of, IsNameAt, BelongsAt}
+use Rattle.fs_slab.specs.code.Nodes.{verdict, pairs, place, tree_node, slot_place, graph, number_of, name_of, IsNameAt, BelongsAt}
 
 -- the place of a number is that of its slot
 pub place_of_slot : (slots : List (Option Node)) (n : ℕ) → place_at (map slot_place slots) n ≡ slot_place (get_or slots n None)
@@ -23,6 +23,11 @@ place_of_slot (s ∷ slots) (suc n) = place_of_slot slots n
 -- the place of a node that was read
 pub place_got : (s : Slab Node) (n : ℕ) (node : Node) → get s n ≡ Some node → place_at (graph s) n ≡ Some (place node)
 place_got s n node e = place_of_slot s.slots n ∙ ap slot_place e
+
+-- what a node is in a tree is what its place is
+pub node_place : (node : Node) → node_of (Some (place node)) ≡ Some (tree_node node)
+node_place (nodes.Dir links) = refl
+node_place (nodes.File file) = refl
 
 -- the place of a free slot
 pub place_missing : (s : Slab Node) (n : ℕ) → get s n ≡ None → place_at (graph s) n ≡ None

@@ -1,14 +1,14 @@
 -- What becomes of the graph when a node of the slab is written, added or removed.
-use Rattle.std.proofs.Common.{◌≡◌, ◌≢◌, ℕ, zero, suc, List, [], ◌∷◌, map, get_or, Some, None, Option, refl, sym, ap, ◌∙◌}
+use Rattle.std.proofs.Common.{◌≡◌, ◌≢◌, ℕ, zero, suc, List, [], ◌∷◌, map, get_or, Some, None, Option, refl, sym, ap, subst, ◌∙◌}
 use Rattle.std.specs.Prelude.{insert, remove, slice_set}
 use Rattle.slab.specs.Slab.{Slab, get, with_value, Updates}
 use Rattle.fs_blocks.specs.Files.{FileValue}
 use Rattle.fs_names.specs.Names.{Name}
 use Rattle.fs_slab.specs.declared.nodes.Link.{Link}
 use Rattle.fs_slab.specs.declared.nodes.Node.{Node}
-use Rattle.fs_slab.specs.code.Slots.{Place, Dir, File, place_at, links_at, Sets}
+use Rattle.fs_slab.specs.code.Slots.{Place, Dir, File, place_at, links_at, Sets, Attaches}
 use Rattle.fs_slab.specs.code.Nodes.{pair, pairs, place, slot_place, graph}
-use Rattle.fs_slab.proofs.NodeLemmas.{place_of_slot, place_got, links_got}
+use Rattle.fs_slab.proofs.NodeLemmas.{place_of_slot, place_got, place_missing, links_got}
 
 -- a slot that was written
 slot_here : (slots : List (Option Node)) (n : ℕ) (old node : Node) → get_or slots n None ≡ Some old → get_or (slice_set slots n (Some node)) n None ≡ Some node
@@ -76,3 +76,14 @@ links_read s n node links e f = links_got (graph s) n _ (place_got s n node e �
 pub dir_not_file : (s : Slab Node) (n : ℕ) (node : Node) (links : List (Name × ℕ)) (file : FileValue) → place_at (graph s) n ≡ Some (Dir links) → get s n ≡ Some node → place node ≡ File file → ⊥
 dir_not_file s n node links file at e f =
     let other : Some (Dir links) ≡ Some (File file) = sym at ∙ place_got s n node e ∙ ap (λ z. Some z) f in cc
+
+-- an entry and then a node are added, both under a number that was free
+pub attaches : (s0 s1 s2 s3 : Slab Node) (dir i key : ℕ) (x y : Name) (node : Node) → graph s1 ≡ graph s0 → get s1 key ≡ None → y ≡ x → Sets (graph s1) (graph s2) dir (Some (Dir (insert (links_at (graph s1) dir) i (y, key)))) → Updates s2 s3 key (Some node)
+    → Attaches (graph s0) (graph s3) dir i x (place node)
+attaches s0 s1 s2 s3 dir i key x y node same free named linking adding = record {
+  number = key;
+  between = graph s2;
+  free = ap (λ g. place_at g key) (sym same) ∙ place_missing s1 key free;
+  linking = subst (λ g. Sets g (graph s2) dir (Some (Dir (insert (links_at g dir) i (x, key))))) same (subst (λ z. Sets (graph s1) (graph s2) dir (Some (Dir (insert (links_at (graph s1) dir) i (z, key))))) named linking);
+  adding = sets_slot s2 s3 key (Some node) adding;
+}

@@ -4,10 +4,10 @@
 //! `nodes::look_up` finds the entry at a path, or the place where it belongs; the errors are those of `fs_calls`. Entries
 //! come and go one at a time, and all else stays. `copying` makes the same nodes again; files in blocks then share these.
 //!
-//! Enter at `Node`. What calls do to the nodes, and that they stay a tree, is `fs_seq`, and no crate above that names these
-//! functions. The definitions serve the code, and are in `specs/code/`: `Slots` says which tree the places under numbers
-//! spell, what they keep (`IsForest`), and whether all files are in one form (`HaveForm`); `Nodes` which places the nodes of
-//! a slab are, and what is found in them.
+//! Enter at `Node`. What calls do to the nodes, and that they stay a tree, is `fs_seq`, and trees as rows are `fs_rows`; no
+//! crate above them names these functions. The definitions serve the code, and are in `specs/code/`: `Slots` says which
+//! tree the places under numbers spell, what they keep (`IsForest`), and whether all files are in one form (`HaveForm`);
+//! `Nodes` which places the nodes of a slab are, and what is found in them.
 #![tactic(auto)]
 
 pub mod copying;

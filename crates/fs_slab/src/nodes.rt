@@ -7,7 +7,7 @@ ghost use Rattle.fs_names.specs.Names.{name_cmp, names_above};
 ghost use Rattle.fs_calls.specs.Sights.{bytes_of};
 ghost use Rattle.fs_calls.specs.code.Seen.{sight};
 ghost use Rattle.fs_slab.specs.code.Nodes.{pair, pairs, place, graph, Searches, Steps, Resolves, LooksUp, number_there, shape_there, place_there, entry_there, full_there};
-ghost use Rattle.fs_slab.specs.code.Slots.{IsForest, Sets, place_at, links_at, links_of, shape_at, shape_of, Dir as IsDir};
+ghost use Rattle.fs_slab.specs.code.Slots.{IsForest, Sets, Attaches, place_at, links_at, links_of, shape_at, shape_of, Dir as IsDir};
 
 use crate::held_name::HeldName;
 use fs_blocks::File;
@@ -17,7 +17,7 @@ use fs_calls::{Errno, Sight};
 use fs_memory::Memory;
 use fs_names::{Name, Path};
 use slab::Slab;
-use std::alloc::AllocError;
+use std::alloc::{AllocError, Global};
 
 /// An entry of a directory: its name, and the number of its node.
 #[derive(Drop)]
@@ -255,6 +255,35 @@ pub fn add_link(
         Node::Dir(links) => insert_link(memory, links, i, link),
         Node::File(_) => Ok(()),
     }
+}
+
+/// Adds a node, and an entry for it to a directory at a place.
+pub fn attach(
+    alloc: Global,
+    memory: &mut Memory,
+    nodes: &mut Slab<Node>,
+    dir: usize,
+    i: usize,
+    name: &Name,
+    node: Node,
+) -> Result<(), AllocError>
+    requires directory { place_at (graph nodes.old) dir ≡ Some (IsDir (links_at (graph nodes.old) dir)) }
+    requires within { i ≤ length (links_at (graph nodes.old) dir) }
+    ensures ok { OnOk result (Attaches (graph nodes.old) (graph nodes.new) dir i name.now (place node)) }
+    ensures err { OnErr result (graph nodes.new ≡ graph nodes.old) }
+    ensures granted { OnOk result (memory.new ≡ memory.old) }
+    ensures refused { OnErr result (memory.new ≢ memory.old) }
+{
+    memory.reserve_keys(nodes, 1)?;
+    let number = nodes.vacant_key();
+    let held = HeldName::new(alloc, memory, name)?;
+    let link = Link {
+        name: held,
+        node: number,
+    };
+    add_link(memory, nodes, dir, i, link)?;
+    nodes.insert_reserved(node);
+    Ok(())
 }
 
 /// Takes the entry at a place out of a directory.

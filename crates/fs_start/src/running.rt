@@ -4,7 +4,7 @@ ghost use Rattle.std.specs.Prelude.{◌≡◌, ◌≢◌, ◌⊎◌, ◌+◌, �
 ghost use Rattle.std.specs.Io.KnownBytes.{Appends, IsAtEnd};
 ghost use Rattle.fs_names.specs.Limits.{node_limit};
 ghost use Rattle.fs_calls.specs.Starts.{Start};
-ghost use Rattle.fs_seq.specs.Rows.{IsWithinLimits};
+ghost use Rattle.fs_rows.specs.Rows.{IsWithinLimits};
 ghost use Rattle.fs_words.specs.Lines.{lines_of};
 ghost use Rattle.fs_words.specs.declared.fault.ScriptFault.{ScriptFault};
 ghost use Rattle.fs_script.specs.Script.{script_of};

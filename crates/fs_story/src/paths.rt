@@ -94,7 +94,7 @@ pub(crate) fn paths_of(call: &Call) -> (&Path, &Path) {
         | Call::Rmdir(path)
         | Call::Stat(path)
         | Call::Readdir(path)
-        | Call::ListAfter(path, _, _)
+        | Call::ListAfter(_, path, _)
         | Call::Read(path, _, _)
         | Call::Write(path, _, _)
         | Call::Truncate(path, _) => (path, path),

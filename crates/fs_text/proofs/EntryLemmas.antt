@@ -85,7 +85,7 @@ call_again limits (call.Rename p q) h = rw (path_read limits p h.0, path_read li
 call_again limits (call.Exchange p q) h = rw (path_read limits p h.0, path_read limits q h.1) refl
 call_again limits (call.Stat p) h = ap (λ r. r >>= λ key. Ok (call.Stat key)) (path_read limits p h)
 call_again limits (call.Readdir p) h = ap (λ r. r >>= λ key. Ok (call.Readdir key)) (path_read limits p h)
-call_again limits (call.ListAfter p after count) h =
+call_again limits (call.ListAfter count p after) h =
     ap (λ o. formed_call limits o (path_word p ∷ path_word after ∷ decimal count ∷ [])) (list_formed limits h.3)
     ∙ rw (path_read limits p h.0, path_read limits after h.1, count_read count h.2) refl
 call_again limits (call.Read p off count) h = rw (path_read limits p h.0, number_read off h.1, number_read count h.2) refl
@@ -154,7 +154,7 @@ form_again limits (call.Rename p q) h = refl
 form_again limits (call.Exchange p q) h = refl
 form_again limits (call.Stat p) h = refl
 form_again limits (call.Readdir p) h = refl
-form_again limits (call.ListAfter p after count) h = ap (λ o. is_formed o (path_word p ∷ path_word after ∷ decimal count ∷ [])) (list_formed limits h.3)
+form_again limits (call.ListAfter count p after) h = ap (λ o. is_formed o (path_word p ∷ path_word after ∷ decimal count ∷ [])) (list_formed limits h.3)
 form_again limits (call.Read p off count) h = refl
 form_again limits (call.Write p off file) h = refl
 form_again limits (call.Truncate p size) h = refl
@@ -196,7 +196,7 @@ call_good limits (call.Rename p q) h = (literal (codes "rename") (search rules) 
 call_good limits (call.Exchange p q) h = (literal (codes "exchange") (search rules) (search rules), (IsWord_path p, (IsWord_path q, tt)))
 call_good limits (call.Stat p) h = (literal (codes "stat") (search rules) (search rules), (IsWord_path p, tt))
 call_good limits (call.Readdir p) h = (literal (codes "readdir") (search rules) (search rules), (IsWord_path p, tt))
-call_good limits (call.ListAfter p after count) h = (literal (codes "list") (search rules) (search rules), (IsWord_path p, (IsWord_path after, (IsWord_decimal count (wide count h.2), tt))))
+call_good limits (call.ListAfter count p after) h = (literal (codes "list") (search rules) (search rules), (IsWord_path p, (IsWord_path after, (IsWord_decimal count (wide count h.2), tt))))
 call_good limits (call.Read p off count) h = (literal (codes "read") (search rules) (search rules), (IsWord_path p, (IsWord_decimal off h.1, (IsWord_decimal count h.2, tt))))
 call_good limits (call.Write p off file) h = (literal (codes "write") (search rules) (search rules), (IsWord_path p, (IsWord_decimal off h.1, (IsWord_hex file h.2, tt))))
 call_good limits (call.Truncate p size) h = (literal (codes "truncate") (search rules) (search rules), (IsWord_path p, (IsWord_decimal size h.1, tt)))

@@ -53,7 +53,7 @@ module _ (limits : Limits) where
   abbrev Takes : CallForm → Type 0
   Takes (one_path make) = (p : Key) → Short p → Shorts (make p)
   Takes (two_paths make) = (p q : Key) → Short p → Short q → Shorts (make p q)
-  Takes (paths_and_count make) = (p q : Key) (n : ℕ) → Short p → Short q → Shorts (make p q n)
+  Takes (paths_and_count make) = (p q : Key) (n : ℕ) → Short p → Short q → Shorts (make n p q)
   Takes (a_number make) = (p : Key) (n : ℕ) → Short p → Shorts (make p n)
   Takes (two_numbers make) = (p : Key) (m n : ℕ) → Short p → Shorts (make p m n)
   Takes (number_and_bytes make) = (p : Key) (n : ℕ) (bytes : List ℕ) → Short p → Shorts (make p n bytes)

@@ -33,7 +33,7 @@ module _ (more limits : Limits) where
   short_call (call.Exchange p q) h s = (short_path p h.0 s.0, short_path q h.1 s.1)
   short_call (call.Stat p) h s = short_path p h s
   short_call (call.Readdir p) h s = short_path p h s
-  short_call (call.ListAfter p after count) h s = (short_path p h.0 s.0, short_path after h.1 s.1, h.2, s.2)
+  short_call (call.ListAfter count p after) h s = (short_path p h.0 s.0, short_path after h.1 s.1, h.2, s.2)
   short_call (call.Read p off count) h s = (short_path p h.0 s, h.1, h.2)
   short_call (call.Write p off bytes) h s = (short_path p h.0 s, h.1, h.2)
   short_call (call.Truncate p size) h s = (short_path p h.0 s, h.1)

@@ -23,7 +23,7 @@ call_words (Rename p q) = codes "rename" ∷ path_word p ∷ path_word q ∷ []
 call_words (Exchange p q) = codes "exchange" ∷ path_word p ∷ path_word q ∷ []
 call_words (Stat p) = codes "stat" ∷ path_word p ∷ []
 call_words (Readdir p) = codes "readdir" ∷ path_word p ∷ []
-call_words (ListAfter p after count) = codes "list" ∷ path_word p ∷ path_word after ∷ decimal count ∷ []
+call_words (ListAfter count p after) = codes "list" ∷ path_word p ∷ path_word after ∷ decimal count ∷ []
 call_words (Read p off count) = codes "read" ∷ path_word p ∷ decimal off ∷ decimal count ∷ []
 call_words (Write p off bytes) = codes "write" ∷ path_word p ∷ decimal off ∷ hex_word bytes ∷ []
 call_words (Truncate p size) = codes "truncate" ∷ path_word p ∷ decimal size ∷ []
@@ -34,7 +34,7 @@ call_words (Truncate p size) = codes "truncate" ∷ path_word p ∷ decimal size
 pub data CallForm : Type 0 where
   one_path : (Key → Call) → CallForm
   two_paths : (Key → Key → Call) → CallForm
-  paths_and_count : (Key → Key → ℕ → Call) → CallForm
+  paths_and_count : (ℕ → Key → Key → Call) → CallForm
   a_number : (Key → ℕ → Call) → CallForm
   two_numbers : (Key → ℕ → ℕ → Call) → CallForm
   number_and_bytes : (Key → ℕ → List ℕ → Call) → CallForm
@@ -123,7 +123,7 @@ number_and_bytes_of limits _ = Err kind.BadLine
 abbrev pub arguments_at : Limits → CallForm → List Word → Result Call FaultKind
 arguments_at limits (one_path make) words = one_path_of limits words >>= λ key. Ok (make key)
 arguments_at limits (two_paths make) words = two_paths_of limits words >>= λ both. Ok (make both.0 both.1)
-arguments_at limits (paths_and_count make) words = paths_and_count_of limits words >>= λ found. Ok (make found.0 found.1 found.2)
+arguments_at limits (paths_and_count make) words = paths_and_count_of limits words >>= λ found. Ok (make found.2 found.0 found.1)
 arguments_at limits (a_number make) words = a_number_of limits words >>= λ found. Ok (make found.0 found.1)
 arguments_at limits (two_numbers make) words = two_numbers_of limits words >>= λ found. Ok (make found.0 found.1 found.2)
 arguments_at limits (number_and_bytes make) words = number_and_bytes_of limits words >>= λ found. Ok (make found.0 found.1 found.2)

@@ -65,7 +65,7 @@ pub record TextsWritten : Type 0 where
   pub ends_of_escapes : escaped (0 ∷ 32 ∷ 33 ∷ 126 ∷ 127 ∷ []) ≡ codes "%00%20!~%7F"
   pub names : entry_line (Return 3 (answer.Names (codes "b" ∷ codes "a b" ∷ []))) ≡ codes "return 3 names b a%20b\n"
   pub root : entry_line (Begin 9 2 (Rename [] (at "/a/b"))) ≡ codes "begin 9 2 rename / /a/b\n"
-  pub list : entry_line (Begin 9 2 (ListAfter (at "/a") (at "/a/b") 256)) ≡ codes "begin 9 2 list /a /a/b 256\n"
+  pub list : entry_line (Begin 9 2 (ListAfter 256 (at "/a") (at "/a/b"))) ≡ codes "begin 9 2 list /a /a/b 256\n"
   pub bytes : entry_line (Begin 1 0 (Write (at "/f") 9 (10 ∷ 255 ∷ []))) ≡ codes "begin 1 0 write /f 9 0aff\n"
 
 pub record NumbersRead : Type 0 where

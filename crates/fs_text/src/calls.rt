@@ -170,7 +170,7 @@ fn list_at<'a>(
         Err(kind) => return Err(kind),
     };
     match count_at(count) {
-        Ok(count) => Ok(Call::ListAfter(path, after, count)),
+        Ok(count) => Ok(Call::ListAfter(count, path, after)),
         Err(kind) => Err(kind),
     }
 }

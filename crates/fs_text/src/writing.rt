@@ -63,7 +63,7 @@ fn push_call(alloc: Global, call: &Call, line: &mut Addition) -> Result<(), Allo
         Call::Exchange(path, other) => push_with_paths(alloc, b"exchange ", path, other, line),
         Call::Stat(path) => push_with_path(alloc, b"stat ", path, line),
         Call::Readdir(path) => push_with_path(alloc, b"readdir ", path, line),
-        Call::ListAfter(path, after, count) => push_list(alloc, path, after, *count, line),
+        Call::ListAfter(count, path, after) => push_list(alloc, path, after, *count, line),
         Call::Read(path, off, count) => push_read(alloc, path, *off, *count, line),
         Call::Write(path, off, bytes) => push_write(alloc, path, *off, bytes.as_slice(), line),
         Call::Truncate(path, size) => {
@@ -80,8 +80,8 @@ fn push_list(
     count: u32,
     line: &mut Addition,
 ) -> Result<(), AllocError>
-    ensures ok { OnOk result (line.new.added ≡ line.old.added ++ join_with_byte 32 (call_words (ListAfter path.now after.now count))) }
-    ensures fits { OnOk result (FitsCall largest (ListAfter path.now after.now count)) }
+    ensures ok { OnOk result (line.new.added ≡ line.old.added ++ join_with_byte 32 (call_words (ListAfter count path.now after.now))) }
+    ensures fits { OnOk result (FitsCall largest (ListAfter count path.now after.now)) }
     ensures before { line.new.before ≡ line.old.before }
 {
     push_with_paths(alloc, b"list ", path, after, line)?;

@@ -35,7 +35,7 @@ NamesCall Q L (Rename p q) = Q p × Q q
 NamesCall Q L (Exchange p q) = Q p × Q q
 NamesCall Q L (Stat p) = Q p
 NamesCall Q L (Readdir p) = Q p
-NamesCall Q L (ListAfter p after count) = Q p × Q after × L
+NamesCall Q L (ListAfter count p after) = Q p × Q after × L
 NamesCall Q L (Read p off count) = Q p
 NamesCall Q L (Write p off bytes) = Q p
 NamesCall Q L (Truncate p size) = Q p
@@ -150,7 +150,7 @@ module _ (P : Name → Type 0) (Q : Key → Type 0) (L : Type 0) (named : (k : K
   change_kept limits t (Exchange p q) h g = either_kept (is_same p q) t (exchanged t p q) h (exchanged_kept t p q h (named p g.0) (named q g.1))
   change_kept limits t (Stat p) h g = h
   change_kept limits t (Readdir p) h g = h
-  change_kept limits t (ListAfter p after count) h g = h
+  change_kept limits t (ListAfter count p after) h g = h
   change_kept limits t (Read p off count) h g = h
   change_kept limits t (Write p off bytes) h g =
       elim (has_any bytes) as (λ b. NamesTree P (filled t p (cond {A = Option (List ℕ)} b (Some (written (bytes_of (tree_shapes t p)) off bytes)) None))) [
@@ -215,7 +215,7 @@ module _ (P : Name → Type 0) (Q : Key → Type 0) (L : Type 0) (named : (k : K
   success_kept limits t (Exchange p q) h = tt
   success_kept limits t (Stat p) h = status_kept (tree_shapes t p)
   success_kept limits t (Readdir p) h = shape_kept t p (look t p) h
-  success_kept limits t (ListAfter p after count) h = take_kept _ _ (names_kept _ _ (shape_kept t p (look t p) h))
+  success_kept limits t (ListAfter count p after) h = take_kept _ _ (names_kept _ _ (shape_kept t p (look t p) h))
   success_kept limits t (Read p off count) h = tt
   success_kept limits t (Write p off bytes) h = tt
   success_kept limits t (Truncate p size) h = tt

@@ -1,6 +1,5 @@
 -- The bytes of a block.
 use Rattle.std.specs.Prelude.{ℕ, List, []}
-use Rattle.std.specs.Arc.{arc_value}
 use Rattle.fs_blocks.specs.declared.block.Form.{Form}
 use Rattle.fs_blocks.specs.declared.block.Form.TheVariants.{Hole, Own, Shared}
 
@@ -8,4 +7,4 @@ use Rattle.fs_blocks.specs.declared.block.Form.TheVariants.{Hole, Own, Shared}
 abbrev pub bytes_in : Form → List ℕ
 bytes_in Hole = []
 bytes_in (Own own) = own.items
-bytes_in (Shared shared) = (arc_value shared).items
+bytes_in (Shared shared) = shared

@@ -1,12 +1,11 @@
 -- What the functions on nodes answer and leave.
-use Rattle.std.specs.Prelude.{◌≡◌, ℕ, length, List, [], insert, remove, ◌<◌, Option, Some, None, Result, Ok, Err, if◌then◌else◌, IsTrue}
+use Rattle.std.specs.Prelude.{◌≡◌, ℕ, length, List, [], remove, ◌<◌, Option, Some, None, Result, Ok, Err, if◌then◌else◌, IsTrue}
 use Rattle.std.specs.FinMap.{is_sorted}
-use Rattle.fs_names.specs.Names.{Name, name_cmp}
+use Rattle.fs_names.specs.Names.{name_cmp}
 use Rattle.fs_names.specs.Keys.{Key, is_root, parent_of, last_of}
-use Rattle.fs_names.specs.Limits.{entry_limit, in_blocks}
+use Rattle.fs_names.specs.Limits.{entry_limit}
 use Rattle.fs_names.specs.Failures.{check, or_else}
 use Rattle.fs_names.specs.declared.limits.Limits.{Limits}
-use Rattle.fs_calls.specs.Tree as tree
 use Rattle.fs_calls.specs.Tree.{Tree}
 use Rattle.fs_calls.specs.Sights.{tree_shapes, has_any}
 use Rattle.fs_calls.specs.Outcomes.{fault, resolution, parents_resolution, reply, after, replied, if_sound}
@@ -16,19 +15,13 @@ use Rattle.fs_calls.specs.declared.target.EntryCall.{EntryCall}
 use Rattle.fs_calls.specs.declared.target.EntryCall.TheVariants.{Mkdir, Mknod, Unlink, Rmdir}
 use Rattle.fs_calls.specs.Rows.{entry_fault, node_fault, node_row, written}
 use Rattle.fs_seq.specs.Memory.{needs_memory}
-use Rattle.fs_slab.specs.code.Slots.{Place, Dir, File, Slots, place_at, links_at, links_of, shape_of, walk, tree_of, IsForest, HaveForm, Sets}
+use Rattle.fs_slab.specs.code.Slots.{Place, Dir, File, Slots, place_at, links_at, links_of, shape_of, walk, tree_of, IsForest, KeepsForm, Sets}
 use Rattle.fs_slab.specs.code.Nodes.{BelongsAt, IsTaken}
-use Rattle.fs_slab.specs.declared.nodes.Node.{Node}
-use Rattle.fs_slab.specs.declared.nodes.Node.TheVariants as nodes
 use Rattle.fs_calls.specs.declared.call.Call.{Call}
 use Rattle.fs_calls.specs.declared.call.Call.TheVariants as calls
 use Rattle.fs_calls.specs.declared.reply.Reply.{Reply}
 use Rattle.fs_calls.specs.declared.errno.Errno.{Errno}
 use Rattle.fs_calls.specs.declared.errno.Errno.TheVariants.{Eexist}
-
--- files stay in the form of these limits
-abbrev pub KeepsForm : Limits → Slots → Slots → Type 0
-KeepsForm limits g g' = HaveForm (in_blocks limits) g → HaveForm (in_blocks limits) g'
 
 -- a call's reply, and the graph that it leaves, by its errors, its reply without one and the tree that it then makes
 pub record Gives (g g' : Slots) (found : Option Errno) (well : Reply) (new : Tree) (r : Reply) : Type 0 where
@@ -62,11 +55,6 @@ HasFaultBy limits t call o = fault limits t call ≡ o
 abbrev pub NeedsMemory : Tree → Call → Type 0
 NeedsMemory t call = (limits : Limits) → IsTrue (needs_memory limits t call)
 
--- what a node is in a tree
-abbrev pub tree_node : Node → tree.Node
-tree_node (nodes.Dir links) = tree.Dir
-tree_node (nodes.File file) = tree.File file.bytes
-
 -- the call that does this to the entry at a path
 abbrev pub call_on : EntryCall → Key → Call
 call_on Mkdir p = calls.Mkdir p
@@ -90,14 +78,6 @@ pub record IsGap (limits : Limits) (g : Slots) (p : Key) (dir i : ℕ) : Type 0 
 abbrev pub FindsGap : Limits → Slots → Key → Result (ℕ × ℕ) Errno → Type 0
 FindsGap limits g p (Ok at) = IsGap limits g p at.0 at.1
 FindsGap limits g p (Err e) = making_fault limits (tree_of g) p ≡ Some e
-
--- a new place under a number that had none, and an entry for it
-pub record Attaches (g g' : Slots) (dir i : ℕ) (x : Name) (new : Place) : Type 0 where
-  pub number : ℕ
-  pub between : Slots
-  pub free : place_at g number ≡ None
-  pub linking : Sets g between dir (Some (Dir (insert (links_at g dir) i (x, number))))
-  pub adding : Sets between g' number (Some new)
 
 -- an entry without entries of its own, which a call removes
 pub record IsVictim (g : Slots) (call : Call) (p : Key) (dir i n : ℕ) : Type 0 where

@@ -32,6 +32,11 @@ abbrev pub place : Node → Place
 place (Dir links) = places.Dir (pairs links.items)
 place (File file) = places.File file
 
+-- what a node is in a tree
+abbrev pub tree_node : Node → trees.Node
+tree_node (Dir links) = trees.Dir
+tree_node (File file) = trees.File file.bytes
+
 -- the place of a slot
 abbrev pub slot_place : Option Node → Option Place
 slot_place None = None

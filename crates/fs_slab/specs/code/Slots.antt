@@ -1,10 +1,12 @@
 -- Places under numbers, and the tree that they spell.
-use Rattle.std.specs.Prelude.{◌≡◌, ◌≢◌, ℕ, zero, suc, Bool, true, List, [], ◌∷◌, length, map, Option, Some, None, is_some, slice_index_or, option_and_then, IsTrue}
+use Rattle.std.specs.Prelude.{◌≡◌, ◌≢◌, ℕ, zero, suc, Bool, true, List, [], ◌∷◌, length, map, Option, Some, None, is_some, slice_index_or, option_and_then, insert, IsTrue}
 use Rattle.std.specs.List.{flat_map}
 use Rattle.std.specs.FinMap.{find, is_sorted}
 use Rattle.fs_blocks.specs.Files.{FileValue}
 use Rattle.fs_names.specs.Names.{Name, name_cmp}
 use Rattle.fs_names.specs.Keys.{Key}
+use Rattle.fs_names.specs.Limits.{in_blocks}
+use Rattle.fs_names.specs.declared.limits.Limits.{Limits}
 use Rattle.fs_calls.specs.Tree.{Node, Dir as IsDir, File as IsFile, Tree, from_list}
 use Rattle.fs_calls.specs.Sights.{Shape}
 use Rattle.fs_calls.specs.Sights as shapes
@@ -103,6 +105,14 @@ pub record Sets (g g' : Slots) (n : ℕ) (o : Option Place) : Type 0 where
   pub here : place_at g' n ≡ o
   pub elsewhere : (j : ℕ) → j ≢ n → place_at g' j ≡ place_at g j
 
+-- a new place under a number that had none, and an entry for it
+pub record Attaches (g g' : Slots) (dir i : ℕ) (x : Name) (new : Place) : Type 0 where
+  pub number : ℕ
+  pub between : Slots
+  pub free : place_at g number ≡ None
+  pub linking : Sets g between dir (Some (Dir (insert (links_at g dir) i (x, number))))
+  pub adding : Sets between g' number (Some new)
+
 -- a file is in blocks, or it is not; of a directory and of no place that says nothing
 abbrev pub HasForm : Bool → Option Place → Type 0
 HasForm in_blocks None = Unit
@@ -112,3 +122,7 @@ HasForm in_blocks (Some (File file)) = file.in_blocks ≡ in_blocks
 -- so are all files of a graph
 pub record HaveForm (in_blocks : Bool) (g : Slots) : Type 0 where
   pub each : (n : ℕ) → HasForm in_blocks (place_at g n)
+
+-- files stay in the form of these limits
+abbrev pub KeepsForm : Limits → Slots → Slots → Type 0
+KeepsForm limits g g' = HaveForm (in_blocks limits) g → HaveForm (in_blocks limits) g'

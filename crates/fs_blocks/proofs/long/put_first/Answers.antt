@@ -5,4 +5,4 @@ use Rattle.fs_blocks.proofs.long.put_first.Goals as goal
 
 pub returns-clause-bytes : goal.returns-clause-bytes
 returns-clause-bytes c =
-    subst (λ (xs : List ℕ). Puts (byte_of_block c.args.first.now) (byte_of_block xs) c.args.off c.args.bytes.now) (sym c.write.ensures.bytes) (Puts-written c.args.first.now c.args.off c.args.bytes.now)
+    subst (λ (xs : List ℕ). Puts (byte_of_block c.args.first.now) (byte_of_block xs) c.args.off c.args.bytes) (sym c.write.ensures.bytes) (Puts-written c.args.first.now c.args.off c.args.bytes)

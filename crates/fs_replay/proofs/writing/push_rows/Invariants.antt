@@ -1,6 +1,6 @@
 use Rattle.std.proofs.Common.{◌≡◌, ◌++◌, take, map}
 use Rattle.std.specs.List.{flat_map}
-use Rattle.fs_seq.specs.Rows.{row_of}
+use Rattle.fs_rows.specs.Rows.{row_of}
 use Rattle.fs_script.specs.TreeText.{node_line}
 use Rattle.fs_replay.proofs.writing.push_rows.Given as goal
 

@@ -18,20 +18,20 @@ names_of-requires c = c.piece.ensures.most
 pub returns-in-Err-clause-reply : goal.returns-in-Err-clause-reply
 returns-in-Err-clause-reply c limits =
     let p = c.args.path.now in
-    failed_reply limits (ListAfter p c.args.after.now c.args.count) (forms.ListAfter c.args.after.now c.args.count) p refl (tree_of (graph c.args.nodes.now)) c.in-Err.errno c.in-Err.ensures
+    failed_reply limits (ListAfter c.args.count p c.args.after.now) (forms.ListAfter c.args.after.now c.args.count) p refl (tree_of (graph c.args.nodes.now)) c.in-Err.errno c.in-Err.ensures
 
 pub returns-in_ok-names-in-Ok-clause-reply : goal.returns-in_ok-names-in-Ok-clause-reply
 returns-in_ok-names-in-Ok-clause-reply c limits =
     let p = c.args.path.now in
     let told = λ (names : List Name). take (min c.args.count LIST_LIMIT) (names_above (last_of c.args.after.now) names) in
     ap replies.Names (c.in_ok-names-in-Ok.ensures.ok ∙ c.piece.ensures.names ∙ ap told (ap (map (λ l. l.0)) c.links.ensures ∙ link_names (place c.in-Ok.node.now)))
-    ∙ found_reply limits (ListAfter p c.args.after.now c.args.count) (forms.ListAfter c.args.after.now c.args.count) p refl (tree_of (graph c.args.nodes.now)) _ c.in-Ok.ensures
+    ∙ found_reply limits (ListAfter c.args.count p c.args.after.now) (forms.ListAfter c.args.after.now c.args.count) p refl (tree_of (graph c.args.nodes.now)) _ c.in-Ok.ensures
 
 pub returns-in_err-names-in-Ok-clause-memory : goal.returns-in_err-names-in-Ok-clause-memory
 returns-in_err-names-in-Ok-clause-memory c =
     let p = c.args.path.now in
     let t = tree_of (graph c.args.nodes.now) in
     let told = λ (names : List Name). take (min c.args.count LIST_LIMIT) (names_above (last_of c.args.after.now) names) in
-    on_err c.from_residual.result (λ limits. needs limits t (ListAfter p c.args.after.now c.args.count)
-    (looking_fault limits (ListAfter p c.args.after.now c.args.count) (forms.ListAfter c.args.after.now c.args.count) p refl t ∙ c.in-Ok.ensures.sound)
+    on_err c.from_residual.result (λ limits. needs limits t (ListAfter c.args.count p c.args.after.now)
+    (looking_fault limits (ListAfter c.args.count p c.args.after.now) (forms.ListAfter c.args.after.now c.args.count) p refl t ∙ c.in-Ok.ensures.sound)
     (ap has_any (ap told (ap names_of c.in-Ok.ensures.shape ∙ sym (link_names (place c.in-Ok.node.now)) ∙ sym (ap (map (λ l. l.0)) c.links.ensures)) ∙ sym c.piece.ensures.names) ∙ c.in_err-names-in-Ok.ensures.memory))

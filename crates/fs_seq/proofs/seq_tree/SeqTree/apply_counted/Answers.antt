@@ -14,7 +14,7 @@ asked limits t call look is same = ap (after limits t) is ∙ leaves limits t lo
 -- a call that asks, as the arm knows it
 abbrev IsAsked : Call → Type 0
 IsAsked call =
-    ((p : Key) × (call ≡ Stat p)) ⊎ (((p : Key) × (call ≡ Readdir p)) ⊎ (((p : Key) × (after : Key) × (count : ℕ) × (call ≡ ListAfter p after count)) ⊎ ((p : Key) × (off : ℕ) × (count : ℕ) × (call ≡ Read p off count))))
+    ((p : Key) × (call ≡ Stat p)) ⊎ (((p : Key) × (call ≡ Readdir p)) ⊎ (((count : ℕ) × (p : Key) × (after : Key) × (call ≡ ListAfter count p after)) ⊎ ((p : Key) × (off : ℕ) × (count : ℕ) × (call ≡ Read p off count))))
 
 looked : (limits : Limits) (t : Tree) (call : Call) → IsAsked call → after limits t call ≡ t
 looked limits t call h =

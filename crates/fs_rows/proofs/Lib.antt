@@ -1,0 +1,5 @@
+pub mod RisingLemmas
+pub mod Walked
+pub mod Appended
+pub mod Listed
+pub mod Fitting

@@ -1,0 +1,10 @@
+//! What holds of the definitions. Each function's contract is a law, and its body is empty.
+
+ghost use Rattle.fs_rows.specs.Laws.{FittingRowsAreTrees};
+
+/// Rows of which each one fits behind those before it are the entries of a tree within the limits of entries and bytes, where
+/// no directory has bytes, and there are no other such lists of rows. So the first row that does not fit is the first that
+/// no such tree has there.
+pub fn fitting_rows_are_trees()
+    ensures { FittingRowsAreTrees }
+{}
