@@ -103,7 +103,7 @@ class Replays(Case):
         for place, tree in enumerate(commits.trees):
             self.same(f"--at {place}\n{given.decode()}", run(given, "tree", "--at", str(place), *words), Outcome(0, tree))
         count = len(commits.calls) + 1
-        self.same(f"--at {count}\n{given.decode()}", run(given, "tree", "--at", str(count), *words), Outcome(2, b"", f"atomfs: fewer than {count} calls commit\n".encode()))
+        self.same(f"--at {count}\n{given.decode()}", run(given, "tree", "--at", str(count), *words), Outcome(2, b"", f"atomfs: the run has no commit {count}\n".encode()))
         for _, who, _ in commits.calls:
             self.same(f"--before {who}\n{given.decode()}", run(given, "tree", "--before", who, *words), Outcome(0, commits.before(who)))
         for who in uncommitted:
@@ -160,7 +160,7 @@ class Rows(Case):
             # The tree before the fault is what is asked about.
             ("--at 1", WRONG, Outcome(1, TWO, FAULT)),
             ("--at 0", WRONG, Outcome(1, ONE, FAULT)),
-            ("--at 2", WRONG, Outcome(2, b"", b"atomfs: fewer than 2 calls commit\n")),
+            ("--at 2", WRONG, Outcome(2, b"", b"atomfs: the run has no commit 2\n")),
             ("--before 0#1", WRONG, Outcome(1, ONE, FAULT)),
             ("--before 5#1", WRONG, Outcome(2, b"", NO_CALL)),
             ("--who /a", WRONG, Outcome(1, b"commit 1 call 1 0#1 mkdir /a\n", FAULT)),
@@ -183,7 +183,7 @@ class Rows(Case):
             # Of a run in pieces the last one is asked about, in which calls are counted from 1 again.
             ("--at 0", PIECES, Outcome(0, TWO)),
             ("--at 1", PIECES, Outcome(0, BOTH)),
-            ("--at 2", PIECES, Outcome(2, b"", b"atomfs: fewer than 2 calls commit\n")),
+            ("--at 2", PIECES, Outcome(2, b"", b"atomfs: the run has no commit 2\n")),
             ("--before m#1", PIECES, Outcome(0, TWO)),
             ("--who /a", PIECES, Outcome(1, b"nobody\n")),
             ("--who /b", PIECES, Outcome(0, b"commit 1 call 1 m#1 mkdir /b\n")),
