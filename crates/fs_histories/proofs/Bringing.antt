@@ -9,8 +9,9 @@ use Rattle.fs_calls.specs.declared.call.Call.{Call}
 use Rattle.fs_calls.proofs.TreeLaws.{stays_a_tree}
 use Rattle.fs_timeline.specs.Timeline.{commits}
 use Rattle.fs_timeline.specs.declared.entry.Entry.{Entry}
+use Rattle.fs_linearizable.specs.Linearizable.{history}
 use Rattle.fs_histories.specs.declared.heard.Heard.{Heard}
-use Rattle.fs_histories.specs.Histories.{without_commits, FitsIn, ExplainsFront}
+use Rattle.fs_histories.specs.Histories.{FitsIn, ExplainsFront}
 use Rattle.fs_histories.specs.Meeting.{calls_meet, HasRoom}
 use Rattle.fs_histories.specs.Configurations.{Configuration, is_in, without, IsOpen, IsNear}
 use Rattle.fs_histories.proofs.HistoryLemmas.{passed_call, passed_return}
@@ -126,7 +127,7 @@ few_wait (q ∷ p) numbers d all =
 
 -- ---- the configuration
 
-waiting_open : (start : Start) (h : List Heard) (x : Configuration) (es : List Entry) (q : ℕ × Call) → ExplainsFront start h es → x.at ≡ length (without_commits es) → IsWaiting x es q → IsOpen h x q.0 q.1
+waiting_open : (start : Start) (h : List Heard) (x : Configuration) (es : List Entry) (q : ℕ × Call) → ExplainsFront start h es → x.at ≡ length (history es) → IsWaiting x es q → IsOpen h x q.0 q.1
 waiting_open start h x es q explains place w = record {
   begun = passed_call start h es x.at q.0 explains place ∙ w.begun;
   open_still = passed_return start h es x.at q.0 explains place ∙ w.open_still;

@@ -4,45 +4,47 @@ use Rattle.fs_names.specs.Failures.{or_else, check, first_failure}
 use Rattle.fs_timeline.specs.Timeline.{has_begun, has_returned, is_busy, IsNext, Each, IsWellFormed}
 use Rattle.fs_timeline.specs.declared.entry.Entry.{Entry}
 use Rattle.fs_timeline.specs.declared.entry.Entry.TheVariants as entry
+use Rattle.fs_linearizable.specs.Linearizable.{history}
+use Rattle.fs_linearizable.proofs.LawfulLemmas.{history-append, has_returned-history, has_begun-history, is_busy-history}
 use Rattle.fs_histories.specs.declared.heard.Heard.{Heard}
 use Rattle.fs_histories.specs.declared.heard.Heard.TheVariants.{Begin, Return}
 use Rattle.fs_histories.specs.declared.heard.Pattern.{Pattern}
 use Rattle.fs_histories.specs.Heard.{IsHeardAs, AreHeardIn, entry_of}
 use Rattle.fs_timeline.proofs.AppendLemmas.{begun_first}
 use Rattle.fs_timeline.proofs.TimelineLemmas.{append_nil, well_formed_appended}
-use Rattle.fs_histories.specs.Histories.{without_commits, IsNextHeard, AreNextHeard}
+use Rattle.fs_histories.specs.Histories.{IsNextHeard, AreNextHeard}
 use Rattle.fs_histories.specs.Faults.{heard_fault, fault_at, fault_from}
 use Rattle.fs_histories.specs.Laws.{ExplainedAreHistories, IsFirstFault, FaultsAreFirst}
 use Rattle.fs_histories.specs.declared.fault.HistoryFault.{HistoryFault}
-use Rattle.fs_histories.proofs.HistoryLemmas.{without_commits-append, has_returned-without, blank, blanks, has_returned-blank, heard_entry}
-use Rattle.fs_histories.proofs.PathLemmas.{has_begun-without, is_busy-without, has_begun-blank, is_busy-blank}
+use Rattle.fs_histories.proofs.HistoryLemmas.{blank, blanks, has_returned-blank, heard_entry}
+use Rattle.fs_histories.proofs.PathLemmas.{has_begun-blank, is_busy-blank}
 use Rattle.fs_calls.specs.declared.call.Call.{Call}
 use Rattle.fs_calls.specs.declared.reply.Reply.{Reply}
 
 -- ---- what a timeline explains
 
-begin_heard : (before : List Entry) (b : List Entry) (c seat : ℕ) (call : Call) → b ≡ blanks (without_commits before) → IsNext before (entry.Begin c seat call) → IsNextHeard b (Begin c seat call)
+begin_heard : (before : List Entry) (b : List Entry) (c seat : ℕ) (call : Call) → b ≡ blanks (history before) → IsNext before (entry.Begin c seat call) → IsNextHeard b (Begin c seat call)
 begin_heard before b c seat call is next = (
-  ap (has_begun c) is ∙ has_begun-blank c (without_commits before) ∙ has_begun-without c before ∙ next.0,
-  ap (is_busy seat) is ∙ is_busy-blank seat (without_commits before) ∙ is_busy-without seat before ∙ next.1,
+  ap (has_begun c) is ∙ has_begun-blank c (history before) ∙ has_begun-history c before ∙ next.0,
+  ap (is_busy seat) is ∙ is_busy-blank seat (history before) ∙ is_busy-history seat before ∙ next.1,
 )
 
-return_heard : (before : List Entry) (b : List Entry) (c : ℕ) (p : Pattern) (r : Reply) → IsWellFormed before → b ≡ blanks (without_commits before) → IsNext before (entry.Return c r) → IsNextHeard b (Return c p)
+return_heard : (before : List Entry) (b : List Entry) (c : ℕ) (p : Pattern) (r : Reply) → IsWellFormed before → b ≡ blanks (history before) → IsNext before (entry.Return c r) → IsNextHeard b (Return c p)
 return_heard before b c p r well is next = (
-  ap (has_begun c) is ∙ has_begun-blank c (without_commits before) ∙ has_begun-without c before ∙ begun_first before well c next.0,
-  ap (has_returned c) is ∙ has_returned-blank c (without_commits before) ∙ has_returned-without c before ∙ next.1,
+  ap (has_begun c) is ∙ has_begun-blank c (history before) ∙ has_begun-history c before ∙ begun_first before well c next.0,
+  ap (has_returned c) is ∙ has_returned-blank c (history before) ∙ has_returned-history c before ∙ next.1,
 )
 
-blanks_more : (before b : List Entry) (e : Entry) (x : Heard) → b ≡ blanks (without_commits before) → IsHeardAs e x → without_commits (e ∷ []) ≡ e ∷ [] → b ++ entry_of x ∷ [] ≡ blanks (without_commits (before ++ e ∷ []))
+blanks_more : (before b : List Entry) (e : Entry) (x : Heard) → b ≡ blanks (history before) → IsHeardAs e x → history (e ∷ []) ≡ e ∷ [] → b ++ entry_of x ∷ [] ≡ blanks (history (before ++ e ∷ []))
 blanks_more before b e x is like one =
-    ap (λ ys. ys ++ entry_of x ∷ []) is ∙ ap (λ y. blanks (without_commits before) ++ y ∷ []) (heard_entry e x like)
-    ∙ sym (ap blanks (without_commits-append before (e ∷ []) ∙ ap (λ ys. without_commits before ++ ys) one) ∙ map_append blank (without_commits before) (e ∷ []))
+    ap (λ ys. ys ++ entry_of x ∷ []) is ∙ ap (λ y. blanks (history before) ++ y ∷ []) (heard_entry e x like)
+    ∙ sym (ap blanks (history-append before (e ∷ []) ∙ ap (λ ys. history before ++ ys) one) ∙ map_append blank (history before) (e ∷ []))
   where
     map_append : (f : Entry → Entry) (xs ys : List Entry) → map f (xs ++ ys) ≡ map f xs ++ map f ys
     map_append f [] ys = refl
     map_append f (y ∷ xs) ys = ap (λ zs. f y ∷ zs) (map_append f xs ys)
 
-heard_along : (before es b : List Entry) (h : List Heard) → IsWellFormed before → Each IsNext before es → b ≡ blanks (without_commits before) → AreHeardIn (without_commits es) h → length (without_commits es) ≡ length h → AreNextHeard b h
+heard_along : (before es b : List Entry) (h : List Heard) → IsWellFormed before → Each IsNext before es → b ≡ blanks (history before) → AreHeardIn (history es) h → length (history es) ≡ length h → AreNextHeard b h
 heard_along before [] b [] well k is like whole = tt
 heard_along before [] b (x ∷ h) well k is like whole = absurd (cc)
 heard_along before (entry.Begin c seat call ∷ es) b [] well k is like whole = absurd like
@@ -53,7 +55,7 @@ heard_along before (entry.Begin c seat call ∷ es) b (x ∷ h) well k is like w
 )
 heard_along before (entry.Commit c ∷ es) b h well k is like whole =
     heard_along (before ++ entry.Commit c ∷ []) es b h ((well_formed_appended before (entry.Commit c)).1 (well, k.0)) k.1
-    (is ∙ ap blanks (sym (without_commits-append before (entry.Commit c ∷ []) ∙ append_nil (without_commits before)))) like whole
+    (is ∙ ap blanks (sym (history-append before (entry.Commit c ∷ []) ∙ append_nil (history before)))) like whole
 heard_along before (entry.Return c r ∷ es) b [] well k is like whole = absurd like
 heard_along before (entry.Return c r ∷ es) b (x ∷ h) well k is like whole = (
   subst (IsNextHeard b) (sym like.0.1) (return_heard before b c like.0.0 r well is k.0),

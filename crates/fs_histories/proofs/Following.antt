@@ -9,12 +9,14 @@ use Rattle.fs_timeline.specs.Timeline.{is_commit, is_return, has_begun, has_comm
 use Rattle.fs_timeline.specs.declared.entry.Entry.{Entry}
 use Rattle.fs_timeline.specs.declared.entry.Entry.TheVariants.{Begin, Commit, Return}
 use Rattle.fs_timeline.proofs.AppendLemmas.{BegunFirst, begun_first, committed_first, list_any-push, is_some-call_of, call_of-kept}
+use Rattle.fs_linearizable.specs.Linearizable.{history}
+use Rattle.fs_linearizable.proofs.LawfulLemmas.{history-append}
 use Rattle.fs_histories.specs.declared.heard.Heard.{Heard}
 use Rattle.fs_histories.specs.declared.heard.Pattern.{Pattern}
 use Rattle.fs_histories.specs.Heard.{Matches}
-use Rattle.fs_histories.specs.Histories.{without_commits, recorded, FitsIn}
+use Rattle.fs_histories.specs.Histories.{recorded, FitsIn}
 use Rattle.fs_histories.specs.Configurations.{Configuration, is_in, placed, without, passed, returned, committed}
-use Rattle.fs_histories.proofs.HistoryLemmas.{without_commits-append, returned_of_other, committed_of_other, committed_still, commits_of_none, played_commit}
+use Rattle.fs_histories.proofs.HistoryLemmas.{returned_of_other, committed_of_other, committed_still, commits_of_none, played_commit}
 
 -- ---- lists of numbers
 
@@ -129,7 +131,7 @@ IsAhead h es c = (call : Call) × (call_of c es ≡ Some call) × IsQuiet h c ca
 
 -- the configuration follows the timeline, and gets its tree by the calls that wait; where it holds a call that the timeline has not committed, that call is quiet
 pub record Follows (start : Start) (h : List Heard) (x : Configuration) (es : List Entry) (p : List (ℕ × Call)) : Type 0 where
-  pub place : x.at ≡ length (without_commits es)
+  pub place : x.at ≡ length (history es)
   pub replays : Replays h x.now p (next_start start (commits es))
   pub waiting : AllOf (IsWaiting x es) p
   pub distinct : Distinct p
@@ -145,9 +147,9 @@ call_still c es e call is = call_of-kept c es e (begun_by c es call is) ∙ is
 ahead_still : (h : List Heard) (es : List Entry) (e : Entry) (c : ℕ) → IsAhead h es c → IsAhead h (es ++ e ∷ []) c
 ahead_still h es e c a = (a.0, call_still c es e a.0 a.1, a.2)
 
-pub place_more : (n : ℕ) (es : List Entry) (e : Entry) → n ≡ length (without_commits es) → without_commits (e ∷ []) ≡ e ∷ [] → n + 1 ≡ length (without_commits (es ++ e ∷ []))
+pub place_more : (n : ℕ) (es : List Entry) (e : Entry) → n ≡ length (history es) → history (e ∷ []) ≡ e ∷ [] → n + 1 ≡ length (history (es ++ e ∷ []))
 place_more n es e h one =
-    ap (λ k. k + 1) h ∙ sym (ap length (without_commits-append es (e ∷ []) ∙ ap (λ xs. without_commits es ++ xs) one) ∙ length-append (without_commits es) (e ∷ []))
+    ap (λ k. k + 1) h ∙ sym (ap length (history-append es (e ∷ []) ∙ ap (λ xs. history es ++ xs) one) ∙ length-append (history es) (e ∷ []))
 
 -- ---- entries
 
@@ -210,8 +212,8 @@ waiting_commit x es p c w = all_map (IsWaiting x es) (IsWaiting x (es ++ Commit 
   done = committed_still q.0 es (Commit c) v.done;
 }) w
 
-pub place_commit : (n c : ℕ) (es : List Entry) → n ≡ length (without_commits es) → n ≡ length (without_commits (es ++ Commit c ∷ []))
-place_commit n c es h = h ∙ sym (ap length (without_commits-append es (Commit c ∷ []) ∙ nothing (without_commits es)))
+pub place_commit : (n c : ℕ) (es : List Entry) → n ≡ length (history es) → n ≡ length (history (es ++ Commit c ∷ []))
+place_commit n c es h = h ∙ sym (ap length (history-append es (Commit c ∷ []) ∙ nothing (history es)))
   where
     nothing : (xs : List Entry) → xs ++ [] ≡ xs
     nothing [] = refl

@@ -16,31 +16,21 @@ use Rattle.fs_calls.specs.Replies.{same_reply}
 use Rattle.fs_timeline.proofs.ReplyLemmas.{same_reply_exact, same_reply_refl}
 use Rattle.fs_timeline.proofs.AppendLemmas.{BegunFirst, begun_first, committed_first, or_false, list_any-push, is_some-call_of, call_of-kept, commits-push, due-kept, next_start-push}
 use Rattle.fs_timeline.proofs.TimelineLemmas.{append_nil, lawful_appended}
+use Rattle.fs_linearizable.specs.Linearizable.{history}
+use Rattle.fs_linearizable.proofs.LawfulLemmas.{history-append, has_returned-history}
 use Rattle.fs_histories.specs.declared.heard.Heard.{Heard}
 use Rattle.fs_histories.specs.declared.heard.Heard.TheVariants as heard
 use Rattle.fs_histories.specs.declared.heard.Pattern.{Pattern}
 use Rattle.fs_histories.specs.Heard.{Matches, IsHeardAs, AreHeardIn, entry_of, entries}
-use Rattle.fs_histories.specs.Histories.{without_commits, returned_as, recorded, Explains, ExplainsFront}
+use Rattle.fs_histories.specs.Histories.{returned_as, recorded, Explains, ExplainsFront}
 
 -- ---- a history has what its timeline has
 
-pub without_commits-append : (xs ys : List Entry) → without_commits (xs ++ ys) ≡ without_commits xs ++ without_commits ys
-without_commits-append [] ys = refl
-without_commits-append (Begin c seat call ∷ xs) ys = ap (λ es. Begin c seat call ∷ es) (without_commits-append xs ys)
-without_commits-append (Commit c ∷ xs) ys = without_commits-append xs ys
-without_commits-append (Return c r ∷ xs) ys = ap (λ es. Return c r ∷ es) (without_commits-append xs ys)
-
-pub call_of-without : (c : ℕ) (es : List Entry) → call_of c (without_commits es) ≡ call_of c es
-call_of-without c [] = refl
-call_of-without c (Begin d seat call ∷ es) = ap (or_else (begun_as c (Begin d seat call))) (call_of-without c es)
-call_of-without c (Commit d ∷ es) = call_of-without c es
-call_of-without c (Return d r ∷ es) = call_of-without c es
-
-pub has_returned-without : (c : ℕ) (es : List Entry) → has_returned c (without_commits es) ≡ has_returned c es
-has_returned-without c [] = refl
-has_returned-without c (Begin d seat call ∷ es) = has_returned-without c es
-has_returned-without c (Commit d ∷ es) = has_returned-without c es
-has_returned-without c (Return d r ∷ es) = ap (λ b. (c == d) || b) (has_returned-without c es)
+pub call_of-history : (c : ℕ) (es : List Entry) → call_of c (history es) ≡ call_of c es
+call_of-history c [] = refl
+call_of-history c (Begin d seat call ∷ es) = ap (or_else (begun_as c (Begin d seat call))) (call_of-history c es)
+call_of-history c (Commit d ∷ es) = call_of-history c es
+call_of-history c (Return d r ∷ es) = call_of-history c es
 
 pub recorded-append : (c : ℕ) (xs ys : List Heard) → recorded c (xs ++ ys) ≡ or_else (recorded c xs) (recorded c ys)
 recorded-append c [] ys = refl
@@ -136,7 +126,7 @@ explained_before start h es e x =
     let lawful : IsLawful start es = ((lawful_appended start es e).0 x.lawful).0 in
     record {
       lawful = lawful;
-      heard_as = heard_prefix (without_commits es) (without_commits (e ∷ [])) h (subst (λ (xs : List Entry). AreHeardIn xs h) (without_commits-append es (e ∷ [])) x.heard_as);
+      heard_as = heard_prefix (history es) (history (e ∷ [])) h (subst (λ (xs : List Entry). AreHeardIn xs h) (history-append es (e ∷ [])) x.heard_as);
       held_to = λ c r done is. x.held_to c r (committed_still c es e done) (due-kept start c es e (begun_first es lawful.well_formed) done ∙ is);
     }
 
@@ -154,11 +144,11 @@ pub replied-append : (c : ℕ) (xs ys : List Entry) → replied c (xs ++ ys) ≡
 replied-append c [] ys = refl
 replied-append c (e ∷ xs) ys = ap (or_else (replied_as c e)) (replied-append c xs ys) ∙ or_else-assoc (replied_as c e) (replied c xs) (replied c ys)
 
-replied-without : (c : ℕ) (es : List Entry) → replied c (without_commits es) ≡ replied c es
-replied-without c [] = refl
-replied-without c (Begin d seat call ∷ es) = replied-without c es
-replied-without c (Commit d ∷ es) = replied-without c es
-replied-without c (Return d r ∷ es) = ap (or_else (replied_as c (Return d r))) (replied-without c es)
+replied-history : (c : ℕ) (es : List Entry) → replied c (history es) ≡ replied c es
+replied-history c [] = refl
+replied-history c (Begin d seat call ∷ es) = replied-history c es
+replied-history c (Commit d ∷ es) = replied-history c es
+replied-history c (Return d r ∷ es) = ap (or_else (replied_as c (Return d r))) (replied-history c es)
 
 is_some-replied_as : (c : ℕ) (e : Entry) → is_some (replied_as c e) ≡ is_return c e
 is_some-replied_as c (Begin d seat call) = refl
@@ -242,21 +232,21 @@ explained_front start h es x =
       lawful = x.lawful;
       heard_as = x.heard_as;
       held_to = λ c r done is p told.
-          let found = told_all c (without_commits es) h x.heard_as x.whole p told in
-          let both : Some r ≡ Some found.0 = sym is ∙ answers c found.0 (sym (replied-without c es) ∙ found.1) in
+          let found = told_all c (history es) h x.heard_as x.whole p told in
+          let both : Some r ≡ Some found.0 = sym is ∙ answers c found.0 (sym (replied-history c es) ∙ found.1) in
           let same : found.0 ≡ r = cc in
           subst (Matches p) same found.2;
     }
 
 -- what has passed in the history, but for its replies
-pub passed_front : (start : Start) (h : List Heard) (es : List Entry) (n : ℕ) → ExplainsFront start h es → n ≡ length (without_commits es) → entries (take n h) ≡ blanks (without_commits es)
-passed_front start h es n x at = ap (λ k. entries (take k h)) at ∙ heard_front (without_commits es) h x.heard_as
+pub passed_front : (start : Start) (h : List Heard) (es : List Entry) (n : ℕ) → ExplainsFront start h es → n ≡ length (history es) → entries (take n h) ≡ blanks (history es)
+passed_front start h es n x at = ap (λ k. entries (take k h)) at ∙ heard_front (history es) h x.heard_as
 
-pub passed_call : (start : Start) (h : List Heard) (es : List Entry) (n c : ℕ) → ExplainsFront start h es → n ≡ length (without_commits es) → call_of c (entries (take n h)) ≡ call_of c es
-passed_call start h es n c x at = ap (call_of c) (passed_front start h es n x at) ∙ call_of-blank c (without_commits es) ∙ call_of-without c es
+pub passed_call : (start : Start) (h : List Heard) (es : List Entry) (n c : ℕ) → ExplainsFront start h es → n ≡ length (history es) → call_of c (entries (take n h)) ≡ call_of c es
+passed_call start h es n c x at = ap (call_of c) (passed_front start h es n x at) ∙ call_of-blank c (history es) ∙ call_of-history c es
 
-pub passed_return : (start : Start) (h : List Heard) (es : List Entry) (n c : ℕ) → ExplainsFront start h es → n ≡ length (without_commits es) → has_returned c (entries (take n h)) ≡ has_returned c es
-passed_return start h es n c x at = ap (has_returned c) (passed_front start h es n x at) ∙ has_returned-blank c (without_commits es) ∙ has_returned-without c es
+pub passed_return : (start : Start) (h : List Heard) (es : List Entry) (n c : ℕ) → ExplainsFront start h es → n ≡ length (history es) → has_returned c (entries (take n h)) ≡ has_returned c es
+passed_return start h es n c x at = ap (has_returned c) (passed_front start h es n x at) ∙ has_returned-blank c (history es) ∙ has_returned-history c es
 
 -- ---- for the code
 

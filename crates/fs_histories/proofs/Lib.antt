@@ -9,3 +9,4 @@ pub mod Bringing
 pub mod Reaching
 pub mod PathLemmas
 pub mod FaultLemmas
+pub mod LinearizableLemmas

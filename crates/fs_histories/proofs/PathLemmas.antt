@@ -11,15 +11,17 @@ use Rattle.fs_timeline.specs.declared.entry.Entry.{Entry}
 use Rattle.fs_timeline.specs.declared.entry.Entry.TheVariants.{Begin, Commit, Return}
 use Rattle.fs_timeline.proofs.AppendLemmas.{begun_first, list_any-push, or_false, is_some-call_of, due-kept, due-first}
 use Rattle.fs_timeline.proofs.TimelineLemmas.{append_nil, lawful_appended}
+use Rattle.fs_linearizable.specs.Linearizable.{history}
+use Rattle.fs_linearizable.proofs.LawfulLemmas.{history-append, has_returned-history, has_begun-history, is_busy-history}
 use Rattle.fs_histories.specs.declared.heard.Heard.{Heard}
 use Rattle.fs_histories.specs.declared.heard.Heard.TheVariants as heard
 use Rattle.fs_histories.specs.declared.heard.Pattern.{Pattern}
 use Rattle.fs_histories.specs.Heard.{IsHeardAs, AreHeardIn, entry_of, entries}
-use Rattle.fs_histories.specs.Histories.{without_commits, recorded, FitsIn, IsNextHeard, AreNextHeard, IsHistory}
+use Rattle.fs_histories.specs.Histories.{recorded, FitsIn, IsNextHeard, AreNextHeard, IsHistory}
 use Rattle.fs_histories.specs.Configurations.{Configuration, at_start, is_in, without, passed, returned, committed, CanCommit}
 use Rattle.fs_histories.specs.Histories.{ExplainsFront}
 use Rattle.fs_histories.specs.Paths.{LeadsTo, StepsLead}
-use Rattle.fs_histories.proofs.HistoryLemmas.{without_commits-append, call_of-without, has_returned-without, is_some-returned_as, none_from, some_from, returned_of_other, committed_of_other, commits_of_none, played_commit, blanks, call_of-blank, has_returned-blank, passed_front, passed_call, passed_return}
+use Rattle.fs_histories.proofs.HistoryLemmas.{call_of-history, is_some-returned_as, none_from, some_from, returned_of_other, committed_of_other, commits_of_none, played_commit, blanks, call_of-blank, has_returned-blank, passed_front, passed_call, passed_return}
 use Rattle.fs_histories.proofs.Following.{is_in-placed, without_was, without_other, place_commit, place_more}
 
 -- ---- what the history says of the next entry
@@ -48,30 +50,10 @@ heard_push [] (y ∷ h) e x k is like = (subst (IsHeardAs e) (sym (some_is y x i
 heard_push (d ∷ es) [] e x k is like = absurd k
 heard_push (d ∷ es) (y ∷ h) e x k is like = (k.0, heard_push es h e x k.1 is like)
 
-front_more : (start : Start) (h : List Heard) (es : List Entry) (x : Configuration) (e : Entry) (y : Heard) → without_commits (e ∷ []) ≡ e ∷ [] → LeadsTo start h es x → slice_get h x.at ≡ Some y → IsHeardAs e y → AreHeardIn (without_commits (es ++ e ∷ [])) h
+front_more : (start : Start) (h : List Heard) (es : List Entry) (x : Configuration) (e : Entry) (y : Heard) → history (e ∷ []) ≡ e ∷ [] → LeadsTo start h es x → slice_get h x.at ≡ Some y → IsHeardAs e y → AreHeardIn (history (es ++ e ∷ [])) h
 front_more start h es x e y one l is like =
-    let pushed : without_commits (es ++ e ∷ []) ≡ without_commits es ++ e ∷ [] = without_commits-append es (e ∷ []) ∙ ap (λ xs. without_commits es ++ xs) one in
-    subst (λ (xs : List Entry). AreHeardIn xs h) (sym pushed) (heard_push (without_commits es) h e y l.explains.heard_as (ap (slice_get h) (sym l.place) ∙ is) like)
-
-pub has_begun-without : (c : ℕ) (es : List Entry) → has_begun c (without_commits es) ≡ has_begun c es
-has_begun-without c es = sym (is_some-call_of c (without_commits es)) ∙ ap is_some (call_of-without c es) ∙ is_some-call_of c es
-
-last_on-without : (s : ℕ) (es : List Entry) → last_on s (without_commits es) ≡ last_on s es
-last_on-without s [] = refl
-last_on-without s (Begin c seat call ∷ es) = ap (λ o. or_else o (begun_on s (Begin c seat call))) (last_on-without s es)
-last_on-without s (Commit c ∷ es) = last_on-without s es ∙ sym (or_none (last_on s es))
-  where
-    or_none : (o : Option ℕ) → or_else o None ≡ o
-    or_none None = refl
-    or_none (Some n) = refl
-last_on-without s (Return c r ∷ es) = ap (λ o. or_else o None) (last_on-without s es)
-
-is_open-without : (o : Option ℕ) (es : List Entry) → is_open o (without_commits es) ≡ is_open o es
-is_open-without None es = refl
-is_open-without (Some c) es = ap not (has_returned-without c es)
-
-pub is_busy-without : (s : ℕ) (es : List Entry) → is_busy s (without_commits es) ≡ is_busy s es
-is_busy-without s es = ap (λ o. is_open o (without_commits es)) (last_on-without s es) ∙ is_open-without (last_on s es) es
+    let pushed : history (es ++ e ∷ []) ≡ history es ++ e ∷ [] = history-append es (e ∷ []) ∙ ap (λ xs. history es ++ xs) one in
+    subst (λ (xs : List Entry). AreHeardIn xs h) (sym pushed) (heard_push (history es) h e y l.explains.heard_as (ap (slice_get h) (sym l.place) ∙ is) like)
 
 last_on-blank : (s : ℕ) (es : List Entry) → last_on s (blanks es) ≡ last_on s es
 last_on-blank s [] = refl
@@ -89,11 +71,11 @@ is_busy-blank s es = ap (λ o. is_open o (blanks es)) (last_on-blank s es) ∙ i
 pub has_begun-blank : (c : ℕ) (es : List Entry) → has_begun c (blanks es) ≡ has_begun c es
 has_begun-blank c es = sym (is_some-call_of c (blanks es)) ∙ ap is_some (call_of-blank c es) ∙ is_some-call_of c es
 
-passed_begun : (start : Start) (h : List Heard) (es : List Entry) (n c : ℕ) → ExplainsFront start h es → n ≡ length (without_commits es) → has_begun c (entries (take n h)) ≡ has_begun c es
-passed_begun start h es n c x at = ap (has_begun c) (passed_front start h es n x at) ∙ has_begun-blank c (without_commits es) ∙ has_begun-without c es
+passed_begun : (start : Start) (h : List Heard) (es : List Entry) (n c : ℕ) → ExplainsFront start h es → n ≡ length (history es) → has_begun c (entries (take n h)) ≡ has_begun c es
+passed_begun start h es n c x at = ap (has_begun c) (passed_front start h es n x at) ∙ has_begun-blank c (history es) ∙ has_begun-history c es
 
-passed_busy : (start : Start) (h : List Heard) (es : List Entry) (n s : ℕ) → ExplainsFront start h es → n ≡ length (without_commits es) → is_busy s (entries (take n h)) ≡ is_busy s es
-passed_busy start h es n s x at = ap (is_busy s) (passed_front start h es n x at) ∙ is_busy-blank s (without_commits es) ∙ is_busy-without s es
+passed_busy : (start : Start) (h : List Heard) (es : List Entry) (n s : ℕ) → ExplainsFront start h es → n ≡ length (history es) → is_busy s (entries (take n h)) ≡ is_busy s es
+passed_busy start h es n s x at = ap (is_busy s) (passed_front start h es n x at) ∙ is_busy-blank s (history es) ∙ is_busy-history s es
 
 -- ---- steps
 
@@ -148,7 +130,7 @@ leads_commit start h es x c call can l =
     record {
       explains = record {
         lawful = now;
-        heard_as = subst (λ (xs : List Entry). AreHeardIn xs h) (sym (without_commits-append es (e ∷ []) ∙ append_nil (without_commits es))) l.explains.heard_as;
+        heard_as = subst (λ (xs : List Entry). AreHeardIn xs h) (sym (history-append es (e ∷ []) ∙ append_nil (history es))) l.explains.heard_as;
         held_to = λ d r done told. ⊎_elim
             (λ same.
             let number = eqb-true d c same in

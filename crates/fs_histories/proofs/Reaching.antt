@@ -10,15 +10,17 @@ use Rattle.fs_timeline.specs.declared.entry.Entry.{Entry}
 use Rattle.fs_timeline.specs.declared.entry.Entry.TheVariants.{Begin, Commit, Return}
 use Rattle.fs_timeline.proofs.AppendLemmas.{begun_first, list_any-push, is_some-call_of, due-first}
 use Rattle.fs_timeline.proofs.TimelineLemmas.{append_nil, lawful_appended}
+use Rattle.fs_linearizable.specs.Linearizable.{history}
+use Rattle.fs_linearizable.proofs.LawfulLemmas.{history-append}
 use Rattle.fs_histories.specs.declared.heard.Heard.{Heard}
 use Rattle.fs_histories.specs.declared.heard.Heard.TheVariants as heard
 use Rattle.fs_histories.specs.declared.heard.Pattern.{Pattern}
 use Rattle.fs_histories.specs.Heard.{IsHeardAs, AreHeardIn}
-use Rattle.fs_histories.specs.Histories.{without_commits, ExplainsFront}
+use Rattle.fs_histories.specs.Histories.{ExplainsFront}
 use Rattle.fs_histories.specs.Configurations.{Configuration, at_start, is_in, passed, returned, committed, CanCommit, FollowedBy, IsFollowed}
 use Rattle.std.specs.List.{Contains}
 use Rattle.fs_histories.specs.Laws.{ClosedSetsReach, ClosedSetsRefute}
-use Rattle.fs_histories.proofs.HistoryLemmas.{without_commits-append, some_from, explained_before, explained_front, passed_call, passed_return}
+use Rattle.fs_histories.proofs.HistoryLemmas.{some_from, explained_before, explained_front, passed_call, passed_return}
 use Rattle.fs_histories.specs.Early.{SettlesIn}
 use Rattle.fs_histories.proofs.EarlyCommits.{follows_settled}
 use Rattle.fs_histories.proofs.Bringing.{first_near, follows_brought}
@@ -43,18 +45,18 @@ heard_next [] e (x ∷ h) k = (x, refl, k.0)
 heard_next (d ∷ es) e [] k = absurd k
 heard_next (d ∷ es) e (x ∷ h) k = heard_next es e h k.1
 
-next_entry : (start : Start) (h : List Heard) (es : List Entry) (e : Entry) (n : ℕ) → without_commits (e ∷ []) ≡ e ∷ [] → ExplainsFront start h (es ++ e ∷ []) → n ≡ length (without_commits es)
+next_entry : (start : Start) (h : List Heard) (es : List Entry) (e : Entry) (n : ℕ) → history (e ∷ []) ≡ e ∷ [] → ExplainsFront start h (es ++ e ∷ []) → n ≡ length (history es)
     → (x : Heard) × (slice_get h n ≡ Some x) × IsHeardAs e x
 next_entry start h es e n one x at =
-    let pushed : without_commits (es ++ e ∷ []) ≡ without_commits es ++ e ∷ [] = without_commits-append es (e ∷ []) ∙ ap (λ xs. without_commits es ++ xs) one in
-    let found = heard_next (without_commits es) e h (subst (λ (xs : List Entry). AreHeardIn xs h) pushed x.heard_as) in
+    let pushed : history (es ++ e ∷ []) ≡ history es ++ e ∷ [] = history-append es (e ∷ []) ∙ ap (λ xs. history es ++ xs) one in
+    let found = heard_next (history es) e h (subst (λ (xs : List Entry). AreHeardIn xs h) pushed x.heard_as) in
     (found.0, ap (slice_get h) at ∙ found.1, found.2)
 
-next_begin : (start : Start) (h : List Heard) (es : List Entry) (c seat : ℕ) (call : Call) (n : ℕ) → ExplainsFront start h (es ++ Begin c seat call ∷ []) → n ≡ length (without_commits es)
+next_begin : (start : Start) (h : List Heard) (es : List Entry) (c seat : ℕ) (call : Call) (n : ℕ) → ExplainsFront start h (es ++ Begin c seat call ∷ []) → n ≡ length (history es)
     → slice_get h n ≡ Some (heard.Begin c seat call)
 next_begin start h es c seat call n x at = let found = next_entry start h es (Begin c seat call) n refl x at in found.1 ∙ ap Some found.2
 
-next_return : (start : Start) (h : List Heard) (es : List Entry) (c : ℕ) (r : Reply) (n : ℕ) → ExplainsFront start h (es ++ Return c r ∷ []) → n ≡ length (without_commits es)
+next_return : (start : Start) (h : List Heard) (es : List Entry) (c : ℕ) (r : Reply) (n : ℕ) → ExplainsFront start h (es ++ Return c r ∷ []) → n ≡ length (history es)
     → (p : Pattern) × (slice_get h n ≡ Some (heard.Return c p))
 next_return start h es c r n x at = let found = next_entry start h es (Return c r) n refl x at in (found.2.0, found.1 ∙ ap Some found.2.1)
 
@@ -158,7 +160,7 @@ follows_start start h = record { place = refl; replays = refl; waiting = tt; dis
 -- a closed set has a configuration at the end of each front that is explained
 pub reached : (start : Start) (S T : Configuration → Type 0) (h : List Heard) (es : List Entry)
     → Keeps start S T h → ((x : Configuration) → S x → IsFollowed h T x) → T (at_start start)
-    → ExplainsFront start h es → (x : Configuration) × S x × (x.at ≡ length (without_commits es))
+    → ExplainsFront start h es → (x : Configuration) × S x × (x.at ≡ length (history es))
 reached start S T h es keeps closed starts x =
     let kept = keeps [] (at_start start) [] starts (explained_prefix start h [] es x) (follows_start start h) in
     let found = reach_along start S T h [] es keeps closed x (record { config = kept.0; lag = kept.1; seen = kept.2; follows = kept.4 }) in

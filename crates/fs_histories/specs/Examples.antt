@@ -14,11 +14,11 @@ use Rattle.fs_timeline.specs.declared.entry.Entry.{Entry}
 use Rattle.fs_timeline.specs.declared.entry.Entry.TheVariants.{Begin, Commit, Return}
 use Rattle.fs_timeline.specs.declared.verdict.Verdict.TheVariants.{Lawful, Fault}
 use Rattle.fs_timeline.specs.declared.verdict.FaultKind.TheVariants.{WrongReply}
+use Rattle.fs_linearizable.specs.Linearizable.{history}
 use Rattle.fs_histories.specs.declared.heard.Heard.{Heard}
 use Rattle.fs_histories.specs.declared.heard.Heard.TheVariants as heard
 use Rattle.fs_histories.specs.declared.heard.Pattern.TheVariants.{Exactly, AnyError, AnyDirectory}
 use Rattle.fs_histories.specs.Heard.{AreHeardIn}
-use Rattle.fs_histories.specs.Histories.{without_commits}
 use Rattle.fs_histories.specs.Faults.{history_fault}
 use Rattle.fs_histories.specs.declared.fault.HistoryFault.TheVariants.{BeginTwice, SeatBusy, ReturnUnbegun, ReturnTwice}
 
@@ -43,8 +43,8 @@ with_both = ([], tree.Dir) ∷ (at_a, tree.Dir) ∷ (at_f, tree.File (7 ∷ []))
 -- a timeline that is lawful, and is a history once its commits are taken out
 pub record IsExplained (start : Start) (es : List Entry) (h : List Heard) : Type 0 where
   pub lawful : verdict start es ≡ Lawful
-  pub heard_as : AreHeardIn (without_commits es) h
-  pub whole : length (without_commits es) ≡ length h
+  pub heard_as : AreHeardIn (history es) h
+  pub whole : length (history es) ≡ length h
 
 pub record ExplainedHistories : Type 0 where
   pub stat_first : IsExplained (root_start V1)

@@ -6,17 +6,11 @@ use Rattle.fs_calls.specs.declared.reply.Reply.{Reply}
 use Rattle.fs_timeline.specs.Timeline.{has_begun, has_committed, has_returned, is_busy, due, IsLawful}
 use Rattle.fs_timeline.specs.declared.entry.Entry.{Entry}
 use Rattle.fs_timeline.specs.declared.entry.Entry.TheVariants.{Begin, Commit, Return}
+use Rattle.fs_linearizable.specs.Linearizable.{history}
 use Rattle.fs_histories.specs.Heard.{Matches, AreHeardIn, entry_of}
 use Rattle.fs_histories.specs.declared.heard.Heard.{Heard}
 use Rattle.fs_histories.specs.declared.heard.Heard.TheVariants as heard
 use Rattle.fs_histories.specs.declared.heard.Pattern.{Pattern}
-
--- the entries that are no Commit
-abbrev pub without_commits : List Entry → List Entry
-without_commits [] = []
-without_commits (Begin c seat call ∷ es) = Begin c seat call ∷ without_commits es
-without_commits (Commit c ∷ es) = without_commits es
-without_commits (Return c r ∷ es) = Return c r ∷ without_commits es
 
 -- the entry may come next in a history: a call begins once, on a seat whose last call has returned, and returns once, after its Begin
 abbrev pub IsNextHeard : List Entry → Heard → Type 0
@@ -47,17 +41,17 @@ FitsIn h c r = (p : Pattern) → recorded c h ≡ Some p → Matches p r
 -- a timeline explains a history: it is lawful, and without its commits it is heard as the history
 pub record Explains (start : Start) (h : List Heard) (es : List Entry) : Type 0 where
   pub lawful : IsLawful start es
-  pub heard_as : AreHeardIn (without_commits es) h
-  pub whole : length (without_commits es) ≡ length h
+  pub heard_as : AreHeardIn (history es) h
+  pub whole : length (history es) ≡ length h
 
 -- a timeline explains the front of a history, and each call that it commits gets a reply that fits in the whole history
 pub record ExplainsFront (start : Start) (h : List Heard) (es : List Entry) : Type 0 where
   pub lawful : IsLawful start es
-  pub heard_as : AreHeardIn (without_commits es) h
+  pub heard_as : AreHeardIn (history es) h
   pub held_to : (c : ℕ) (r : Reply) → has_committed c es ≡ true → due start c es ≡ Some r → FitsIn h c r
 
 -- no timeline explains the history, nor its front up to the entry of this place, and one explains the front before it
 pub record HasNoOrder (start : Start) (h : List Heard) (place : ℕ) : Type 0 where
   pub whole : (es : List Entry) → Explains start h es → ⊥
-  pub front : (es : List Entry) → ExplainsFront start h es → length (without_commits es) < place
-  pub before : (es : List Entry) × ExplainsFront start h es × (length (without_commits es) + 1 ≡ place)
+  pub front : (es : List Entry) → ExplainsFront start h es → length (history es) < place
+  pub before : (es : List Entry) × ExplainsFront start h es × (length (history es) + 1 ≡ place)

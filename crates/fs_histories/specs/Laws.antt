@@ -2,8 +2,10 @@
 use Rattle.std.specs.Prelude.{◌≡◌, ◌<◌, ◌-◌, ◌↔◌, ℕ, List, length, take, Contains, Some, None}
 use Rattle.fs_calls.specs.Starts.{Start}
 use Rattle.fs_timeline.specs.declared.entry.Entry.{Entry}
+use Rattle.fs_linearizable.specs.Linearizable.{IsLinearizable, history}
 use Rattle.fs_histories.specs.declared.heard.Heard.{Heard}
-use Rattle.fs_histories.specs.Histories.{without_commits, IsHistory, Explains, ExplainsFront}
+use Rattle.fs_histories.specs.Heard.{AreHeardIn}
+use Rattle.fs_histories.specs.Histories.{IsHistory, Explains, ExplainsFront}
 use Rattle.fs_histories.specs.Faults.{history_fault}
 use Rattle.fs_histories.specs.declared.fault.HistoryFault.{HistoryFault}
 use Rattle.fs_histories.specs.Configurations.{Configuration, at_start, IsFollowed}
@@ -35,8 +37,12 @@ pub record IsClosed (start : Start) (h : List Heard) (seen : List Configuration)
 -- a closed set has a configuration at the end of each front that is explained
 abbrev pub ClosedSetsReach : Type 0
 ClosedSetsReach = (start : Start) (h : List Heard) (es : List Entry) (seen : List Configuration) → IsClosed start h seen → ExplainsFront start h es
-    → (x : Configuration) × Contains seen x × (x.at ≡ length (without_commits es))
+    → (x : Configuration) × Contains seen x × (x.at ≡ length (history es))
 
 -- a history is explained by none if a closed set has no configuration at its end
 abbrev pub ClosedSetsRefute : Type 0
 ClosedSetsRefute = (start : Start) (h : List Heard) (seen : List Configuration) → IsClosed start h seen → ((x : Configuration) → Contains seen x → x.at < length h) → (es : List Entry) → Explains start h es → ⊥
+
+-- a timeline explains what was heard exactly where a linearizable history is heard so
+abbrev pub ExplainedAreLinearizable : Type 0
+ExplainedAreLinearizable = (start : Start) (h : List Heard) → ((es : List Entry) × Explains start h es) ↔ ((g : List Entry) × IsLinearizable start g × AreHeardIn g h × (length g ≡ length h))

@@ -6,17 +6,18 @@ use Rattle.fs_calls.specs.declared.call.Call.{Call}
 use Rattle.fs_calls.specs.declared.reply.Reply.{Reply}
 use Rattle.fs_timeline.specs.Timeline.{has_committed, has_returned, commits, due}
 use Rattle.fs_timeline.specs.declared.entry.Entry.{Entry}
+use Rattle.fs_linearizable.specs.Linearizable.{history}
 use Rattle.fs_histories.specs.declared.heard.Heard.{Heard}
 use Rattle.fs_histories.specs.declared.heard.Heard.TheVariants as heard
 use Rattle.fs_histories.specs.declared.heard.Pattern.{Pattern}
 use Rattle.fs_timeline.specs.declared.entry.Entry.TheVariants.{Begin, Commit, Return}
-use Rattle.fs_histories.specs.Histories.{without_commits, ExplainsFront, IsHistory}
+use Rattle.fs_histories.specs.Histories.{ExplainsFront, IsHistory}
 use Rattle.fs_histories.specs.Configurations.{Configuration, at_start, is_in, passed, returned, committed, CanCommit}
 
 -- a timeline leads to a configuration: it explains the front that has passed, and leaves its tree and the calls that it holds
 pub record LeadsTo (start : Start) (h : List Heard) (es : List Entry) (x : Configuration) : Type 0 where
   pub explains : ExplainsFront start h es
-  pub place : x.at ≡ length (without_commits es)
+  pub place : x.at ≡ length (history es)
   pub tree : x.now ≡ next_start start (commits es)
   pub held : (c : ℕ) → is_in c x.held ≡ (has_committed c es && not (has_returned c es))
 

@@ -1,6 +1,6 @@
 //! What holds of the definitions. Each function's contract is a law, and its body is empty.
 
-ghost use Rattle.fs_histories.specs.Laws.{ExplainedFronts, ClosedSetsReach, ClosedSetsRefute, ExplainedAreHistories, FaultsAreFirst};
+ghost use Rattle.fs_histories.specs.Laws.{ExplainedFronts, ClosedSetsReach, ClosedSetsRefute, ExplainedAreHistories, ExplainedAreLinearizable, FaultsAreFirst};
 ghost use Rattle.fs_histories.specs.Meeting.{ApartCallsCommute};
 ghost use Rattle.fs_histories.specs.Paths.{StepsLead};
 
@@ -37,4 +37,9 @@ pub fn steps_lead()
 /// Calls that do not meet commute.
 pub fn apart_calls_commute()
     ensures { ApartCallsCommute }
+{}
+
+/// A timeline explains what was heard exactly where a linearizable history is heard so.
+pub fn explained_are_linearizable()
+    ensures { ExplainedAreLinearizable }
 {}

@@ -7,9 +7,10 @@ use Rattle.std.proofs.lemmas.Option.{slice_get_within, slice_get-get_or}
 use Rattle.fs_calls.specs.Tree.{IsTree}
 use Rattle.fs_calls.specs.Starts.{Start, start_tree}
 use Rattle.fs_timeline.specs.declared.entry.Entry.{Entry}
+use Rattle.fs_linearizable.specs.Linearizable.{history}
 use Rattle.fs_histories.specs.declared.heard.Heard.{Heard}
 use Rattle.fs_histories.specs.declared.heard.Heard.TheVariants.{Begin, Return}
-use Rattle.fs_histories.specs.Histories.{without_commits, Explains, ExplainsFront, HasNoOrder}
+use Rattle.fs_histories.specs.Histories.{Explains, ExplainsFront, HasNoOrder}
 use Rattle.fs_histories.specs.Configurations.{Configuration, at_start, passed, returned, committed, FollowedBy, IsFollowed}
 use Rattle.fs_histories.specs.Early.{SettlesIn}
 use Rattle.fs_histories.specs.Paths.{LeadsTo}
@@ -191,7 +192,7 @@ never_none (r ∷ layer) some none = absurd (cc)
 
 -- a front that ends before the place is explained
 before_place : (start : Start) (h : List Heard) (limit place : ℕ) (us : List UnderWay) (links : List Link) (layer : List Reached) (most : ℕ) (gone : List Configuration) → Stands start h limit place us links layer most gone
-    → (es : List Entry) × ExplainsFront start h es × (length (without_commits es) + 1 ≡ place + 1)
+    → (es : List Entry) × ExplainsFront start h es × (length (history es) + 1 ≡ place + 1)
 before_place start h limit place us links layer most gone s =
     let l = s.led s.some.0 s.some.1 in
     (l.es, l.leads.explains, ap (λ n. n + 1) (sym l.leads.place ∙ s.there s.some.0 s.some.1))

@@ -10,3 +10,4 @@ mod PossibleLemmas
 mod TellingLemmas
 mod HeardLemmas
 mod KnownLemmas
+mod LinearizableLemmas

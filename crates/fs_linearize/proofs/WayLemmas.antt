@@ -8,13 +8,14 @@ use Rattle.fs_calls.specs.Starts.{Start}
 use Rattle.fs_calls.specs.declared.call.Call.{Call}
 use Rattle.fs_timeline.specs.declared.entry.Entry.{Entry}
 use Rattle.fs_timeline.specs.declared.entry.Entry.TheVariants.{Begin, Commit, Return}
+use Rattle.fs_linearizable.specs.Linearizable.{history}
+use Rattle.fs_linearizable.proofs.LawfulLemmas.{history-append}
 use Rattle.fs_histories.specs.declared.heard.Heard.{Heard}
 use Rattle.fs_histories.specs.declared.heard.Heard.TheVariants as heard
 use Rattle.fs_histories.specs.declared.heard.Pattern.{Pattern}
 use Rattle.fs_histories.specs.Heard.{IsHeardAs, AreHeardIn}
-use Rattle.fs_histories.specs.Histories.{without_commits, IsHistory}
+use Rattle.fs_histories.specs.Histories.{IsHistory}
 use Rattle.fs_histories.specs.Configurations.{Configuration, at_start, is_in, passed, returned, committed, CanCommit}
-use Rattle.fs_histories.proofs.HistoryLemmas.{without_commits-append}
 use Rattle.fs_histories.proofs.PathLemmas.{leads_start, leads_begin, leads_commit, leads_return, due_held}
 use Rattle.fs_linearize.specs.code.Ways.{GoesBy, IsLast, GoesBack, IsLedBy, IsLed, Keeps, configurations}
 use Rattle.fs_linearize.specs.declared.reached.Reached.{Reached}
@@ -39,15 +40,15 @@ goes_first : (h : List Heard) (x : Heard) (e : Entry) → slice_get h 0 ≡ Some
 goes_first [] x e at k = absurd (cc)
 goes_first (y ∷ h) x e at k = (subst (IsHeardAs e) (sym (some_heard y x at)) k, refl)
 
-passed_one : (y : Heard) (f : Entry) (h : List Heard) (es : List Entry) (x : Heard) → IsHeardAs f y → slice_get (y ∷ h) (length (without_commits (f ∷ es))) ≡ Some x → slice_get h (length (without_commits es)) ≡ Some x
+passed_one : (y : Heard) (f : Entry) (h : List Heard) (es : List Entry) (x : Heard) → IsHeardAs f y → slice_get (y ∷ h) (length (history (f ∷ es))) ≡ Some x → slice_get h (length (history es)) ≡ Some x
 passed_one y (Begin c seat call) h es x k at = at
 passed_one y (Commit c) h es x k at = absurd k
 passed_one y (Return c r) h es x k at = at
 
-goes_pass : (h : List Heard) (ss : List Step) (es : List Entry) (x : Heard) (e : Entry) → GoesBy h ss es → slice_get h (length (without_commits es)) ≡ Some x → IsHeardAs e x → GoesBy h (ss ++ Passes ∷ []) (es ++ e ∷ [])
-goes_pass h [] es x e g at k = subst (λ (xs : List Entry). slice_get h (length (without_commits xs)) ≡ Some x → GoesBy h (Passes ∷ []) (xs ++ e ∷ [])) (sym g) (λ first. goes_first h x e first k) at
+goes_pass : (h : List Heard) (ss : List Step) (es : List Entry) (x : Heard) (e : Entry) → GoesBy h ss es → slice_get h (length (history es)) ≡ Some x → IsHeardAs e x → GoesBy h (ss ++ Passes ∷ []) (es ++ e ∷ [])
+goes_pass h [] es x e g at k = subst (λ (xs : List Entry). slice_get h (length (history xs)) ≡ Some x → GoesBy h (Passes ∷ []) (xs ++ e ∷ [])) (sym g) (λ first. goes_first h x e first k) at
 goes_pass h (Commits d ∷ ss) [] x e g at k = absurd g
-goes_pass h (Commits d ∷ ss) (f ∷ es) x e g at k = (g.0, goes_pass h ss es x e g.1 (subst (λ (y : Entry). slice_get h (length (without_commits (y ∷ es))) ≡ Some x) g.0 at) k)
+goes_pass h (Commits d ∷ ss) (f ∷ es) x e g at k = (g.0, goes_pass h ss es x e g.1 (subst (λ (y : Entry). slice_get h (length (history (y ∷ es))) ≡ Some x) g.0 at) k)
 goes_pass h (Passes ∷ ss) [] x e g at k = absurd g
 goes_pass [] (Passes ∷ ss) (f ∷ es) x e g at k = absurd g
 goes_pass (y ∷ h) (Passes ∷ ss) (f ∷ es) x e g at k = (g.0, goes_pass h ss es x e g.1 (passed_one y f h es x g.0 at) k)
@@ -186,12 +187,12 @@ last_heard (f ∷ es) (y ∷ g) e x k at = last_heard es g e x k.1 at
 
 pub led_return : (start : Start) (h : List Heard) (links : List Link) (x : Configuration) (last c : ℕ) (p : Pattern) → IsHistory h → slice_get h x.at ≡ Some (heard.Return c p) → is_in c x.held ≡ true → IsLedBy start h links x last
     → IsLedBy start h links (returned x c) last
-led_return start h links x last c p history is held l =
+led_return start h links x last c p ordered is held l =
     let reply = due_held start h l.es x c held l.leads in
     let e = Return c reply.0 in
-    let on = leads_return start h l.es x c p reply.0 history is held reply.1 l.leads in
+    let on = leads_return start h l.es x c p reply.0 ordered is held reply.1 l.leads in
     let at = ap (slice_get h) (sym l.leads.place) ∙ is in
-    let heard_last = last_heard (without_commits l.es) h e (heard.Return c p) (subst (λ (xs : List Entry). AreHeardIn xs h) (without_commits-append l.es (e ∷ [])) on.explains.heard_as) at in
+    let heard_last = last_heard (history l.es) h e (heard.Return c p) (subst (λ (xs : List Entry). AreHeardIn xs h) (history-append l.es (e ∷ [])) on.explains.heard_as) at in
     record {
       es = l.es ++ e ∷ [];
       steps = Passes ∷ l.steps;

@@ -8,9 +8,10 @@ use Rattle.fs_calls.specs.declared.call.Call.{Call}
 use Rattle.fs_calls.specs.declared.reply.Reply.{Reply}
 use Rattle.fs_timeline.specs.Timeline.{has_committed, call_of, commits}
 use Rattle.fs_timeline.specs.declared.entry.Entry.{Entry}
+use Rattle.fs_linearizable.specs.Linearizable.{history}
 use Rattle.fs_histories.specs.declared.heard.Heard.{Heard}
 use Rattle.fs_histories.specs.Heard.{entries}
-use Rattle.fs_histories.specs.Histories.{without_commits, ExplainsFront}
+use Rattle.fs_histories.specs.Histories.{ExplainsFront}
 use Rattle.fs_linearize.specs.declared.replies.Possible.{Possible}
 use Rattle.fs_linearize.specs.declared.replies.PossibleReply.{PossibleReply}
 use Rattle.fs_linearize.specs.declared.replies.TheConstants.{MOST_REPLIES}
@@ -18,7 +19,7 @@ use Rattle.fs_linearize.specs.declared.replies.TheConstants.{MOST_REPLIES}
 -- a way: a timeline that explains the entries before a place, in which the call that returns there has not committed
 pub record IsWay (start : Start) (h : List Heard) (place c : ℕ) (es : List Entry) : Type 0 where
   pub explains : ExplainsFront start h es
-  pub before : length (without_commits es) + 1 ≡ place
+  pub before : length (history es) + 1 ≡ place
   pub not_yet : has_committed c es ≡ false
 
 -- the reply that a call gets behind a timeline

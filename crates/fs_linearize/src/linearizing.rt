@@ -2,7 +2,7 @@
 
 ghost use Rattle.std.specs.Prelude.{◌≡◌, IfOk};
 ghost use Rattle.fs_histories.specs.Faults.{history_fault};
-ghost use Rattle.fs_linearize.specs.Results.{IsAnswerFor, fault_in};
+ghost use Rattle.fs_linearize.specs.Results.{IsAnswerFor, fault_in, TellsLinearizable};
 
 use crate::faults::first_fault;
 use crate::progress::Progress;
@@ -44,6 +44,7 @@ pub fn linearize<P: Progress>(
 ) -> Result<Found, AllocError>
     ensures answer { IfOk result (IsAnswerFor start.now history.items limit) }
     ensures fault { IfOk result (λ found. fault_in found ≡ history_fault history.items) }
+    ensures linearizable { IfOk result (TellsLinearizable start.now history.items) }
 {
     if let Some((place, kind)) = first_fault(alloc, &history)? {
         return Ok(Found::Fault(place, kind));

@@ -5,11 +5,12 @@ use Rattle.std.proofs.lemmas.List.{length-take-le, get_or-take}
 use Rattle.std.proofs.lemmas.Option.{slice_get_within, get_or_from_slice_get}
 use Rattle.fs_calls.specs.Starts.{Start}
 use Rattle.fs_timeline.specs.declared.entry.Entry.{Entry}
+use Rattle.fs_linearizable.specs.Linearizable.{history}
 use Rattle.fs_histories.specs.declared.heard.Heard.{Heard}
 use Rattle.fs_histories.specs.declared.heard.Heard.TheVariants.{Return}
 use Rattle.fs_histories.specs.declared.heard.Pattern.{Pattern}
 use Rattle.fs_histories.specs.Heard.{AreHeardIn}
-use Rattle.fs_histories.specs.Histories.{without_commits, Explains, HasNoOrder}
+use Rattle.fs_histories.specs.Histories.{Explains, HasNoOrder}
 use Rattle.fs_histories.specs.Faults.{history_fault}
 use Rattle.fs_histories.proofs.FaultLemmas.{explained_are_histories, faults_are_first}
 use Rattle.fs_linearize.specs.Results.{IsAnswerFor, IsReturnAt, WasLimited, fault_in}
@@ -54,8 +55,8 @@ explained : (start : Start) (h : List Heard) (place : ℕ) (refuted : HasNoOrder
 explained start h place refuted =
     let es : List Entry = refuted.before.0 in
     let front = refuted.before.1 in
-    let many : place - 1 ≡ length (without_commits es) = omega (arith, refuted.before.2) in
-    let heard = heard_take (without_commits es) h front.heard_as in
+    let many : place - 1 ≡ length (history es) = omega (arith, refuted.before.2) in
+    let heard = heard_take (history es) h front.heard_as in
     record { lawful = front.lawful; heard_as = rw many heard.0; whole = rw many heard.1 }
 
 limited : (start : Start) (h : List Heard) (limit place : ℕ) (f : Found) → HasNoOrder start h place → outcome_of f ≢ Lawful → IsAnswerFor start (take (place - 1) h) limit f → fault_in f ≡ history_fault (take (place - 1) h) → (at : ℕ) × WasLimited start (take (place - 1) h) limit at

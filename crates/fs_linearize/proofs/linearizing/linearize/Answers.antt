@@ -2,6 +2,7 @@ use Rattle.std.proofs.Common.{◌≡◌, None, subst, sym, ap, ◌∙◌}
 use Rattle.fs_histories.specs.Faults.{history_fault}
 use Rattle.fs_histories.specs.Histories.{IsHistory}
 use Rattle.fs_histories.proofs.FaultLemmas.{faults_are_first}
+use Rattle.fs_linearize.proofs.LinearizableLemmas.{fault_refuses, searched_tells}
 use Rattle.fs_linearize.proofs.linearizing.linearize.Goals as goal
 
 pub find_way-requires : goal.find_way-requires
@@ -9,3 +10,15 @@ find_way-requires g c =
     let h = c.args.history.items in
     let none : history_fault h ≡ None = sym (ap history_fault c.deref.ensures.value) ∙ sym c.in_ok-place.ensures ∙ c.in_default.is in
     subst IsHistory (sym c.deref-2.ensures.value) ((faults_are_first.none h).0 none)
+
+pub returns-in-Some-clause-linearizable : goal.returns-in-Some-clause-linearizable
+returns-in-Some-clause-linearizable g c =
+    fault_refuses c.args.start.now c.args.history.items _ (sym (ap history_fault c.deref.ensures.value) ∙ sym c.in_ok-place.ensures ∙ c.in-Some.is)
+
+pub returns-in_ok-tell-in-Ends-clause-linearizable : goal.returns-in_ok-tell-in-Ends-clause-linearizable
+returns-in_ok-tell-in-Ends-clause-linearizable g c =
+    searched_tells c.args.start.now c.args.history.items _ c.args.limit _ _ c.deref-2.ensures.value c.in_ok-steps.ensures c.in-Ends.is
+
+pub returns-in-NoOrder-clause-linearizable : goal.returns-in-NoOrder-clause-linearizable
+returns-in-NoOrder-clause-linearizable g c =
+    searched_tells c.args.start.now c.args.history.items _ c.args.limit _ _ c.deref-2.ensures.value c.in_ok-steps.ensures c.in-NoOrder.is

@@ -1,0 +1,3 @@
+pub mod LawfulLemmas
+pub mod LinearizationLemmas
+pub mod SeatLemmas

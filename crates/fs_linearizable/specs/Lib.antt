@@ -1,0 +1,3 @@
+pub mod Linearizable
+pub mod Laws
+pub mod Examples
