@@ -16,6 +16,7 @@ pub mod Resting
 pub mod Starting
 pub mod Keeping
 pub mod Again
+pub mod Looking
 pub mod Leasts
 pub mod Told
 pub mod Added

@@ -10,6 +10,7 @@ ghost use Rattle.fs_core.specs.Checkpoints.{IsWhyNot};
 ghost use Rattle.fs_core.specs.code.Leasts.{IsLeast, lesser};
 
 use crate::machine::Core;
+use crate::start_tree::play;
 use fs_memory::Memory;
 use fs_names::{CallNo, SeatNo};
 use fs_seq::SeqTree;
@@ -68,9 +69,7 @@ impl Core {
         ensures refused { OnErr result (memory.new ≢ memory.old) }
     {
         let mut tree = self.start().copy_counted(memory)?;
-        for i in 0..self.commits() {
-            tree.apply_counted(alloc, memory, self.committed(i))?;
-        }
+        play(alloc, memory, &mut tree, self.index())?;
         Ok(tree)
     }
 
@@ -142,9 +141,9 @@ impl Core {
             self.told();
             return Ok(Vec::new(alloc));
         }
-        let start = self
-            .played(alloc, memory)
+        let told = self
+            .play_again(alloc, memory)
             .map_err(|_| NoCheckpoint::OutOfMemory)?;
-        Ok(self.begin_again(alloc, start).into_entries())
+        Ok(told.into_entries())
     }
 }

@@ -7,6 +7,7 @@ ghost use Rattle.fs_nodes.specs.Stores.{graph_of};
 ghost use Rattle.fs_calls.specs.Outcomes.{play};
 ghost use Rattle.fs_calls.specs.Sights.{tree_shapes};
 ghost use Rattle.fs_timeline.specs.Timeline.{IsLawful, commits};
+ghost use Rattle.fs_linearizable.specs.Linearizable.{history, IsLinearizable};
 ghost use Rattle.fs_core.specs.Events.{IsSeated, Happens, IsRefused, IsRun};
 ghost use Rattle.fs_core.specs.CoreValues.{state_of, IsAtRest};
 
@@ -44,6 +45,7 @@ impl Core {
 
         // The linearization theorem: well formed with lawful replies, and spelled at rest.
         ensures lawful { IsLawful self.new.start self.new.timeline }
+        ensures linearizable { IsLinearizable self.new.start (history self.new.timeline) }
         ensures spelled { IsAtRest self.new → graph_shapes (graph_of self.new.store) ≡ tree_shapes (play self.new.start (commits self.new.timeline)) }
         ensures seats { length self.new.seats ≡ length self.old.seats }
         ensures granted { result.refusal ≢ Some OutOfMemory → self.new.refusals ≡ self.old.refusals }

@@ -29,6 +29,7 @@ pub mod machine;
 pub mod outcome;
 mod seat;
 mod seat_order;
+mod start_tree;
 mod telling;
 mod verdict;
 

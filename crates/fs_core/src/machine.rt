@@ -13,6 +13,7 @@ ghost use Rattle.fs_locks.specs.Holding.{holder, room};
 ghost use Rattle.fs_calls.specs.Outcomes.{play, next_start};
 ghost use Rattle.fs_calls.specs.Sights.{tree_shapes};
 ghost use Rattle.fs_timeline.specs.Timeline.{IsLawful, commits};
+ghost use Rattle.fs_linearizable.specs.Linearizable.{history, IsLinearizable};
 ghost use Rattle.fs_machine.specs.States.{Begins, Step, NoneBelow, Run, IsStart, fresh, empty, begun_again};
 ghost use Rattle.fs_core.specs.CoreValues.{state_of, IsAtRest};
 ghost use Rattle.fs_core.specs.code.Doing.{Does};
@@ -27,6 +28,7 @@ use crate::done::Done;
 use crate::helping::{Way, no_way, to_help_before};
 use crate::seat::{self, Running};
 use crate::seat_order::SeatOrder;
+use crate::start_tree::StartTree;
 use fs_calls::{Call, phases};
 use fs_finish::Plan;
 use fs_index::IndexedTimeline;
@@ -60,7 +62,7 @@ pub struct Core {
     // The seats with a call under way first: what goes over all calls passes no seat of an ended session. Of the core's value it
     // is no part.
     order: SeatOrder,
-    start: SeqTree,
+    start: StartTree,
     // What begins and seats ask for memory.
     memory: Memory,
 }
@@ -305,7 +307,7 @@ impl Core {
             ways: Vec::new(alloc),
             starting: Vec::new(alloc),
             order: SeatOrder::new(alloc),
-            start,
+            start: StartTree::new(start),
             memory: Memory::new(),
         }
     }
@@ -415,7 +417,7 @@ impl Core {
             &mut self.holders,
             &mut self.timeline,
             self.begun,
-            self.start.limits(),
+            self.start.tree().limits(),
         ) {
             Err(refusal) => Err(refusal),
             Ok(ready) => {
@@ -489,7 +491,7 @@ impl Core {
     pub fn start(&self) -> &SeqTree
         ensures { result.now ≡ self.now.start }
     {
-        &self.start
+        self.start.tree()
     }
 
     /// The timeline begins again at the tree that its commits play, and is handed out. It takes no memory. Nodes and seats stay.
@@ -503,9 +505,33 @@ impl Core {
     {
         self.begun = 0;
         self.commits = 0;
-        self.start = start;
+        self.start = StartTree::new(start);
         let told = mem::replace(&mut self.timeline, IndexedTimeline::new(alloc));
         told.into_timeline()
+    }
+
+    /// The timeline begins again at the tree that its commits play, which are played here, and is handed out. Nodes and seats stay.
+    /// The only error is out of memory, and by it nothing changes.
+    pub(crate) fn play_again(
+        &mut self,
+        alloc: Global,
+        memory: &mut Memory,
+    ) -> Result<Timeline, AllocError>
+        requires rest { IsAtRest self.old }
+        ensures state { OnOk result (state_of self.new ≡ begun_again (state_of self.old)) }
+        ensures entries { IfOk result (λ told. told.entries ≡ self.old.timeline) }
+        ensures seats { OnOk result (self.new.seats ≡ self.old.seats) }
+        ensures refusals { self.new.refusals ≡ self.old.refusals }
+        ensures err { OnErr result (self.new ≡ self.old) }
+        ensures granted { OnOk result (memory.new ≡ memory.old) }
+        ensures refused { OnErr result (memory.new ≢ memory.old) }
+    {
+        self.start
+            .advance(alloc, memory, &self.timeline, self.holders.room())?;
+        self.begun = 0;
+        self.commits = 0;
+        let told = mem::replace(&mut self.timeline, IndexedTimeline::new(alloc));
+        Ok(told.into_timeline())
     }
 
     /// The tree at which the timeline begins, the entries so far and the nodes, handed out. It takes no memory.
@@ -520,7 +546,7 @@ impl Core {
             store,
             ..
         } = self;
-        (start, timeline.into_timeline(), store)
+        (start.into_tree(), timeline.into_timeline(), store)
     }
 
     /// What every state keeps, told to a caller: a run leads to it, its timeline is lawful, and where no call is under
@@ -528,6 +554,7 @@ impl Core {
     pub fn told(&self)
         ensures run { Run (state_of self.now) }
         ensures lawful { IsLawful self.now.start self.now.timeline }
+        ensures linearizable { IsLinearizable self.now.start (history self.now.timeline) }
         ensures spelled { IsAtRest self.now → graph_shapes (graph_of self.now.store) ≡ tree_shapes (play self.now.start (commits self.now.timeline)) }
     {
         let _ = &self.timeline;

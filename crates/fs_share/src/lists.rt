@@ -10,7 +10,7 @@ ghost use Rattle.fs_timeline.specs.Timeline.{IsLawful, commits};
 ghost use Rattle.fs_share.specs.Returns.{returns, AllReturned};
 
 use crate::gate::Gate;
-use crate::session::Tally;
+use crate::session::{Session, Tally};
 use crate::tree::{AtomFs, Closed};
 use fs_calls::Call;
 use fs_core::Refusal;
@@ -50,26 +50,26 @@ fn out_of_memory() -> ListsFault {
     ListsFault::Refused(Refusal::OutOfMemory)
 }
 
-/// Plays a list by a session of its own.
+/// Plays a list by a session that has made no call yet, and ends it.
 fn play_list<N: Named, R: Wait + Clock, G: Gate>(
     rt: &R,
     alloc: Global,
-    fs: &AtomFs<N>,
+    mut session: Session<'_, N>,
     list: &[Call],
     gate: &G,
 ) -> Result<Tally<N>, Refusal>
     ensures { IfOk result (λ tally. tally.count ≡ length list.now) }
 {
-    let Ok(mut session) = fs.session(rt) else {
-        return Err(Refusal::OutOfMemory);
-    };
+    if session.count() > 0 {
+        return Err(Refusal::SeatBusy);
+    }
     for call in list {
         session.call(rt, alloc, call, gate)?;
     }
     Ok(session.end())
 }
 
-/// Starts a worker on a list.
+/// Starts a worker on a list, with a session that is opened before. So the lists have the seats of a new tree in their order.
 fn start<'s, E, N: Named + Send + Sync, R: Wait + Clock + Sync, G: Gate + Sync>(
     rt: &'s R,
     alloc: Global,
@@ -80,9 +80,10 @@ fn start<'s, E, N: Named + Send + Sync, R: Wait + Clock + Sync, G: Gate + Sync>(
 ) -> Result<Worker<N>, ListsFault>
     ensures { IfOk result (λ worker. worker.promise.0 ≡ length list.now) }
 {
+    let session = fs.session(rt).map_err(|_| out_of_memory())?;
     match scope.spawn_with(
         Plays(list.len()),
-        move || play_list(rt, alloc, fs, list, gate),
+        move || play_list(rt, alloc, session, list, gate),
     ) {
         Ok(worker) => Ok(worker),
         Err(_) => Err(ListsFault::NoWorker),

@@ -8,6 +8,7 @@ ghost use Rattle.fs_calls.specs.Starts.{Start, start_tree, root_start};
 ghost use Rattle.fs_calls.specs.Tree.{IsTree};
 ghost use Rattle.fs_calls.specs.Sights.{tree_shapes};
 ghost use Rattle.fs_timeline.specs.Timeline.{IsLawful, commits};
+ghost use Rattle.fs_linearizable.specs.Linearizable.{history, IsLinearizable};
 ghost use Rattle.fs_share.specs.Returns.{answered, returns, AllReturned};
 ghost use mathlib.Core.List.{IsPrefix};
 
@@ -306,6 +307,7 @@ impl<N: Named> AtomFs<N> {
     pub fn close<R: Wait>(self, rt: &R, tallies: Vec<Tally<N>>) -> Closed
         ensures start { result.start ≡ self.start }
         ensures lawful { IsLawful result.start result.timeline.entries }
+        ensures linearizable { IsLinearizable result.start (history result.timeline.entries) }
         ensures spelled { AllReturned result.timeline.entries → graph_shapes (graph_of result.store) ≡ tree_shapes (play result.start (commits result.timeline.entries)) }
 
         // At least as many calls returned as the tallies add up to, and exactly as many where each session handed in its own.
@@ -330,6 +332,7 @@ impl<N: Named> AtomFs<N> {
         ensures from { told.now.start ≡ self.start }
         ensures start { result.0.start ≡ self.start }
         ensures lawful { IsLawful result.0.start result.0.timeline.entries }
+        ensures linearizable { IsLinearizable result.0.start (history result.0.timeline.entries) }
         ensures spelled { AllReturned result.0.timeline.entries → graph_shapes (graph_of result.0.store) ≡ tree_shapes (play result.0.start (commits result.0.timeline.entries)) }
         ensures counted { sum_by (λ tally. tally.count) tallies.items ≤ returns result.0.timeline.entries }
         ensures bound { vec_len tallies ≤ result.0.sessions }

@@ -5,14 +5,13 @@ ghost use Rattle.std.specs.Fn.{FnOnceReturnsAtMut};
 use std::hint::spin_loop;
 use std::sync::{Mutex, MutexGuard, Wait};
 
-/// How often a thread looks for the lock before it sleeps for it, and after how many pauses of the processor it looks for
-/// the first time.
-const LOOKS: u32 = 6;
-
-const PAUSES: u32 = 64;
+/// After how many pauses of the processor a thread looks for the lock again, each time that it finds it taken; then it sleeps
+/// for it. Four threads that sleep after 4,000 pauses in all spend their time on being woken; far more than these 23,000,
+/// and a crowd of threads on one path uses the processors up only by looking.
+const PAUSES: [u32; 6] = [64, 512, 2_048, 4_096, 8_192, 8_192];
 
 /// A lock. Whoever has it has it for one event, and a sleep takes longer than hundreds of them. So a thread that finds it
-/// taken first looks again some times, each time after twice as many pauses, and sleeps for it only then.
+/// taken first looks again some times, each time after a longer while, and sleeps for it only then.
 pub struct Lock<V> {
     value: Mutex<V>,
 }
@@ -43,8 +42,8 @@ impl<V> Lock<V> {
     /// The same where another thread has the lock just now.
     #[inline(never)]
     fn take_later<R: Wait>(&self, rt: &R) -> MutexGuard<'_, V> {
-        for turn in 0..LOOKS {
-            for _ in 0..(PAUSES << turn) {
+        for pauses in PAUSES {
+            for _ in 0..pauses {
                 spin_loop();
             }
             if let Some(value) = self.value.try_lock() {

@@ -21,7 +21,7 @@ invariant_of-self c = rw c.in-Err.ensures.timeline
 pub invariant_of-self-in-Ok : goal.invariant_of-self-in-Ok
 invariant_of-self-in-Ok c = rw (c.push.ensures, c.in-Ok.ensures.places) (
   counted _ _ _ _ c.make_ready.new.memory (begun_by _ _ _ _ c.get-at.result c.args.seat c.args.call.now c.self.invariant.0 c.get-at.ensures c.index.result.now (rw (← c.self.view_is) at c.requires.seat) c.index.ensures (none_by_test c.index.result.now c.is_some.result c.is_some.ensures c.if-is_some.false)
-      c.make_ready.new.store c.make_ready.new.holders c.in-Ok.ready.op c.new-call.result c.in-Ok.ready.number c.in-Ok.ready.copy c.put.new.slot (rw c.limits.ensures at c.in-Ok.ensures.op) (ap (λ (s : Seen). s.limit) c.in-Ok.ensures.rest) (ap (λ (s : Seen). s.in_blocks) c.in-Ok.ensures.rest) c.in-Ok.ensures.holders c.in-Ok.ensures.more c.in-Ok.ensures.within
+      c.make_ready.new.store c.make_ready.new.holders c.in-Ok.ready.op c.new-call.result c.in-Ok.ready.number c.in-Ok.ready.copy c.put.new.slot (rw (c.limits.ensures, c.tree.ensures) at c.in-Ok.ensures.op) (ap (λ (s : Seen). s.limit) c.in-Ok.ensures.rest) (ap (λ (s : Seen). s.in_blocks) c.in-Ok.ensures.rest) c.in-Ok.ensures.holders c.in-Ok.ensures.more c.in-Ok.ensures.within
       c.new-call.ensures c.in-Ok.ensures.number c.in-Ok.ensures.few c.in-Ok.ensures.copy (rw c.open.ensures at c.put.ensures)).1,
   length_after _ _ _ _ c.self.invariant.1,
   starting_begun _ _ _ _ _ _ c.in-Ok.ready.op c.in-Ok.ensures.op _ _ c.get-at.result c.new-call.result c.start.new.starting c.put.new.slot c.self.invariant.2
@@ -32,5 +32,5 @@ invariant_of-self-in-Ok c = rw (c.push.ensures, c.in-Ok.ensures.places) (
 pub returns-in-Ok-clause-begins : goal.returns-in-Ok-clause-begins
 returns-in-Ok-clause-begins c = rw (c.push.ensures, c.in-Ok.ensures.places, ← c.self.view_is)
     (begun_by _ _ _ _ c.get-at.result c.args.seat c.args.call.now c.self.invariant.0 c.get-at.ensures c.index.result.now (rw (← c.self.view_is) at c.requires.seat) c.index.ensures (none_by_test c.index.result.now c.is_some.result c.is_some.ensures c.if-is_some.false)
-    c.make_ready.new.store c.make_ready.new.holders c.in-Ok.ready.op c.new-call.result c.in-Ok.ready.number c.in-Ok.ready.copy c.put.new.slot (rw c.limits.ensures at c.in-Ok.ensures.op) (ap (λ (s : Seen). s.limit) c.in-Ok.ensures.rest) (ap (λ (s : Seen). s.in_blocks) c.in-Ok.ensures.rest) c.in-Ok.ensures.holders c.in-Ok.ensures.more c.in-Ok.ensures.within
+    c.make_ready.new.store c.make_ready.new.holders c.in-Ok.ready.op c.new-call.result c.in-Ok.ready.number c.in-Ok.ready.copy c.put.new.slot (rw (c.limits.ensures, c.tree.ensures) at c.in-Ok.ensures.op) (ap (λ (s : Seen). s.limit) c.in-Ok.ensures.rest) (ap (λ (s : Seen). s.in_blocks) c.in-Ok.ensures.rest) c.in-Ok.ensures.holders c.in-Ok.ensures.more c.in-Ok.ensures.within
     c.new-call.ensures c.in-Ok.ensures.number c.in-Ok.ensures.few c.in-Ok.ensures.copy (rw c.open.ensures at c.put.ensures)).0
