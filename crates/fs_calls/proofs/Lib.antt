@@ -2,6 +2,7 @@ pub mod LookLemmas
 pub mod ListLemmas
 pub mod KeyLemmas
 pub mod Children
+pub mod ListPieces
 pub mod FormLemmas
 pub mod RowNames
 pub mod ResolutionLemmas

@@ -1,23 +1,28 @@
--- Worked examples of calls on a tree: each call with its reply, from the root alone by the first limits, and where it tells more the tree at the end.
+-- Worked examples of calls on a tree: each call with its reply, from the root alone, by the first limits but where others are named, and where it tells more the tree at the end.
 use Rattle.std.specs.Prelude.{◌≡◌, ℕ, suc, zero, ◌+◌, ◌/◌, ◌%◌, List, [], ◌∷◌, ◌++◌, map, codes}
 use Prim.Native.String.{String}
 use Rattle.fs_names.specs.Keys.{Key}
 use Rattle.fs_names.specs.Reading.{names}
 use Rattle.fs_names.specs.declared.kind.Kind.TheVariants as kind
-use Rattle.fs_names.specs.declared.limits.Limits.TheVariants.{V1}
+use Rattle.fs_names.specs.declared.limits.Limits.{Limits}
+use Rattle.fs_names.specs.declared.limits.Limits.TheVariants.{V1, V2, V3}
 use Rattle.fs_calls.specs.declared.call.Call.{Call}
-use Rattle.fs_calls.specs.declared.call.Call.TheVariants.{Mkdir, Mknod, Unlink, Rmdir, Rename, Exchange, Stat, Readdir, Read, Write, Truncate}
+use Rattle.fs_calls.specs.declared.call.Call.TheVariants.{Mkdir, Mknod, Unlink, Rmdir, Rename, Exchange, Stat, Readdir, ListAfter, Read, Write, Truncate}
 use Rattle.fs_calls.specs.declared.reply.Reply.{Reply}
 use Rattle.fs_calls.specs.declared.reply.Reply.TheVariants as answer
 use Rattle.fs_calls.specs.declared.reply.Reply.TheVariants.{Done, Names, Bytes, Wrote, Failed}
-use Rattle.fs_calls.specs.declared.errno.Errno.TheVariants.{Enoent, Enotdir, Eexist, Enotempty, Eisdir, Einval, Ebusy, Eperm, Enospc, Efbig}
+use Rattle.fs_calls.specs.declared.errno.Errno.TheVariants.{Enoent, Enotdir, Eexist, Enotempty, Eisdir, Einval, Ebusy, Eperm, Enospc, Efbig, Eoverflow}
 use Rattle.fs_calls.specs.Tree.{Tree, Dir, File}
 use Rattle.fs_calls.specs.Starts.{root_start}
 use Rattle.fs_calls.specs.Outcomes.{play, replies}
 
--- calls with their replies, in order
+-- calls with their replies, in order, by some limits
+abbrev pub AnsweredBy : Limits → List (Call × Reply) → Type 0
+AnsweredBy limits steps = replies (root_start limits) (map (λ s. s.0) steps) ≡ map (λ s. s.1) steps
+
+-- and by the first
 abbrev pub Answered : List (Call × Reply) → Type 0
-Answered steps = replies (root_start V1) (map (λ s. s.0) steps) ≡ map (λ s. s.1) steps
+Answered steps = AnsweredBy V1 steps
 
 abbrev pub tree_after : List (Call × Reply) → Tree
 tree_after steps = play (root_start V1) (map (λ s. s.0) steps)
@@ -179,4 +184,53 @@ FullDirectory = Answered
     ∷ (Rename (at "/x") (at "/d/y"), Failed Enospc)
     ∷ (Rename (at "/x") (numbered 1), Done)
     ∷ (Stat (at "/d"), answer.Stat kind.Dir 256)
+    ∷ [])
+
+-- a directory is listed in pieces: from its first name on, behind a name that it has, or where a name would stand
+abbrev pub ListsInPieces : Type 0
+ListsInPieces = AnsweredBy V3
+    ((Mkdir (at "/d"), Done)
+    ∷ (ListAfter 2 (at "/d") [], Names [])
+    ∷ (Mknod (at "/d/b"), Done)
+    ∷ (Mknod (at "/d/c"), Done)
+    ∷ (Mkdir (at "/d/a"), Done)
+    ∷ (ListAfter 2 (at "/d") [], Names (codes "a" ∷ codes "b" ∷ []))
+    ∷ (ListAfter 2 (at "/d") (at "/d/b"), Names (codes "c" ∷ []))
+    ∷ (ListAfter 2 (at "/d") (at "/d/c"), Names [])
+    ∷ (ListAfter 9 (at "/d") (at "/x/aa"), Names (codes "b" ∷ codes "c" ∷ []))
+    ∷ (ListAfter 0 (at "/d") [], Names [])
+    ∷ (ListAfter 1 [] [], Names (codes "d" ∷ []))
+    ∷ (ListAfter 1 (at "/d/b") [], Failed Enotdir)
+    ∷ (ListAfter 1 (at "/d/z") [], Failed Enoent)
+    ∷ [])
+
+-- by the third limits a directory has more names than a reply: it is listed, and its names are not read at once
+abbrev pub CrowdedDirectory : Type 0
+CrowdedDirectory = AnsweredBy V3
+    ((Mkdir (at "/d"), Done)
+    ∷ making_files 257
+    ++ (Readdir (at "/d"), Failed Eoverflow)
+    ∷ (ListAfter 3 (at "/d") (numbered 254), Names (codes "255" ∷ codes "256" ∷ []))
+    ∷ (Stat (at "/d"), answer.Stat kind.Dir 257)
+    ∷ (Unlink (numbered 256), Done)
+    ∷ (ListAfter 3 (at "/d") (numbered 254), Names (codes "255" ∷ []))
+    ∷ [])
+
+-- files have more bytes by the second limits than by the first, and more still by the third
+abbrev pub SecondLimits : Type 0
+SecondLimits = AnsweredBy V2
+    ((Mknod (at "/f"), Done)
+    ∷ (Write (at "/f") 65536 (255 ∷ []), Wrote 1)
+    ∷ (Stat (at "/f"), answer.Stat kind.File 65537)
+    ∷ (Write (at "/f") 1048576 (0 ∷ []), Failed Efbig)
+    ∷ (Truncate (at "/f") 1048577, Failed Efbig)
+    ∷ [])
+
+abbrev pub ThirdLimits : Type 0
+ThirdLimits = AnsweredBy V3
+    ((Mknod (at "/f"), Done)
+    ∷ (Write (at "/f") 65536 (255 ∷ []), Wrote 1)
+    ∷ (Write (at "/f") 2147483648 (0 ∷ []), Failed Efbig)
+    ∷ (Truncate (at "/f") 2147483649, Failed Efbig)
+    ∷ (Stat (at "/f"), answer.Stat kind.File 65537)
     ∷ [])

@@ -1,6 +1,6 @@
 //! Worked examples, which the check computes from the definitions.
 
-ghost use Rattle.fs_calls.specs.Examples.{RootCalls, ResolutionErrors, FileBytes, FileOffsets, RenamesInSequence, RenamesOntoAncestors, ExchangesInSequence, ExchangeOfTwoTrees, FullDirectory};
+ghost use Rattle.fs_calls.specs.Examples.{RootCalls, ResolutionErrors, FileBytes, FileOffsets, RenamesInSequence, RenamesOntoAncestors, ExchangesInSequence, ExchangeOfTwoTrees, FullDirectory, ListsInPieces, CrowdedDirectory, SecondLimits, ThirdLimits};
 
 /// Calls on the root.
 pub fn calls_on_the_root()
@@ -45,4 +45,24 @@ pub fn exchange_of_two_trees()
 /// A directory with as many entries as it can have.
 pub fn full_directory()
     ensures { FullDirectory }
+{}
+
+/// Directories that are listed in pieces.
+pub fn lists_in_pieces()
+    ensures { ListsInPieces }
+{}
+
+/// A directory with more names than a reply has.
+pub fn crowded_directory()
+    ensures { CrowdedDirectory }
+{}
+
+/// Files that the second limits allow, and one that they do not.
+pub fn second_limits()
+    ensures { SecondLimits }
+{}
+
+/// The same of the third.
+pub fn third_limits()
+    ensures { ThirdLimits }
 {}

@@ -1,6 +1,6 @@
 //! What holds of the definitions. Each function's contract is a law, and its body is empty.
 
-ghost use Rattle.fs_calls.specs.Laws.{ErrorsChangeNothing, StaysATree, PlayedTreesAreTrees, SameTrees, RenamesMove, ExchangesSwap};
+ghost use Rattle.fs_calls.specs.Laws.{ErrorsChangeNothing, StaysATree, PlayedTreesAreTrees, SameTrees, RenamesMove, ExchangesSwap, PiecesAreAll};
 
 /// A call whose reply is an error leaves the tree as it was.
 pub fn errors_change_nothing()
@@ -34,4 +34,9 @@ pub fn renames_move()
 /// itself changes nothing.
 pub fn exchanges_swap()
     ensures { ExchangesSwap }
+{}
+
+/// The pieces of a list of a directory, one behind the other from the root on, are its names as far as they reach.
+pub fn pieces_are_all()
+    ensures { PiecesAreAll }
 {}

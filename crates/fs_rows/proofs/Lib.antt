@@ -3,3 +3,4 @@ pub mod Walked
 pub mod Appended
 pub mod Listed
 pub mod Fitting
+pub mod PlainReplies

@@ -90,7 +90,7 @@ key_read limits (n ∷ ns) h = ap (key_at limits) (path_spelled n ns) ∙ some_k
 -- ---- the line of a node
 
 -- the words of a node, joined
-abbrev line_of : Key × Node → List ℕ
+abbrev pub line_of : Key × Node → List ℕ
 line_of e = join_with_byte 32 (node_words e.0 e.1)
 
 -- what a node is told as
@@ -138,13 +138,13 @@ not_passed : (e : Key × Node) → is_passed_over (line_of e) ≡ false
 not_passed (key, Dir) = refl
 not_passed (key, File bytes) = refl
 
-not_entries : (e : Key × Node) → bytes_eq (line_of e) (codes "entries") ≡ false
+pub not_entries : (e : Key × Node) → bytes_eq (line_of e) (codes "entries") ≡ false
 not_entries (key, Dir) = refl
 not_entries (key, File bytes) = refl
 
 -- ---- the lines of a start tree
 
-abbrev Told : Limits → List (Key × Node) → Type 0
+abbrev pub Told : Limits → List (Key × Node) → Type 0
 Told limits u = AllByRecursion (FitsNode limits) u
 
 grows : (limits : Limits) (first : Key × Node) (t : Tree) (e : Key × Node) (u : Tree) → IsWithinLimits limits (first ∷ (t ++ e ∷ u)) → grown limits (first ∷ t) (told_of e) ≡ Ok (first ∷ (t ++ e ∷ []))
@@ -168,7 +168,7 @@ started_again limits first t (e ∷ u) n es within told fit =
 
 -- ---- the lines of the text
 
-lines_ended : (u : List (Key × Node)) → flat_map node_line u ≡ flat_map ended (map line_of u)
+pub lines_ended : (u : List (Key × Node)) → flat_map node_line u ≡ flat_map ended (map line_of u)
 lines_ended [] = refl
 lines_ended (e ∷ u) = ap (λ (z : List ℕ). ended (line_of e) ++ z) (lines_ended u)
 
@@ -194,7 +194,7 @@ text_of_lines start es told =
     ∙ ap (λ (z : List ℕ). header ++ (codes "\nstart\n" ++ z)) (sym (flat_map-append ended (map line_of start.tree) (codes "entries" ∷ map joined es)))
     ∙ header_ended start.limits (flat_map ended (rest_lines start.tree es))
 
-nodes_are_lines : (limits : Limits) (u : List (Key × Node)) (more : List (List ℕ)) → Told limits u → AllByRecursion IsLine more → AllByRecursion IsLine (map line_of u ++ more)
+pub nodes_are_lines : (limits : Limits) (u : List (Key × Node)) (more : List (List ℕ)) → Told limits u → AllByRecursion IsLine more → AllByRecursion IsLine (map line_of u ++ more)
 nodes_are_lines limits [] more told h = h
 nodes_are_lines limits (e ∷ u) more told h = (IsLine_joined (node_words e.0 e.1) (words_good limits e told.0), nodes_are_lines limits u more told.1 h)
 

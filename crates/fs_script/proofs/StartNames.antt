@@ -1,7 +1,7 @@
 -- A tree that was read has the limits by which it was read, and its names keep them.
 use Rattle.std.proofs.Common.{◌≡◌, ◌≤◌, ℕ, ◌+◌, Bool, true, false, cond, List, [], ◌∷◌, ◌++◌, length, Option, Some, None, Result, Ok, Err, refl, sym, ap, subst, ◌∙◌, codes, arith, rules}
 use Rattle.std.proofs.lemmas.Bool.Decides.{nat_tests}
-use Rattle.std.specs.Prelude.{nat_le, ◌&&◌, take, drop, IfOk}
+use Rattle.std.specs.Prelude.{nat_le, nat_lt, ◌&&◌, take, drop, IfOk}
 use Rattle.std.specs.List.{All, AllByRecursion, slice_split, join_with_byte}
 use Rattle.std.proofs.lemmas.List.Splits.{slice_split_at}
 use Rattle.std.proofs.lemmas.List.Elements.{All-from_recursion}
@@ -30,7 +30,7 @@ use Rattle.fs_words.proofs.PathLemmas.{IsShort}
 use Rattle.fs_text.specs.Journal.{names_at, entries_from, entries_of}
 use Rattle.fs_text.proofs.ReadNames.{Given, given_then, given_is}
 use Rattle.fs_words.specs.Headers.{started_header, announced, is_too_long}
-use Rattle.fs_script.specs.Journals.{Read, key_at, node_at, node_in_line, grown, in_start, with_start, started_from, behind_line, started_lines, announced_journal, journal_behind, journal_of, line_end, nodes_journal, start_read, by_limits, start_of}
+use Rattle.fs_script.specs.Journals.{Read, key_at, node_at, node_in_line, grown, in_start, with_start, started_from, behind_line, started_lines, announced_journal, journal_behind, journal_of, line_end, nodes_journal, start_read, entries_line, before_entries, nodes_read, by_limits, start_of}
 use Rattle.fs_script.specs.TreeText.{node_words}
 use Rattle.fs_words.proofs.HeaderLemmas.{started_announced}
 
@@ -182,15 +182,26 @@ by_limits_given limits (Ok read) h = by (same_limits limits read.0.limits) refl
     by true e = let same : read.0.limits ≡ limits = sym (one_set limits read.0.limits e) in (same, subst (λ (l : Limits). NamesTree (IsShort l) read.0.tree) same h.1)
     by false e = tt
 
+-- a fault in place of what is read changes no start
+before_given : (P : Start → Type 0) (n : Option ℕ) (read : Result Start ScriptFault) → Given P read → Given P (before_entries n read)
+before_given P None read h = h
+before_given P (Some n) (Ok start) h = tt
+before_given P (Some n) (Err f) h = either P (nat_lt f.line n) (Err f) (Err (fault_at n kind.BadStart)) tt tt
+
+lines_of_nodes_given : (limits : Limits) (nodes : List ℕ) → Given (IsShortStart limits) (nodes_read limits nodes)
+lines_of_nodes_given limits nodes = before_given (IsShortStart limits) (entries_line 2 (lines_of nodes)) _ (start_given limits (journal_of (nodes_journal limits nodes)) (nodes_given limits nodes))
+
 text_given : (limits : Limits) (text : List ℕ) → Given (IsShortStart limits) (start_of limits text)
-text_given limits text = either (IsShortStart limits) (bytes_eq (take 5 text) (codes "tree\n")) _ _ (start_given limits (journal_of (nodes_journal limits (drop 5 text))) (nodes_given limits (drop 5 text))) (by_limits_given limits (journal_of text) (journal_given text))
+text_given limits text =
+    either (IsShortStart limits) (bytes_eq (take 5 text) (codes "tree\n")) _ _ (lines_of_nodes_given limits (drop 5 text))
+    (either (IsShortStart limits) (bytes_eq text (codes "tree")) (Err (fault_at 2 kind.BadStart)) (by_limits limits (journal_of text)) tt (by_limits_given limits (journal_of text) (journal_given text)))
 
 pub short_start : (limits : Limits) (text : List ℕ) (start : Start) → start_of limits text ≡ Ok start → (start.limits ≡ limits) × NamesTree (IsShort limits) start.tree
 short_start limits text start is = given_is (IsShortStart limits) (start_of limits text) start (text_given limits text) is
 
 -- so what is read of the lines of nodes has these limits
-pub nodes_limits : (limits : Limits) (nodes : List ℕ) (read : Result Start ScriptFault) → GivesText (λ (start : Start). start) read (start_read (journal_of (nodes_journal limits nodes))) → IfOk read (λ (start : Start). start.limits ≡ limits)
-nodes_limits limits nodes (Ok start) is = (given_is (IsShortStart limits) (start_read (journal_of (nodes_journal limits nodes))) start (start_given limits (journal_of (nodes_journal limits nodes)) (nodes_given limits nodes)) is).0
+pub nodes_limits : (limits : Limits) (nodes : List ℕ) (read : Result Start ScriptFault) → GivesText (λ (start : Start). start) read (nodes_read limits nodes) → IfOk read (λ (start : Start). start.limits ≡ limits)
+nodes_limits limits nodes (Ok start) is = (given_is (IsShortStart limits) (nodes_read limits nodes) start (lines_of_nodes_given limits nodes) is).0
 nodes_limits limits nodes (Err f) is = tt
 
 -- and what is read of a text

@@ -1,17 +1,20 @@
 -- The text of a tree is read again.
-use Rattle.std.proofs.Common.{refl, ◌≡◌, ℕ, ◌-◌, ◌≤◌, Bool, true, false, cond, List, [], ◌∷◌, ◌++◌, length, sym, ap, subst, ◌∙◌, arith, append_assoc, append-nil, length-append, codes, Ok, slice_index, ◌==◌}
-use Rattle.std.specs.List.{flat_map, join_with_byte}
+use Rattle.std.proofs.Common.{refl, ◌≡◌, ℕ, ◌-◌, ◌≤◌, Bool, true, false, cond, List, [], ◌∷◌, ◌++◌, length, sym, ap, subst, ◌∙◌, arith, append_assoc, append-nil, length-append, codes, Ok, None, map, ◌+◌, slice_index, ◌==◌}
+use Rattle.std.specs.List.{flat_map, join_with_byte, AllByRecursion}
 use Rattle.std.proofs.Math.Seq.{get_or-append_seam}
-use Rattle.std.proofs.lemmas.Bool.{cond-true}
+use Rattle.std.proofs.lemmas.Bool.{cond-true, cond-false}
 use Rattle.fs_names.specs.Keys.{Key}
 use Rattle.fs_calls.specs.Tree.{Node, Tree}
 use Rattle.fs_calls.specs.Starts.{Start}
 use Rattle.fs_rows.proofs.Fitting.{root_first}
 use Rattle.fs_script.specs.TreeText.{node_line, node_words, tree_text}
 use Rattle.fs_script.specs.Laws.{ReadsTreesBack}
+use Rattle.fs_names.specs.declared.limits.Limits.{Limits}
+use Rattle.fs_words.specs.Lines.{lines_of}
 use Rattle.fs_words.specs.Headers.{started_header, text_limit}
-use Rattle.fs_script.specs.Journals.{is_told, opening, ends_line, line_end, nodes_journal, start_read, journal_text, journal_of, tree_of}
-use Rattle.fs_script.proofs.JournalLemmas.{reads_journals_back}
+use Rattle.fs_words.proofs.WordLemmas.{IsLine, lines_of_ended}
+use Rattle.fs_script.specs.Journals.{is_told, opening, ends_line, line_end, nodes_journal, start_read, entries_line, before_entries, nodes_read, journal_text, journal_of, tree_of}
+use Rattle.fs_script.proofs.JournalLemmas.{Told, line_of, not_entries, lines_ended, nodes_are_lines, reads_journals_back}
 
 -- bytes with the end of a line behind them end with it
 ended : (bytes : List ℕ) → ends_line (bytes ++ 10 ∷ []) ≡ true
@@ -47,14 +50,27 @@ same_journal start told none =
     ∙ sym (cond-true _ _ _ told)
     ∙ sym (append-nil (opening start))
 
--- what is read of the text of a tree is what its journal gives
-by_journal : (start : Start) → tree_of start.limits (tree_text start.tree) ≡ start_read (journal_of (nodes_journal start.limits (flat_map node_line start.tree)))
+-- what is read of the text of a tree is what its journal gives, unless a line of it is `entries`
+by_journal : (start : Start) → tree_of start.limits (tree_text start.tree) ≡ nodes_read start.limits (flat_map node_line start.tree)
 unfolding tree_of tree_text
 by_journal start = refl
+
+-- which no line of a node is
+no_entries : (n : ℕ) (t : Tree) → entries_line n (map line_of t) ≡ None
+no_entries n [] = refl
+no_entries n (e ∷ t) = cond-false _ _ _ (not_entries e) ∙ no_entries (n + 1) t
+
+node_lines : (limits : Limits) (t : Tree) → Told limits t → lines_of (flat_map node_line t) ≡ map line_of t
+node_lines limits t told =
+    ap lines_of (lines_ended t)
+    ∙ lines_of_ended (map line_of t) (subst (λ (lines : List (List ℕ)). AllByRecursion IsLine lines) (append-nil (map line_of t)) (nodes_are_lines limits t [] told tt))
 
 pub reads_trees_back : ReadsTreesBack
 reads_trees_back start fits told short =
     let first = root_first start.tree fits.within.tree in
     let same : nodes_journal start.limits (flat_map node_line start.tree) ≡ journal_text start [] = same_journal start told (whole start.tree _ first.0 first.1) in
     let read : journal_of (journal_text start []) ≡ Ok (start, []) = reads_journals_back start [] fits tt (subst (λ (text : List ℕ). length text ≤ text_limit start.limits) (sym (append-nil (opening start))) short) in
-    by_journal start ∙ ap (λ (text : List ℕ). start_read (journal_of text)) same ∙ ap start_read read
+    let none : entries_line 2 (lines_of (flat_map node_line start.tree)) ≡ None = ap (entries_line 2) (node_lines start.limits start.tree (fits.told told)) ∙ no_entries 2 start.tree in
+    by_journal start
+    ∙ ap (λ n. before_entries n (start_read (journal_of (nodes_journal start.limits (flat_map node_line start.tree))))) none
+    ∙ ap (λ (text : List ℕ). start_read (journal_of text)) same ∙ ap start_read read

@@ -18,7 +18,7 @@ use Rattle.fs_words.specs.declared.fault.FaultKind.TheVariants.{BadHeader, BadLi
 use Rattle.fs_script.specs.Script.{script_of}
 use Rattle.fs_script.specs.TreeText.{tree_text}
 use Rattle.fs_text.specs.Journal.{entries_of}
-use Rattle.fs_script.specs.Journals.{journal_text, Read as Told, journal_of}
+use Rattle.fs_script.specs.Journals.{journal_text, Read as Told, journal_of, start_of}
 use Rattle.fs_script.specs.declared.script.Script.{Script}
 use Rattle.fs_script.specs.declared.script.Word.TheVariants.{Events, Finish, Checkpoint}
 
@@ -128,6 +128,9 @@ started lines = journal_of (codes "atomfs-journal 2\n" ++ codes lines)
 abbrev pub WrongAt : ℕ → String → Type 0
 WrongAt line lines = started lines ≡ Err (fault_at line BadStart)
 
+abbrev pub TreeWrongAt : ℕ → String → Type 0
+TreeWrongAt line text = start_of V1 (codes text) ≡ Err (fault_at line BadStart)
+
 pub record StartFaults : Type 0 where
   pub nothing : WrongAt 2 ""
   pub entries_alone : WrongAt 2 "begin 1 0 mkdir /a\n"
@@ -155,6 +158,14 @@ pub record StartFaults : Type 0 where
   pub list_in_the_third : journal_of (codes "atomfs-journal 3\nstart\ndir /\nentries\nbegin 1 0 list / / 1\n") ≡ Err (fault_at 5 BadLine)
   pub other_version : journal_of (codes "atomfs-journal 5\n") ≡ Err (fault_at 1 BadHeader)
   pub first_version_alone : entries_of (codes "atomfs-journal 2\nstart\ndir /\nentries\n") ≡ Err (fault_at 1 BadHeader)
+  -- of the text of a tree, which has no line `entries`
+  pub tree_alone : TreeWrongAt 2 "tree"
+  pub tree_without_root : TreeWrongAt 2 "tree\n"
+  pub tree_of_entries : TreeWrongAt 2 "tree\nentries\n"
+  pub tree_with_entries : TreeWrongAt 3 "tree\ndir /\nentries\n"
+  pub tree_with_a_journal : TreeWrongAt 4 "tree\ndir /\ndir /a\nentries\nbegin 1 0 mkdir /b\n"
+  pub tree_at_fault_before : TreeWrongAt 3 "tree\ndir /\ndir a\nentries\n"
+  pub tree_without_end : start_of V1 (codes "tree\ndir /") ≡ Ok (root_start V1)
 
 pub record JournalsRead : Type 0 where
   pub root_alone : started "start\ndir /\nentries" ≡ Ok (root_start V1, [])

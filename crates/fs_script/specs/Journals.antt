@@ -1,5 +1,5 @@
 -- Journals that start at a tree, by each set of limits: how one is written, and what reading one gives.
-use Rattle.std.specs.Prelude.{ℕ, ◌+◌, ◌-◌, slice_index, take, drop, Bool, true, not, ◌==◌, List, [], ◌∷◌, ◌++◌, length, Result, Ok, Err, Option, Some, None, if◌then◌else◌, codes}
+use Rattle.std.specs.Prelude.{ℕ, ◌+◌, ◌-◌, max, nat_lt, slice_index, take, drop, Bool, true, not, ◌==◌, List, [], ◌∷◌, ◌++◌, length, Result, Ok, Err, Option, Some, None, if◌then◌else◌, codes}
 use Rattle.std.specs.List.{flat_map, join_with_byte, slice_split}
 use Rattle.std.specs.Str.{bytes_eq}
 use Rattle.fs_names.specs.Keys.{Key}
@@ -13,7 +13,7 @@ use Rattle.fs_calls.specs.Tree.{Tree, root_tree}
 use Rattle.fs_calls.specs.Starts.{Start, root_start}
 use Rattle.fs_timeline.specs.declared.entry.Entry.{Entry}
 use Rattle.fs_rows.specs.Rows.{node_of_kind, fits_at}
-use Rattle.fs_words.specs.Lines.{is_passed_over}
+use Rattle.fs_words.specs.Lines.{is_passed_over, lines_of}
 use Rattle.fs_words.specs.Words.{Word}
 use Rattle.fs_words.specs.Reading.{◌>>=◌, hex_at, words_of, fault_at, behind_first, headed}
 use Rattle.fs_words.specs.declared.fault.ScriptFault.{ScriptFault}
@@ -127,12 +127,30 @@ nodes_journal limits nodes = started_header limits ++ codes "\nstart\n" ++ nodes
 -- its start, where each line of a fault is one less, since a tree has one line before its nodes and a journal two
 abbrev pub start_read : Read → Result Start ScriptFault
 start_read (Ok read) = Ok (read.0)
-start_read (Err f) = Err (fault_at (f.line - 1) f.kind)
+start_read (Err f) = Err (fault_at (max (f.line - 1) 1) f.kind)
 
--- what reading the text of a tree by these limits gives: the start of the journal of its nodes
+-- the number of the first line `entries`, where the first of the lines has this number
+abbrev pub entries_line : ℕ → List (List ℕ) → Option ℕ
+entries_line n [] = None
+entries_line n (line ∷ more) = if bytes_eq line (codes "entries") then Some n else entries_line (n + 1) more
+
+-- such a line ends the nodes of a journal, and a tree has none: it is the fault, unless a line before it is
+abbrev pub before_entries : Option ℕ → Result Start ScriptFault → Result Start ScriptFault
+before_entries None read = read
+before_entries (Some n) (Ok start) = Err (fault_at n kind.BadStart)
+before_entries (Some n) (Err f) = if nat_lt f.line n then Err f else Err (fault_at n kind.BadStart)
+
+-- what the lines of nodes give by these limits, behind a line `tree`: the start of the journal of these nodes
+abbrev pub nodes_read : Limits → List ℕ → Result Start ScriptFault
+nodes_read limits nodes = before_entries (entries_line 2 (lines_of nodes)) (start_read (journal_of (nodes_journal limits nodes)))
+
+-- a text that is the word `tree` alone has no root, and any other one gives this
+abbrev pub unless_alone : List ℕ → Result Start ScriptFault → Result Start ScriptFault
+unless_alone text other = if bytes_eq text (codes "tree") then Err (fault_at 2 kind.BadStart) else other
+
+-- what reading the text of a tree by these limits gives
 unfoldable pub tree_of : Limits → List ℕ → Result Start ScriptFault
-tree_of limits text =
-    if bytes_eq (take 5 text) (codes "tree\n") then start_read (journal_of (nodes_journal limits (drop 5 text))) else Err (fault_at 1 kind.BadHeader)
+tree_of limits text = if bytes_eq (take 5 text) (codes "tree\n") then nodes_read limits (drop 5 text) else unless_alone text (Err (fault_at 1 kind.BadHeader))
 
 -- the start at which a journal by these limits begins: one by others has another first line
 abbrev pub by_limits : Limits → Read → Result Start ScriptFault
@@ -142,4 +160,4 @@ by_limits limits (Err f) = Err f
 -- what reading the tree gives at which something starts by these limits: from the text of a tree, or from that of a journal
 abbrev pub start_of : Limits → List ℕ → Result Start ScriptFault
 start_of limits text =
-    if bytes_eq (take 5 text) (codes "tree\n") then start_read (journal_of (nodes_journal limits (drop 5 text))) else by_limits limits (journal_of text)
+    if bytes_eq (take 5 text) (codes "tree\n") then nodes_read limits (drop 5 text) else unless_alone text (by_limits limits (journal_of text))

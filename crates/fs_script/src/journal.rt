@@ -193,7 +193,8 @@ fn take_rows(
     Ok(End::Wrong(lines.number()))
 }
 
-fn bad_start(line: u64) -> ScriptFault
+/// That a line is no line of a start tree.
+pub(crate) fn bad_start(line: u64) -> ScriptFault
     ensures { result ≡ record { line = line; kind = FaultKind.BadStart } }
 {
     ScriptFault {

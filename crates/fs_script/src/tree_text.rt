@@ -1,14 +1,19 @@
 //! Trees that are read from their text.
 
-ghost use Rattle.std.specs.Prelude.{◌≡◌, IfOk};
+ghost use Rattle.std.specs.Prelude.{◌≡◌, ◌-◌, max, Some, Result, IfOk};
 ghost use Rattle.fs_rows.specs.Rows.{IsWithinLimits};
-ghost use Rattle.fs_words.specs.code.Answers.{GivesText};
-ghost use Rattle.fs_script.specs.Journals.{by_limits, journal_of, line_end, nodes_journal, start_of, start_read, tree_of};
+ghost use Rattle.fs_words.specs.Lines.{lines_of};
+ghost use Rattle.fs_words.specs.code.Answers.{FailsThere, GivesText};
+ghost use Rattle.fs_words.specs.declared.fault.ScriptFault.{ScriptFault};
+ghost use Rattle.fs_calls.specs.Starts.{Start};
+ghost use Rattle.fs_script.specs.Journals.{before_entries, by_limits, entries_line, journal_of, line_end, nodes_journal, nodes_read, start_of, start_read, tree_of};
 
-use crate::journal::read_journal;
+use crate::journal::{bad_start, read_journal};
 use fs_names::Limits;
 use fs_seq::SeqTree;
 use fs_words::headers::started_header;
+use fs_words::lines::cut_line;
+use fs_words::words::is_word;
 use fs_words::{FaultKind, ScriptFault};
 use std::alloc::{AllocError, Global};
 
@@ -36,8 +41,15 @@ fn nodes_journal(alloc: Global, limits: Limits, nodes: &[u8]) -> Result<Vec<u8>,
     Ok(text)
 }
 
-/// The tree of these lines.
-fn tree_of_nodes(alloc: Global, nodes: &[u8], limits: Limits) -> Result<SeqTree, ScriptFault>
+/// The line of a tree's text for that of the journal of its nodes.
+fn line_of_tree(line: u64) -> u64
+    ensures { result ≡ max (line - 1) 1 }
+{
+    if line > 1 { line - 1 } else { 1 }
+}
+
+/// The tree at which the journal of these lines starts.
+fn tree_of_journal(alloc: Global, nodes: &[u8], limits: Limits) -> Result<SeqTree, ScriptFault>
     ensures read { GivesText (λ start. start) result (start_read (journal_of (nodes_journal limits nodes.now))) }
     ensures within { IfOk result (λ start. IsWithinLimits start.limits start.tree) }
 {
@@ -50,9 +62,51 @@ fn tree_of_nodes(alloc: Global, nodes: &[u8], limits: Limits) -> Result<SeqTree,
     match read_journal(alloc, &journal) {
         Ok(journal) => Ok(journal.start),
         Err(fault) => Err(ScriptFault {
-            line: fault.line.saturating_sub(1),
+            line: line_of_tree(fault.line),
             kind: fault.kind,
         }),
+    }
+}
+
+/// The number of the first line `entries`, where the first line has the number 2.
+fn entries_line(nodes: &[u8]) -> Option<u64>
+    ensures { result ≡ entries_line 2 (lines_of nodes.now) }
+{
+    let mut number = 2;
+    let mut rest = nodes;
+    'lines: while let Some((line, behind)) = cut_line(rest) {
+        if is_word(line, b"entries") {
+            return Some(number);
+        }
+        number += 1;
+        rest = behind;
+    }
+    None
+}
+
+/// The first of two faults: this one, or that the line of this number is no node.
+fn first_fault(fault: ScriptFault, number: u64) -> ScriptFault
+    ensures { (given : Result Start ScriptFault) → FailsThere fault.line fault.kind given → FailsThere result.line result.kind (before_entries (Some number) given) }
+{
+    if fault.line < number || matches!(fault.kind, FaultKind::OutOfMemory) {
+        fault
+    } else {
+        bad_start(number)
+    }
+}
+
+/// The tree of these lines, which stand behind a line `tree`.
+fn tree_of_nodes(alloc: Global, nodes: &[u8], limits: Limits) -> Result<SeqTree, ScriptFault>
+    ensures read { GivesText (λ start. start) result (nodes_read limits nodes.now) }
+    ensures within { IfOk result (λ start. IsWithinLimits start.limits start.tree) }
+{
+    let read = tree_of_journal(alloc, nodes, limits);
+    let Some(number) = entries_line(nodes) else {
+        return read;
+    };
+    match read {
+        Ok(_) => Err(bad_start(number)),
+        Err(fault) => Err(first_fault(fault, number)),
     }
 }
 
@@ -75,6 +129,7 @@ pub fn read_tree(alloc: Global, text: &[u8], limits: Limits) -> Result<SeqTree, 
 {
     match text.strip_prefix(b"tree\n") {
         Some(nodes) => tree_of_nodes(alloc, nodes, limits),
+        None if is_word(text, b"tree") => Err(bad_start(2)),
         None => Err(bad_header()),
     }
 }
@@ -106,6 +161,7 @@ pub fn read_start(alloc: Global, text: &[u8], limits: Limits) -> Result<SeqTree,
 {
     match text.strip_prefix(b"tree\n") {
         Some(nodes) => tree_of_nodes(alloc, nodes, limits),
+        None if is_word(text, b"tree") => Err(bad_start(2)),
         None => start_of_journal(alloc, text, limits),
     }
 }

@@ -7,7 +7,7 @@ use Rattle.std.proofs.lemmas.List.Splits.{slice_split-cons_yes, slice_split-cons
 use Rattle.std.proofs.lemmas.Option.{slice_get-get_or}
 use Rattle.std.proofs.lemmas.Slice.Eq.{bytes_eq-Decides}
 use Rattle.std.proofs.Math.Seq.{get_or-append_seam}
-use Rattle.std.specs.Prelude.{take, drop, ◌==◌, Option, Some, None}
+use Rattle.std.specs.Prelude.{take, drop, nat_lt, ◌==◌, Option, Some, None}
 use Rattle.std.specs.List.{slice_split, onto_first}
 use Rattle.std.specs.Str.{bytes_eq}
 use Rattle.fs_names.specs.Limits.{same_limits, node_limit}
@@ -25,7 +25,7 @@ use Rattle.fs_words.specs.declared.fault.ScriptFault.{ScriptFault}
 use Rattle.fs_text.specs.Journal.{entries_from, entries_of}
 use Rattle.fs_text.proofs.ReadNames.{Given, given_then, given_is}
 use Rattle.fs_words.specs.Headers.{started_header, announced, is_too_long}
-use Rattle.fs_script.specs.Journals.{Read, node_in_line, grown, in_start, with_start, started_from, behind_line, announced_journal, journal_behind, journal_of, ends_line, line_end, nodes_journal, start_read, by_limits, start_of}
+use Rattle.fs_script.specs.Journals.{Read, node_in_line, grown, in_start, with_start, started_from, behind_line, announced_journal, journal_behind, journal_of, ends_line, line_end, nodes_journal, start_read, entries_line, before_entries, nodes_read, by_limits, start_of}
 use Rattle.fs_start.specs.Faults.{told_lines, lines_before, IsNodeTooMany}
 use Rattle.fs_words.proofs.HeaderLemmas.{announced_is}
 use Rattle.fs_script.proofs.StartNames.{any_then, placed, cut}
@@ -258,8 +258,15 @@ behind_one limits text read e h many =
     let few : length read.0.tree + 3 ≤ told (lines_of (nodes_journal limits (drop 5 text))) = h (more_than_root limits read.0 many) in
     omega (arith, many, few, first, journal_told limits (drop 5 text), tree_told text e)
 
-tree_many : (limits : Limits) (text : List ℕ) → bytes_eq (take 5 text) (codes "tree\n") ≡ true → Given (HasMany limits text) (start_read (journal_of (nodes_journal limits (drop 5 text))))
-tree_many limits text e = by (journal_of (nodes_journal limits (drop 5 text))) (journal_many (nodes_journal limits (drop 5 text)))
+-- a fault in place of what is read says nothing of a start
+before_many : (P : Start → Type 0) (n : Option ℕ) (read : Result Start ScriptFault) → Given P read → Given P (before_entries n read)
+before_many P None read h = h
+before_many P (Some n) (Ok start) h = tt
+before_many P (Some n) (Err f) h = either_by P (nat_lt f.line n) (Err f) (Err (fault_at n kind.BadStart)) (λ less. tt) (λ not_less. tt)
+
+tree_many : (limits : Limits) (text : List ℕ) → bytes_eq (take 5 text) (codes "tree\n") ≡ true → Given (HasMany limits text) (nodes_read limits (drop 5 text))
+tree_many limits text e =
+    before_many (HasMany limits text) (entries_line 2 (lines_of (drop 5 text))) _ (by (journal_of (nodes_journal limits (drop 5 text))) (journal_many (nodes_journal limits (drop 5 text))))
   where
     by : (read : Read) → Given (Many (nodes_journal limits (drop 5 text))) read → Given (HasMany limits text) (start_read read)
     by (Err f) h = tt
@@ -279,7 +286,9 @@ plain_many limits text e = by (journal_of text) (journal_many text)
     by (Ok read) h = either_by (HasMany limits text) (same_limits limits read.0.limits) (Ok (read.0)) (Err (fault_at 1 kind.BadHeader)) (λ same. behind_two limits text read e h) (λ other. tt)
 
 start_many : (limits : Limits) (text : List ℕ) → Given (HasMany limits text) (start_of limits text)
-start_many limits text = either_by (HasMany limits text) (bytes_eq (take 5 text) (codes "tree\n")) _ _ (tree_many limits text) (plain_many limits text)
+start_many limits text =
+    either_by (HasMany limits text) (bytes_eq (take 5 text) (codes "tree\n")) _ _ (tree_many limits text)
+    (λ other. either_by (HasMany limits text) (bytes_eq text (codes "tree")) (Err (fault_at 2 kind.BadStart)) (by_limits limits (journal_of text)) (λ alone. tt) (λ more. plain_many limits text other))
 
 -- the line of the first node too many is there
 pub node_too_many : (limits : Limits) (text : List ℕ) (start : Start) → start_of limits text ≡ Ok start → node_limit limits < length start.tree → IsNodeTooMany limits text (get_or (told_lines 1 (lines_of text)) (lines_before text + node_limit limits) (length (lines_of text)))

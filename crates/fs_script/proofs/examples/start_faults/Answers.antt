@@ -39,4 +39,11 @@ returns c = record {
   list_in_the_third = refl;
   other_version = refl;
   first_version_alone = refl;
+  tree_alone = refl;
+  tree_without_root = refl;
+  tree_of_entries = refl;
+  tree_with_entries = refl;
+  tree_with_a_journal = refl;
+  tree_at_fault_before = refl;
+  tree_without_end = refl;
 }

@@ -1,0 +1,8 @@
+use Rattle.std.proofs.Common.{refl}
+use Rattle.fs_calls.specs.Tree.{look, inserted, removed, renamed}
+use Rattle.fs_calls.specs.Outcomes.{fault, reply, after}
+use Rattle.fs_calls.proofs.examples.lists_in_pieces.Goals as goal
+
+pub returns : goal.returns
+unfolding look inserted removed renamed fault reply after
+returns c = refl
