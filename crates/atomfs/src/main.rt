@@ -1,7 +1,8 @@
-//! The program `atomfs`. `atomfs run` runs the script on standard input, from the tree in a file if one is named, `atomfs seeds`
-//! runs it by drawn schedules, `atomfs outcomes` counts how these end, `atomfs find` searches them, `atomfs shrink` leaves of it
-//! what its run needs, `atomfs threads` runs its threads on real ones, `atomfs check` reads a journal there, `atomfs tree` a journal or a script, and `atomfs linearize` a
-//! history; each writes what came of it. `atomfs explain` writes what the words of a message mean.
+//! The program `atomfs`. Each command reads the file that is named behind it, or standard input. `atomfs run` runs a script, from the
+//! tree in another file if one is named, `atomfs seeds` runs it by drawn schedules, `atomfs outcomes` counts how these end, `atomfs
+//! find` searches them, `atomfs shrink` leaves of it what its run needs, `atomfs threads` runs its threads on real ones, `atomfs check`
+//! reads a journal, `atomfs tree` a journal or a script, and `atomfs linearize` a history; each writes what came of it. `atomfs
+//! explain` writes what the words of a message mean.
 //!
 //! `fs_arguments` reads the command line, and `fs_command` has the exit statuses. Each part is proved to mean what its clauses say. The
 //! program from its arguments to its status, and the words of the messages, are tested.
@@ -12,11 +13,13 @@ ghost use Rattle.fs_arguments.specs.Commands.{IsWithin};
 ghost use Rattle.fs_sched.specs.declared.seeding.TheConstants.{SEED_LIMIT};
 ghost use Rattle.fs_find.specs.declared.finding.TheConstants.{SEARCH_LIMIT};
 
-use fs_arguments::{Format, Histories, Subcommand, parse};
+use fs_arguments::{Format, Histories, Invocation, Subcommand, parse};
 use fs_command::{
-    Line, SharedLine, report, report_check, report_draw, report_file, report_find, report_from,
-    report_linearize, report_many, report_schedule, report_shrink, report_trace, report_tree,
+    Erasing, Input, Kept, Line, Screen, SharedLine, report, report_check, report_draw,
+    report_fault, report_file, report_find, report_from, report_linearize, report_many,
+    report_picture, report_schedule, report_shrink, report_trace, report_tree, report_unopened,
     report_words, status_of_run, status_of_unreadable_args, status_of_usage, status_of_verdict,
+    tell_reading,
 };
 use fs_draw::{DrawFault, draw_input};
 use fs_entries::trace_input;
@@ -38,7 +41,7 @@ use fs_trace::{ScheduleFault, schedule_script};
 use std::alloc::Global;
 use std::convert::AsStr;
 use std::fs::File;
-use std::io::{IsTerminal, Read, Stderr, Write};
+use std::io::{IsTerminal, Read, Write};
 use std::process::ExitCode;
 use std::rt::Files;
 use std::sync::Wait;
@@ -195,17 +198,17 @@ fn run_shown<C: Clock, R: Source, W: Sink>(
     reader: &mut R,
     writer: &mut W,
     schedule: Schedule,
-    terminal: Option<Stderr>,
+    screen: &Screen,
 ) -> Result<u8, RunFault>
     requires reads { R.failures reader.old < 2 ^ 64 - 1 }
     requires writes { W.failures writer.old < 2 ^ 64 - 1 }
 {
-    let Some(errors) = terminal else {
+    if !screen.is_terminal() {
         return run(alloc, reader, writer, schedule, &mut Silent);
-    };
-    let mut line = Line::new(alloc, clock, errors);
+    }
+    let mut line = Line::new(clock, screen);
     let outcome = run(alloc, reader, writer, schedule, &mut line);
-    line.end();
+    screen.erase();
     outcome
 }
 
@@ -217,27 +220,18 @@ fn run_at_shown<C: Clock, R: Source, W: Sink>(
     reader: &mut R,
     writer: &mut W,
     schedule: Schedule,
-    terminal: Option<Stderr>,
+    screen: &Screen,
 ) -> Result<u8, StartFault>
     requires reads { R.failures reader.old < 2 ^ 64 - 1 }
     requires writes { W.failures writer.old < 2 ^ 64 - 1 }
 {
-    let Some(errors) = terminal else {
+    if !screen.is_terminal() {
         return run_at(alloc, tree, reader, writer, schedule, &mut Silent);
-    };
-    let mut line = Line::new(alloc, clock, errors);
+    }
+    let mut line = Line::new(clock, screen);
     let outcome = run_at(alloc, tree, reader, writer, schedule, &mut line);
-    line.end();
+    screen.erase();
     outcome
-}
-
-/// The text of a file. The only faults are those of reading, and out of memory.
-fn file_text<T: Files>(rt: &T, alloc: Global, file: &str) -> Result<Vec<u8>, RunFault> {
-    let Ok(opened) = File::open(rt, file) else {
-        return Err(RunFault::Read);
-    };
-    let mut reader = Device::new(opened);
-    whole_text(alloc, &mut reader)
 }
 
 /// Runs a script from the tree in a file, which is read first, and answers the exit status.
@@ -245,21 +239,26 @@ fn run_at_file<T: Clock + Files, R: Source, W: Sink, E: Write>(
     rt: &T,
     alloc: Global,
     file: &str,
-    reader: &mut R,
+    reader: &mut Kept<R>,
     writer: &mut W,
     schedule: Schedule,
     errors: &mut E,
-    terminal: Option<Stderr>,
+    screen: &Screen,
 ) -> u8
-    requires reads { R.failures reader.old < 2 ^ 64 - 1 }
+    requires reads { R.failures reader.old.inner < 2 ^ 64 - 1 }
     requires writes { W.failures writer.old < 2 ^ 64 - 1 }
 {
-    let tree = match file_text(rt, alloc, file) {
+    let opened = match File::open(rt, file) {
+        Ok(opened) => opened,
+        Err(error) => return report_unopened(errors, file, &error),
+    };
+    let mut source = Kept::new(alloc, Device::new(opened));
+    let tree = match whole_text(alloc, &mut source) {
         Ok(tree) => tree,
         Err(fault) => return report_file(errors, file, fault),
     };
-    let outcome = run_at_shown(rt, alloc, tree, reader, writer, schedule, terminal);
-    report_from(errors, file, outcome)
+    let outcome = run_at_shown(rt, alloc, tree, reader, writer, schedule, screen);
+    report_from(errors, &reader.seen, file, &source.seen, outcome)
 }
 
 /// Makes drawn runs of a script, and tells on a terminal how far they are.
@@ -270,19 +269,19 @@ fn seeds_shown<C: Clock, R: Source, W: Sink>(
     writer: &mut W,
     numbers: (u64, u64),
     format: Format,
-    terminal: Option<Stderr>,
+    screen: &Screen,
 ) -> Result<u8, RunFault>
     requires reads { R.failures reader.old < 2 ^ 64 - 1 }
     requires writes { W.failures writer.old < 2 ^ 64 - 1 }
     requires within { IsWithin (Subcommand.Seeds numbers.0 numbers.1 format) }
 {
     let (first, runs) = numbers;
-    let Some(errors) = terminal else {
+    if !screen.is_terminal() {
         return seeds(alloc, reader, writer, first, runs, format, &mut Silent);
-    };
-    let mut line = Line::new(alloc, clock, errors);
+    }
+    let mut line = Line::new(clock, screen);
     let outcome = seeds(alloc, reader, writer, first, runs, format, &mut line);
-    line.end();
+    screen.erase();
     outcome
 }
 
@@ -314,18 +313,18 @@ fn outcomes_shown<C: Clock, R: Source, W: Sink>(
     writer: &mut W,
     numbers: (u64, u64),
     form: Form,
-    terminal: Option<Stderr>,
+    screen: &Screen,
 ) -> Result<u8, RunFault>
     requires reads { R.failures reader.old < 2 ^ 64 - 1 }
     requires writes { W.failures writer.old < 2 ^ 64 - 1 }
     requires within { IsWithin (Subcommand.Outcomes numbers.0 numbers.1 form) }
 {
-    let Some(errors) = terminal else {
+    if !screen.is_terminal() {
         return outcomes(alloc, reader, writer, numbers, form, &mut Silent);
-    };
-    let mut line = Line::new(alloc, clock, errors);
+    }
+    let mut line = Line::new(clock, screen);
     let outcome = outcomes(alloc, reader, writer, numbers, form, &mut line);
-    line.end();
+    screen.erase();
     outcome
 }
 
@@ -376,19 +375,19 @@ fn find_shown<C: Clock, R: Source, W: Sink>(
     what: &[Clause],
     numbers: (u64, u64),
     format: Format,
-    terminal: Option<Stderr>,
+    screen: &Screen,
 ) -> Result<Option<u64>, FindFault>
     requires reads { R.failures reader.old < 2 ^ 64 - 1 }
     requires writes { W.failures writer.old < 2 ^ 64 - 1 }
     requires seed { numbers.0 ≤ SEED_LIMIT }
     requires runs { numbers.1 ≤ SEARCH_LIMIT }
 {
-    let Some(errors) = terminal else {
+    if !screen.is_terminal() {
         return find_as(alloc, reader, writer, what, numbers, format, &mut Silent);
-    };
-    let mut line = Line::new(alloc, clock, errors);
+    }
+    let mut line = Line::new(clock, screen);
     let outcome = find_as(alloc, reader, writer, what, numbers, format, &mut line);
-    line.end();
+    screen.erase();
     outcome
 }
 
@@ -399,12 +398,12 @@ fn find<C: Clock, R: Source, W: Sink, E: Write>(
     what: &str,
     numbers: (u64, u64),
     format: Format,
-    reader: &mut R,
+    reader: &mut Kept<R>,
     writer: &mut W,
     errors: &mut E,
-    terminal: Option<Stderr>,
+    screen: &Screen,
 ) -> u8
-    requires reads { R.failures reader.old < 2 ^ 64 - 1 }
+    requires reads { R.failures reader.old.inner < 2 ^ 64 - 1 }
     requires writes { W.failures writer.old < 2 ^ 64 - 1 }
     requires seed { numbers.0 ≤ SEED_LIMIT }
     requires runs { numbers.1 ≤ SEARCH_LIMIT }
@@ -421,30 +420,28 @@ fn find<C: Clock, R: Source, W: Sink, E: Write>(
         what.as_slice(),
         numbers,
         format,
-        terminal,
+        screen,
     );
-    report_find(errors, numbers.0, numbers.1, outcome)
+    report_find(errors, &reader.seen, numbers.0, numbers.1, outcome)
 }
 
 /// Shrinks a script to what its run needs for what a text says, which is read first, and answers the exit status.
 fn shrink<R: Source, W: Sink, E: Write>(
     alloc: Global,
     what: &str,
-    reader: &mut R,
+    reader: &mut Kept<R>,
     writer: &mut W,
     errors: &mut E,
 ) -> u8
-    requires reads { R.failures reader.old < 2 ^ 64 - 1 }
+    requires reads { R.failures reader.old.inner < 2 ^ 64 - 1 }
     requires writes { W.failures writer.old < 2 ^ 64 - 1 }
 {
     let what = match read_what(alloc, what.as_bytes()) {
         Ok(what) => what,
         Err(fault) => return report_words(errors, fault),
     };
-    report_shrink(
-        errors,
-        shrink_script(alloc, reader, writer, what.as_slice()),
-    )
+    let outcome = shrink_script(alloc, reader, writer, what.as_slice());
+    report_shrink(errors, &reader.seen, outcome)
 }
 
 /// Runs the threads of a script on real ones, and tells on a terminal how far they are.
@@ -454,17 +451,17 @@ fn threads_shown<T: Threads + Wait + Clock + Sync, R: Source, W: Sink>(
     reader: &mut R,
     writer: &mut W,
     journal: bool,
-    terminal: Option<Stderr>,
+    screen: &Screen,
 ) -> Result<u8, ThreadsFault>
     requires reads { R.failures reader.old < 2 ^ 64 - 1 }
     requires writes { W.failures writer.old < 2 ^ 64 - 1 }
 {
-    let Some(errors) = terminal else {
+    if !screen.is_terminal() {
         return threads(rt, alloc, reader, writer, &Open, journal);
-    };
-    let line = SharedLine::new(alloc, rt, errors);
+    }
+    let line = SharedLine::new(rt, screen);
     let outcome = threads(rt, alloc, reader, writer, &line, journal);
-    line.end();
+    screen.erase();
     outcome
 }
 
@@ -476,17 +473,17 @@ fn linearize_shown<C: Clock, R: Source, W: Sink>(
     writer: &mut W,
     limit: usize,
     front: bool,
-    terminal: Option<Stderr>,
+    screen: &Screen,
 ) -> Result<Linearized, RunFault>
     requires reads { R.failures reader.old < 2 ^ 64 - 1 }
     requires writes { W.failures writer.old < 2 ^ 64 - 1 }
 {
-    let Some(errors) = terminal else {
+    if !screen.is_terminal() {
         return linearize_history(alloc, reader, writer, limit, front, &mut Untold);
-    };
-    let mut line = Line::new(alloc, clock, errors);
+    }
+    let mut line = Line::new(clock, screen);
     let outcome = linearize_history(alloc, reader, writer, limit, front, &mut line);
-    line.end();
+    screen.erase();
     outcome
 }
 
@@ -497,17 +494,17 @@ fn many_shown<C: Clock, R: Source, W: Sink>(
     reader: &mut R,
     writer: &mut W,
     limit: usize,
-    terminal: Option<Stderr>,
+    screen: &Screen,
 ) -> Result<Found, RunFault>
     requires reads { R.failures reader.old < 2 ^ 64 - 1 }
     requires writes { W.failures writer.old < 2 ^ 64 - 1 }
 {
-    let Some(errors) = terminal else {
+    if !screen.is_terminal() {
         return linearize_many(alloc, reader, writer, limit, &mut Untold);
-    };
-    let mut line = Line::new(alloc, clock, errors);
+    }
+    let mut line = Line::new(clock, screen);
     let outcome = linearize_many(alloc, reader, writer, limit, &mut line);
-    line.end();
+    screen.erase();
     outcome
 }
 
@@ -517,26 +514,26 @@ fn perform<T: Threads + Wait + Clock + Files + Sync, R: Source, W: Sink, E: Writ
     rt: &T,
     alloc: Global,
     subcommand: &Subcommand<'_>,
-    reader: &mut R,
+    reader: &mut Kept<R>,
     writer: &mut W,
     errors: &mut E,
-    terminal: Option<Stderr>,
+    screen: &Screen,
 ) -> u8
     requires within { IsWithin subcommand.now }
-    requires reads { R.failures reader.old < 2 ^ 64 - 1 }
+    requires reads { R.failures reader.old.inner < 2 ^ 64 - 1 }
     requires writes { W.failures writer.old < 2 ^ 64 - 1 }
 {
     let outcome = match subcommand {
-        Subcommand::Run(order, None) => run_shown(rt, alloc, reader, writer, *order, terminal),
+        Subcommand::Run(order, None) => run_shown(rt, alloc, reader, writer, *order, screen),
         Subcommand::Run(order, Some(file)) => {
-            return run_at_file(rt, alloc, file, reader, writer, *order, errors, terminal);
+            return run_at_file(rt, alloc, file, reader, writer, *order, errors, screen);
         }
         Subcommand::Seeds(first, runs, format) => {
             let numbers = (*first, *runs);
-            seeds_shown(rt, alloc, reader, writer, numbers, *format, terminal)
+            seeds_shown(rt, alloc, reader, writer, numbers, *format, screen)
         }
         Subcommand::Outcomes(first, runs, form) => {
-            outcomes_shown(rt, alloc, reader, writer, (*first, *runs), *form, terminal)
+            outcomes_shown(rt, alloc, reader, writer, (*first, *runs), *form, screen)
         }
         Subcommand::AddedOutcomes(form) => added_outcomes(alloc, reader, writer, *form),
         Subcommand::Find(what, first, runs, format) => {
@@ -549,46 +546,87 @@ fn perform<T: Threads + Wait + Clock + Files + Sync, R: Source, W: Sink, E: Writ
                 reader,
                 writer,
                 errors,
-                terminal,
+                screen,
             );
         }
         Subcommand::Shrink(what) => return shrink(alloc, what, reader, writer, errors),
         Subcommand::Tree(order, asked) => {
-            return report_tree(errors, tree(alloc, reader, writer, *order, *asked));
+            let outcome = tree(alloc, reader, writer, *order, *asked);
+            return report_tree(errors, &reader.seen, outcome);
         }
         Subcommand::Check(Format::Text) => {
-            return report_check(errors, check_journal(alloc, reader, writer));
+            let outcome = check_journal(alloc, reader, writer);
+            return report_check(errors, &reader.seen, outcome);
         }
         Subcommand::Check(Format::Json) => {
-            return report_check(errors, check_object(alloc, reader, writer));
+            let outcome = check_object(alloc, reader, writer);
+            return report_check(errors, &reader.seen, outcome);
         }
         Subcommand::Linearize(Histories::Many, limit) => {
-            let outcome = many_shown(rt, alloc, reader, writer, *limit as usize, terminal);
-            return report_many(errors, outcome);
+            let outcome = many_shown(rt, alloc, reader, writer, *limit as usize, screen);
+            return report_many(errors, &reader.seen, outcome);
         }
         Subcommand::Linearize(histories, limit) => {
             let front = *histories == Histories::Front;
             let limit = *limit as usize;
-            let outcome = linearize_shown(rt, alloc, reader, writer, limit, front, terminal);
-            return report_linearize(errors, outcome);
+            let outcome = linearize_shown(rt, alloc, reader, writer, limit, front, screen);
+            return report_linearize(errors, &reader.seen, outcome);
         }
         Subcommand::Explain(first, second) => explain(alloc, writer, *first, *second),
         Subcommand::Trace(order, every) => {
             let outcome = trace_input(alloc, reader, writer, *order, *every);
-            return report_trace(errors, outcome);
+            return report_trace(errors, &reader.seen, outcome);
         }
         Subcommand::Draw(order, call) => {
-            return report_draw(errors, draw(alloc, reader, writer, *order, *call));
+            let outcome = draw(alloc, reader, writer, *order, *call);
+            return report_draw(errors, &reader.seen, outcome);
         }
         Subcommand::Schedule(order) => {
-            return report_schedule(errors, schedule(alloc, reader, writer, *order));
+            let outcome = schedule(alloc, reader, writer, *order);
+            return report_schedule(errors, &reader.seen, outcome);
         }
         Subcommand::Threads(journal) => {
-            let outcome = threads_shown(rt, alloc, reader, writer, *journal, terminal);
-            return report(errors, outcome);
+            let outcome = threads_shown(rt, alloc, reader, writer, *journal, screen);
+            return report(errors, &reader.seen, outcome);
         }
     };
-    report(errors, outcome.map_err(ThreadsFault::Run))
+    report(errors, &reader.seen, outcome.map_err(ThreadsFault::Run))
+}
+
+/// Whether a command reads an input.
+fn reads(command: &Subcommand<'_>) -> bool {
+    !matches!(command, Subcommand::Explain(_, _))
+}
+
+/// What a command reads: the file that is named, or what the program was given. Where that is a terminal and no file is named, that is
+/// told; where the file is not opened, the answer is the status.
+fn opened<T: Files, R: Read + Drop, E: Write>(
+    rt: &T,
+    asked: &Invocation<'_>,
+    input: R,
+    is_terminal: bool,
+    errors: &mut E,
+) -> Result<Input<R, T::File>, u8> {
+    match asked.file {
+        Some("-") => Ok(Input::Given(input)),
+        Some(file) => match File::open(rt, file) {
+            Ok(opened) => Ok(Input::File(opened)),
+            Err(error) => Err(report_unopened(errors, file, &error)),
+        },
+        None => {
+            if is_terminal && reads(&asked.command) {
+                tell_reading(errors);
+            }
+            Ok(Input::Given(input))
+        }
+    }
+}
+
+/// Which of its streams are terminals.
+#[derive(Clone, Copy)]
+struct Terminals {
+    input: bool,
+    output: bool,
 }
 
 /// The exit status of the program, from its arguments on. The first of them is its name.
@@ -599,38 +637,45 @@ fn status_of_args<T, S: AsStr, R: Read + Drop, W: Write + Drop, E: Write>(
     input: R,
     mut output: W,
     errors: &mut E,
-    terminal: Option<Stderr>,
+    terminals: Terminals,
+    screen: &Screen,
 ) -> u8
 where
     T: Threads + Wait + Clock + Files + Sync,
 {
-    match parse(alloc, args) {
-        Ok(subcommand) => {
-            let mut reader = Device::new(input);
-            let mut writer = Device::new(output);
-            perform(
-                rt,
-                alloc,
-                &subcommand,
-                &mut reader,
-                &mut writer,
-                errors,
-                terminal,
-            )
-        }
-        Err(error) => status_of_usage(&mut output, errors, error),
+    let asked = match parse(alloc, args) {
+        Ok(asked) => asked,
+        Err(error) => return status_of_usage(&mut output, errors, error),
+    };
+    if terminals.output && matches!(asked.command, Subcommand::Draw(_, _)) {
+        return report_picture(errors);
     }
+    let input = match opened(rt, &asked, input, terminals.input, errors) {
+        Ok(input) => input,
+        Err(status) => return status,
+    };
+    let mut reader = Kept::new(alloc, Device::new(input));
+    let mut writer = Erasing::new(Device::new(output), screen);
+    perform(
+        rt,
+        alloc,
+        &asked.command,
+        &mut reader,
+        &mut writer,
+        errors,
+        screen,
+    )
 }
 
 /// The same from the arguments of the process. The runtime comes twice: by its own type, and by the right to start threads,
 /// which it has in `main` alone.
 fn exit_status<T: Threads + Wait + Clock + Files + Sync>(rt: &HostRuntime, threads: &T) -> u8 {
     let alloc = rt.alloc();
-    let mut errors = rt.stderr();
-    let terminal = if errors.is_terminal() {
-        Some(errors)
-    } else {
-        None
+    let (input, output, mut errors) = (rt.stdin(), rt.stdout(), rt.stderr());
+    let screen = Screen::new(alloc, errors, errors.is_terminal());
+    let terminals = Terminals {
+        input: input.is_terminal(),
+        output: output.is_terminal(),
     };
     let args = match std::env::args(rt) {
         Ok(args) => args,
@@ -638,16 +683,17 @@ fn exit_status<T: Threads + Wait + Clock + Files + Sync>(rt: &HostRuntime, threa
     };
     let collected: Result<Vec<String>, _> = args.collect(alloc);
     let Ok(args) = collected else {
-        return report(&mut errors, Err(ThreadsFault::Run(RunFault::OutOfMemory)));
+        return report_fault(&mut errors, RunFault::OutOfMemory);
     };
     status_of_args(
         threads,
         alloc,
         args.as_slice(),
-        rt.stdin(),
-        rt.stdout(),
+        input,
+        output,
         &mut errors,
-        terminal,
+        terminals,
+        &screen,
     )
 }
 

@@ -3,15 +3,16 @@
 ghost use Rattle.std.specs.Prelude.{IfOk};
 ghost use Rattle.fs_arguments.specs.Commands.{IsWithin};
 
-use crate::subcommand::{Subcommand, subcommand_of};
+use crate::subcommand::{Invocation, invocation_of};
 use crate::table::{ACCOUNTS, Argument, Form, Need, RUNS, Row, SEARCHES, VERDICTS};
 use crate::texts::{FIRST, STATUSES};
 use clap::builder::ValueParser;
 use clap::error::ErrorKind;
 use clap::{Arg, ArgAction, ArgMatches, Command, Error};
 use fs_explain::WORDS;
-use std::alloc::Global;
+use std::alloc::{AllocError, Global};
 use std::convert::AsStr;
+use strsim::osa_distance;
 
 /// The version of the program.
 pub const VERSION: &str = "0.3.0";
@@ -27,6 +28,7 @@ fn written<'a>(argument: Arg<'a>, name: &'static str, form: &Form) -> Arg<'a> {
             .value_parser(ValueParser::unsigned(*least, *most)),
         Form::Kind => one_of_the_words(argument),
         Form::SecondKind => one_of_the_words(argument).hide_possible_values(true),
+        Form::File => argument.value_name("FILE"),
     }
 }
 
@@ -122,23 +124,61 @@ fn command<'a>(alloc: Global) -> Result<Command<'a>, Error> {
 }
 
 /// What was matched, which is a subcommand.
-fn asked_for<'a>(alloc: Global, matches: &ArgMatches<'a>) -> Result<Subcommand<'a>, Error>
-    ensures within { IfOk result IsWithin }
+fn asked_for<'a>(alloc: Global, matches: &ArgMatches<'a>) -> Result<Invocation<'a>, Error>
+    ensures within { IfOk result (λ asked. IsWithin asked.command) }
 {
-    match subcommand_of(matches) {
-        Some(subcommand) => Ok(subcommand),
+    match invocation_of(matches) {
+        Some(asked) => Ok(asked),
         None => Err(command(alloc)?.error(ErrorKind::InvalidSubcommand, "no such subcommand")?),
     }
 }
 
-/// What the command line asks for; its first argument is the name of the program. The error is what is to be printed
-/// instead: help, the version, or what is wrong with the arguments.
-pub fn parse<'a, S: AsStr>(alloc: Global, args: &'a [S]) -> Result<Subcommand<'a>, Error>
-    ensures within { IfOk result IsWithin }
+/// The command that a word misses by one letter: one that is wrong, too many or not there, or that stands on its neighbour's place.
+fn meant(alloc: Global, word: &str, rows: &[Row]) -> Result<Option<&'static str>, AllocError> {
+    for row in rows {
+        if osa_distance(alloc, word, row.name)? == 1 {
+            return Ok(Some(row.name));
+        }
+    }
+    Ok(None)
+}
+
+/// The same of all commands.
+fn command_meant(alloc: Global, word: &str) -> Result<Option<&'static str>, AllocError> {
+    for rows in [RUNS, SEARCHES, VERDICTS, ACCOUNTS] {
+        if let Some(name) = meant(alloc, word, rows)? {
+            return Ok(Some(name));
+        }
+    }
+    Ok(None)
+}
+
+/// What is wrong with arguments whose first word is no command: in the words of `clap`, which finds what is close to a word of some
+/// length, and of a short one that which it misses by a letter.
+fn unknown_command<S: AsStr>(alloc: Global, args: &[S], error: Error) -> Result<Error, Error> {
+    if error.kind() != ErrorKind::InvalidSubcommand || args.len() < 2 {
+        return Ok(error);
+    }
+    let word = args[1].as_str();
+    let Some(name) = command_meant(alloc, word)? else {
+        return Ok(error);
+    };
+    let message = format!(in alloc;
+        "unrecognized subcommand '{word}'\n\n  tip: a similar subcommand exists: '{name}'"
+    )?;
+    Ok(command(alloc)?.error(ErrorKind::InvalidSubcommand, message.as_str())?)
+}
+
+/// What the command line asks for, and the file that it names; its first argument is the name of the program. The error is what is
+/// to be printed instead: help, the version, or what is wrong with the arguments.
+pub fn parse<'a, S: AsStr>(alloc: Global, args: &'a [S]) -> Result<Invocation<'a>, Error>
+    ensures within { IfOk result (λ asked. IsWithin asked.command) }
 {
     if args.len() < 2 {
         return Err(command(alloc)?.error(ErrorKind::MissingSubcommand, FIRST)?);
     }
-    let matches = command(alloc)?.try_get_matches_from(args)?;
-    asked_for(alloc, &matches)
+    match command(alloc)?.try_get_matches_from(args) {
+        Ok(matches) => asked_for(alloc, &matches),
+        Err(error) => Err(unknown_command(alloc, args, error)?),
+    }
 }

@@ -13,4 +13,4 @@ mod table;
 mod texts;
 
 pub use cli::parse;
-pub use subcommand::{Format, Histories, Subcommand};
+pub use subcommand::{Format, Histories, Invocation, Subcommand};

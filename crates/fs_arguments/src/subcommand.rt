@@ -70,6 +70,15 @@ pub enum Subcommand<'a> {
     Explain(Topic, Option<Topic>),
 }
 
+/// What the command line asks for, and what is read.
+#[derive(Clone, Copy, Debug, PartialEq, Eq)]
+pub struct Invocation<'a> {
+    /// What is asked for.
+    pub command: Subcommand<'a>,
+    /// The file that is named behind it; `-` is the name of standard input.
+    pub file: Option<&'a str>,
+}
+
 /// The number that the option with an identifier gives.
 fn number_given<'a>(matches: &ArgMatches<'a>, id: &str) -> Option<u64>
     ensures given { (n : ℕ) → IsNumberOf (found_of matches.now) id.now n → result ≡ Some n }
@@ -283,12 +292,11 @@ fn topics_of<'a>(matches: &ArgMatches<'a>) -> Option<Subcommand<'a>>
     Some(Subcommand::Explain(first, topic_given(matches, "second")))
 }
 
-/// What the command line asks for, if it is a subcommand.
-pub(crate) fn subcommand_of<'a>(matches: &ArgMatches<'a>) -> Option<Subcommand<'a>>
+/// The subcommand of a name, by what was matched behind it.
+fn named<'a>(name: &str, given: &ArgMatches<'a>) -> Option<Subcommand<'a>>
     ensures within { ForSome result IsWithin }
-    ensures name { IfSome result (λ command. subcommand_name_of matches.now ≡ Some (name_of command)) }
+    ensures name { IfSome result (λ command. name_of command ≡ name.now) }
 {
-    let (name, given) = matches.subcommand()?;
     match name {
         "run" => Some(Subcommand::Run(schedule_of(given), given.get_str("from"))),
         "seeds" => seeds_of(given),
@@ -305,4 +313,17 @@ pub(crate) fn subcommand_of<'a>(matches: &ArgMatches<'a>) -> Option<Subcommand<'
         "explain" => topics_of(given),
         _ => None,
     }
+}
+
+/// What the command line asks for, if it is a subcommand, and the file that it names.
+pub(crate) fn invocation_of<'a>(matches: &ArgMatches<'a>) -> Option<Invocation<'a>>
+    ensures within { IfSome result (λ asked. IsWithin asked.command) }
+    ensures name { IfSome result (λ asked. subcommand_name_of matches.now ≡ Some (name_of asked.command)) }
+{
+    let (name, given) = matches.subcommand()?;
+    let command = named(name, given)?;
+    Some(Invocation {
+        command,
+        file: given.get_str("file"),
+    })
 }

@@ -18,6 +18,8 @@ pub(crate) enum Form {
     Kind,
     /// One more such word, for which help lists nothing.
     SecondKind,
+    /// The name of a file, behind the command.
+    File,
 }
 
 /// Whether an argument has to be there.
@@ -63,6 +65,14 @@ pub(crate) const VERDICTS: &[Row] = &[THREADS, CHECK, LINEARIZE];
 /// Those that tell a run in another form, or what a word means.
 pub(crate) const ACCOUNTS: &[Row] = &[TRACE, DRAW, SCHEDULE, EXPLAIN];
 
+const FILE: Argument = Argument {
+    name: "file",
+    form: Form::File,
+    need: Need::Never,
+    conflicts: &[],
+    help: "The file that is read, or `-` for standard input, which is read where it is left out",
+};
+
 const ROBIN: Argument = Argument {
     name: "robin",
     form: Form::Flag,
@@ -105,8 +115,8 @@ const WHERE: Argument = Argument {
 
 const RUN: Row = Row {
     name: "run",
-    about: "Runs the script on standard input and writes its journal, its tree and its counts",
-    usage: "atomfs run [OPTIONS] < FILE",
+    about: "Runs a script and writes its journal, its tree and its counts",
+    usage: "atomfs run [OPTIONS] [FILE]",
     statuses: RUN_STATUSES,
     arguments: &[
         ROBIN,
@@ -118,13 +128,14 @@ const RUN: Row = Row {
             conflicts: &[],
             help: "Starts at the tree in the file TREE: a tree text, or the start tree of a journal",
         },
+        FILE,
     ],
 };
 
 const SEEDS: Row = Row {
     name: "seeds",
-    about: "Runs the script on standard input by drawn schedules, checks each run's journal and writes a line for each",
-    usage: "atomfs seeds --seed <N> --runs <K> [OPTIONS] < FILE",
+    about: "Runs a script by drawn schedules, checks each run's journal and writes a line for each",
+    usage: "atomfs seeds --seed <N> --runs <K> [OPTIONS] [FILE]",
     statuses: SEEDS_STATUSES,
     arguments: &[
         FIRST_SEED,
@@ -136,13 +147,14 @@ const SEEDS: Row = Row {
             help: "How many runs, drawn from N, N + 1, and so on, 1 to 10000",
         },
         JSON,
+        FILE,
     ],
 };
 
 const OUTCOMES: Row = Row {
     name: "outcomes",
-    about: "Runs the script on standard input by drawn schedules and writes a line for each different end, and how often it came",
-    usage: "atomfs outcomes <--seed <N> --runs <K>|--add> [OPTIONS] < FILE",
+    about: "Runs a script by drawn schedules and writes a line for each different end, and how often it came",
+    usage: "atomfs outcomes <--seed <N> --runs <K>|--add> [OPTIONS] [FILE]",
     statuses: OUTCOMES_STATUSES,
     arguments: &[
         Argument {
@@ -181,13 +193,14 @@ const OUTCOMES: Row = Row {
             help: "Reads lines that pieces of a range of numbers wrote with --all, and adds them up",
         },
         JSON,
+        FILE,
     ],
 };
 
 const FIND: Row = Row {
     name: "find",
-    about: "Runs the script on standard input by drawn schedules up to the first run that has WHAT, and writes the script with the events of that run as its schedule",
-    usage: "atomfs find --where <WHAT> --seed <N> --runs <K> [OPTIONS] < FILE",
+    about: "Runs a script by drawn schedules up to the first run that has WHAT, and writes the script with the events of that run as its schedule",
+    usage: "atomfs find --where <WHAT> --seed <N> --runs <K> [OPTIONS] [FILE]",
     statuses: FIND_STATUSES,
     arguments: &[
         WHERE,
@@ -200,21 +213,22 @@ const FIND: Row = Row {
             help: "The most runs, drawn from N, N + 1, and so on, 1 to 1000000",
         },
         JSON,
+        FILE,
     ],
 };
 
 const SHRINK: Row = Row {
     name: "shrink",
-    about: "Cuts calls and words of the script on standard input while its run still has WHAT, and writes what is left",
-    usage: "atomfs shrink --where <WHAT> < FILE",
+    about: "Cuts calls and words of a script while its run still has WHAT, and writes what is left",
+    usage: "atomfs shrink --where <WHAT> [FILE]",
     statuses: SHRINK_STATUSES,
-    arguments: &[WHERE],
+    arguments: &[WHERE, FILE],
 };
 
 const TREE: Row = Row {
     name: "tree",
-    about: "Reads a journal on standard input, or runs a script there, and writes the tree that its commits make, or who changed what stands at a path",
-    usage: "atomfs tree [OPTIONS] < FILE",
+    about: "Reads a journal, or runs a script, and writes the tree that its commits make, or who changed what stands at a path",
+    usage: "atomfs tree [OPTIONS] [FILE]",
     statuses: TREE_STATUSES,
     arguments: &[
         Argument {
@@ -240,35 +254,39 @@ const TREE: Row = Row {
         },
         ROBIN,
         SEED,
+        FILE,
     ],
 };
 
 const THREADS: Row = Row {
     name: "threads",
-    about: "Runs each thread of the script on standard input on a real thread, its schedule unused, and writes `lawful calls` and their number, or a fault",
-    usage: "atomfs threads [OPTIONS] < FILE",
+    about: "Runs each thread of a script on a real thread, its schedule unused, and writes `lawful calls` and their number, or a fault",
+    usage: "atomfs threads [OPTIONS] [FILE]",
     statuses: THREADS_STATUSES,
-    arguments: &[Argument {
-        name: "journal",
-        form: Form::Flag,
-        need: Need::Never,
-        conflicts: &[],
-        help: "Writes their journal in place of the line",
-    }],
+    arguments: &[
+        Argument {
+            name: "journal",
+            form: Form::Flag,
+            need: Need::Never,
+            conflicts: &[],
+            help: "Writes their journal in place of the line",
+        },
+        FILE,
+    ],
 };
 
 const CHECK: Row = Row {
     name: "check",
-    about: "Reads the journal on standard input and writes `lawful`, or the place and the kind of its first fault",
-    usage: "atomfs check [OPTIONS] < FILE",
+    about: "Reads a journal and writes `lawful`, or the place and the kind of its first fault",
+    usage: "atomfs check [OPTIONS] [FILE]",
     statuses: CHECK_STATUSES,
-    arguments: &[JSON],
+    arguments: &[JSON, FILE],
 };
 
 const LINEARIZE: Row = Row {
     name: "linearize",
-    about: "Reads a history on standard input and writes it with its commits, a lawful journal, or the first return that nothing explains",
-    usage: "atomfs linearize [OPTIONS] < FILE",
+    about: "Reads a history and writes it with its commits, a lawful journal, or the first return that nothing explains",
+    usage: "atomfs linearize [OPTIONS] [FILE]",
     statuses: LINEARIZE_STATUSES,
     arguments: &[
         Argument {
@@ -292,13 +310,14 @@ const LINEARIZE: Row = Row {
             conflicts: &[],
             help: "The most configurations of the search, 1 to 1000000000, or else 10000000",
         },
+        FILE,
     ],
 };
 
 const TRACE: Row = Row {
     name: "trace",
-    about: "Runs the script on standard input and writes what each event did, in words, or reads a journal there and tells its entries",
-    usage: "atomfs trace [OPTIONS] < FILE",
+    about: "Runs a script and writes what each event did, in words, or reads a journal and tells its entries",
+    usage: "atomfs trace [OPTIONS] [FILE]",
     statuses: TRACE_STATUSES,
     arguments: &[
         ROBIN,
@@ -310,13 +329,14 @@ const TRACE: Row = Row {
             conflicts: &[],
             help: "A line for each event, idle turns and repeated waits among them",
         },
+        FILE,
     ],
 };
 
 const DRAW: Row = Row {
     name: "draw",
-    about: "Runs the script on standard input, or reads a journal there, and writes a picture of it: an SVG file",
-    usage: "atomfs draw [OPTIONS] < FILE > PICTURE",
+    about: "Runs a script, or reads a journal, and writes a picture of it: an SVG file",
+    usage: "atomfs draw [OPTIONS] [FILE] > PICTURE",
     statuses: DRAW_STATUSES,
     arguments: &[
         ROBIN,
@@ -326,15 +346,16 @@ const DRAW: Row = Row {
             form: Form::Number("NUMBER", 0, u64::MAX),
             need: Need::Never,
             conflicts: &[],
-            help: "Only the call of this number, and those that overlap it or help",
+            help: "Only the call of this number in the run (a trace says it where the call begins) or in the journal, and those that overlap it or help",
         },
+        FILE,
     ],
 };
 
 const SCHEDULE: Row = Row {
     name: "schedule",
-    about: "Runs the script on standard input and writes it again, with the events of the run as its schedule",
-    usage: "atomfs schedule <--robin|--seed <N>> < FILE",
+    about: "Runs a script and writes it again, with the events of the run as its schedule",
+    usage: "atomfs schedule <--robin|--seed <N>> [FILE]",
     statuses: SCHEDULE_STATUSES,
     arguments: &[
         ROBIN,
@@ -345,6 +366,7 @@ const SCHEDULE: Row = Row {
             conflicts: &["robin"],
             help: "Threads drawn from N, 0 to 18446744073709551615, as `atomfs seeds` draws them",
         },
+        FILE,
     ],
 };
 

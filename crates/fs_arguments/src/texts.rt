@@ -12,7 +12,7 @@ Exit status:
   5  a read or a write failed
 
 Example:
-  atomfs run --seed 7 < examples/moved_ancestor.script";
+  atomfs run --seed 7 examples/moved_ancestor.script";
 
 pub(crate) const SEEDS_STATUSES: &str = "\
 Where standard error is a terminal, a command that takes longer than a quarter of a second shows there how far it is.
@@ -26,7 +26,7 @@ Exit status:
   5  a read or a write failed
 
 Example:
-  atomfs seeds --seed 1 --runs 100 < examples/moved_ancestor.script";
+  atomfs seeds --seed 1 --runs 100 examples/moved_ancestor.script";
 
 pub(crate) const OUTCOMES_STATUSES: &str = "\
 A line is `TIMES seed SEED tree DIGEST`, and the calls whose replies differ: ` | THREAD#N REPLY`, the N-th call of THREAD. The most frequent end comes first; SEED is the least number that has it, for `atomfs run --seed SEED`.
@@ -40,7 +40,7 @@ Exit status:
   5  a read or a write failed
 
 Example:
-  atomfs outcomes --seed 1 --runs 1000 < examples/moved_ancestor.script";
+  atomfs outcomes --seed 1 --runs 1000 examples/moved_ancestor.script";
 
 pub(crate) const FIND_STATUSES: &str = "\
 WHAT is one or several conditions with `and` between them, each also behind `not`:
@@ -59,7 +59,7 @@ Exit status:
   5  a read or a write failed
 
 Example:
-  atomfs find --where 'reply writer#2 failed' --seed 1 --runs 100 < examples/moved_ancestor.script";
+  atomfs find --where 'reply writer#2 failed' --seed 1 --runs 100 examples/moved_ancestor.script";
 
 pub(crate) const SHRINK_STATUSES: &str = "\
 WHAT is as for `atomfs find`. Calls that it names stay, and standard error says how it names them in what is written; a call that it does not name, or a word, is left only where the run needs it. 100000 runs are the most, and where more were wanted standard error says so.
@@ -73,11 +73,11 @@ Exit status:
   5  a read or a write failed
 
 Example:
-  atomfs shrink --where 'tree file /done/first/notes 6e6f746573' < examples/moved_ancestor.script";
+  atomfs shrink --where 'tree file /done/first/notes 6e6f746573' examples/moved_ancestor.script";
 
 pub(crate) const TREE_STATUSES: &str = "\
 Of a script's run in pieces the last one is asked about, and of a journal that is not lawful the entries before its fault.
-CALL is THREAD#NUMBER: m#3 is the third call of the thread m, and of a journal 0#3 the third on seat 0.
+CALL is THREAD#NUMBER: m#3 is the third call of the thread m (of a run in pieces the third in the last one), and of a journal 0#3 the third on seat 0.
 
 Exit status:
   0  success
@@ -88,7 +88,7 @@ Exit status:
   5  a read or a write failed
 
 Example:
-  atomfs tree --at 3 < examples/moved_ancestor.script";
+  atomfs tree --at 3 examples/moved_ancestor.script";
 
 pub(crate) const THREADS_STATUSES: &str = "\
 Where standard error is a terminal, a command that takes longer than a quarter of a second shows there how far it is.
@@ -102,7 +102,7 @@ Exit status:
   5  a read or a write failed
 
 Example:
-  atomfs threads < examples/moved_ancestor.script";
+  atomfs threads examples/moved_ancestor.script";
 
 pub(crate) const CHECK_STATUSES: &str = "\
 Exit status:
@@ -114,7 +114,7 @@ Exit status:
   5  a read or a write failed
 
 Example:
-  atomfs run < examples/moved_ancestor.script | atomfs check";
+  atomfs run examples/moved_ancestor.script | atomfs check";
 
 pub(crate) const LINEARIZE_STATUSES: &str = "\
 A history is a journal without its `commit` lines, up to the end or a line `tree`. Where a reply is not known, `return N failed ?` fits any error, and `return N stat dir ?` any size.
@@ -140,7 +140,7 @@ Exit status:
   5  a read or a write failed
 
 Example:
-  atomfs trace --seed 7 < examples/moved_ancestor.script";
+  atomfs trace --seed 7 examples/moved_ancestor.script";
 
 pub(crate) const DRAW_STATUSES: &str = "\
 Exit status:
@@ -152,7 +152,7 @@ Exit status:
   5  a read or a write failed
 
 Example:
-  atomfs draw --seed 7 < examples/moved_ancestor.script > run.svg";
+  atomfs draw --seed 7 examples/moved_ancestor.script > run.svg";
 
 pub(crate) const SCHEDULE_STATUSES: &str = "\
 Exit status:
@@ -163,7 +163,7 @@ Exit status:
   5  a read or a write failed
 
 Example:
-  atomfs schedule --seed 7 < examples/moved_ancestor.script";
+  atomfs schedule --seed 7 examples/moved_ancestor.script";
 
 pub(crate) const EXPLAIN_STATUSES: &str = "\
 Exit status:

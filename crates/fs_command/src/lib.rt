@@ -1,18 +1,26 @@
 //! What the program `atomfs` answers to whoever started it.
 //!
 //! `status_of_run`, `status_of_verdict` and `report` tell the exit status of what a subcommand
-//! came to; the message of a fault goes to standard error. `Line` and `SharedLine` tell on a terminal how far a command is.
-//! Nothing here reads input or runs a script. What is asked for is in `fs_arguments`.
+//! came to; the message of a fault goes to standard error. A `Kept` source keeps what it gave, so that the message of a fault of
+//! the text shows the line. `Line` and `SharedLine` tell on a terminal, the `Screen`, how far a command
+//! is; an `Erasing` sink takes that away before the first byte of output. `Input` is standard input, or a file. Nothing here runs a
+//! script. What is
+//! asked for is in `fs_arguments`.
 //!
 //! The definitions are in `specs/`: `Statuses` (the exit statuses).
 #![tactic(auto)]
 
+pub mod input;
 mod progress;
+pub mod seen;
 pub mod status;
 
-pub use progress::{Line, SharedLine};
+pub use input::Input;
+pub use progress::{Erasing, Line, Screen, SharedLine};
+pub use seen::{Kept, Seen};
 pub use status::{
-    report, report_check, report_draw, report_file, report_find, report_from, report_linearize,
-    report_many, report_schedule, report_shrink, report_trace, report_tree, report_words,
-    status_of_run, status_of_unreadable_args, status_of_usage, status_of_verdict,
+    report, report_check, report_draw, report_fault, report_file, report_find, report_from,
+    report_linearize, report_many, report_picture, report_schedule, report_shrink, report_trace,
+    report_tree, report_unopened, report_words, status_of_run, status_of_unreadable_args,
+    status_of_usage, status_of_verdict, tell_reading,
 };

@@ -1,15 +1,17 @@
-//! How far a command is, told on a terminal: one line, which is written anew in its place and erased at the end.
+//! How far a command is, told on a terminal: one line, which is written anew in its place, and erased before anything else is written.
+
+ghost use Rattle.std.specs.Prelude.{◌≡◌};
 
 use fs_core::{Core, Stepped};
 use fs_recorded::Progress;
-use fs_sched::{Moment, Witness};
+use fs_sched::{Failed, Moment, Sink, Witness};
 use fs_share::Gate;
 use fs_threads::Watch;
 use fs_words::Addition;
 use std::alloc::{AllocError, Global};
 use std::io::{Stderr, Write};
 use std::sync::Wait;
-use std::sync::atomic::{AtomicU64, Ordering};
+use std::sync::atomic::{AtomicBool, AtomicU64, Ordering};
 use std::time::Clock;
 
 /// How many bytes the line has. A shorter one is filled with spaces, so that it covers the one before.
@@ -99,38 +101,91 @@ fn line_of(alloc: Global, words: &[u8]) -> Result<Vec<u8>, AllocError> {
     Ok(line)
 }
 
-/// A terminal on standard error.
-#[derive(Clone, Copy)]
-struct Terminal {
+/// Standard error where it is a terminal, and whether the line is on it.
+#[derive(Drop)]
+pub struct Screen {
     alloc: Global,
     errors: Stderr,
+    is_terminal: bool,
+    is_shown: AtomicBool,
 }
 
-impl Terminal {
+impl Screen {
+    /// Before the line is shown; where standard error is no terminal, it never is.
+    pub fn new(alloc: Global, errors: Stderr, is_terminal: bool) -> Screen {
+        Screen {
+            alloc,
+            errors,
+            is_terminal,
+            is_shown: AtomicBool::new(false),
+        }
+    }
+
+    /// Whether there is a terminal.
+    pub fn is_terminal(&self) -> bool {
+        self.is_terminal
+    }
+
     /// Writes words in the place of the line. Where there is no memory or standard error takes nothing, nothing is shown.
-    fn show(self, words: &[u8]) {
+    fn write(&self, words: &[u8]) {
         let mut errors = self.errors;
         if let Ok(line) = line_of(self.alloc, words) {
             let _ = errors.write_all(line.as_slice());
         }
     }
 
-    /// Erases the line.
-    fn erase(self) {
-        let mut errors = self.errors;
-        self.show(b"");
-        let _ = errors.write_all(b"\r");
+    /// Shows a line in the place of the one before.
+    fn show(&self, words: &[u8]) {
+        if self.is_terminal {
+            self.is_shown.store(true, Ordering::SeqCst);
+            self.write(words);
+        }
+    }
+
+    /// Erases the line, where it is shown.
+    pub fn erase(&self) {
+        if self.is_shown.swap(false, Ordering::SeqCst) {
+            let mut errors = self.errors;
+            self.write(b"");
+            let _ = errors.write_all(b"\r");
+        }
+    }
+}
+
+/// A sink before whose first byte the line is erased: it may be the same terminal.
+#[derive(Drop)]
+pub struct Erasing<'a, W> {
+    inner: W,
+    screen: &'a Screen,
+}
+
+impl<'a, W> Erasing<'a, W> {
+    /// A sink to which nothing was written yet.
+    pub fn new(inner: W, screen: &'a Screen) -> Erasing<'a, W>
+        ensures { result.inner ≡ inner }
+    {
+        Erasing { inner, screen }
+    }
+}
+
+impl<'a, W: Sink> Sink for Erasing<'a, W> {
+    ghost contents = { λ erasing. W.contents erasing.inner };
+
+    ghost failures = { λ erasing. W.failures erasing.inner };
+
+    fn write(&mut self, piece: &[u8]) -> Result<usize, Failed> {
+        self.screen.erase();
+        self.inner.write(piece)
     }
 }
 
 /// How far runs are, or a search for an order.
 #[derive(Drop)]
 pub struct Line<'a, C: Clock> {
-    terminal: Terminal,
+    screen: &'a Screen,
     clock: &'a C,
     began: u64,
     shown: u64,
-    is_shown: bool,
     calls: u64,
     events: u64,
     unseen: u64,
@@ -140,14 +195,13 @@ pub struct Line<'a, C: Clock> {
 
 impl<'a, C: Clock> Line<'a, C> {
     /// Before the first run. Nothing is shown yet.
-    pub fn new(alloc: Global, clock: &'a C, errors: Stderr) -> Line<'a, C> {
+    pub fn new(clock: &'a C, screen: &'a Screen) -> Line<'a, C> {
         let began = milliseconds(clock);
         Line {
-            terminal: Terminal { alloc, errors },
+            screen,
             clock,
             began,
             shown: began,
-            is_shown: false,
             calls: 0,
             events: 0,
             unseen: 0,
@@ -164,13 +218,12 @@ impl<'a, C: Clock> Line<'a, C> {
             return None;
         }
         self.shown = now;
-        self.is_shown = true;
         Some(gone)
     }
 
     /// Shows how much is done of what, behind how many events that took.
     fn show(&mut self, share: Share, what: &[u8]) {
-        let mut words = Addition::new(Vec::new(self.terminal.alloc));
+        let mut words = Addition::new(Vec::new(self.screen.alloc));
         let made = if self.events > 0 {
             words
                 .push_number(self.events)
@@ -179,15 +232,7 @@ impl<'a, C: Clock> Line<'a, C> {
             Ok(())
         };
         if made.is_ok() && share.push(what, &mut words).is_ok() {
-            self.terminal.show(words.kept().as_slice());
-        }
-    }
-
-    /// Erases the line, where it was shown.
-    pub fn end(&mut self) {
-        if self.is_shown {
-            self.terminal.erase();
-            self.is_shown = false;
+            self.screen.show(words.kept().as_slice());
         }
     }
 }
@@ -243,9 +288,9 @@ impl<'a, C: Clock> Progress for Line<'a, C> {
         if self.is_time().is_none() {
             return;
         }
-        let mut words = Addition::new(Vec::new(self.terminal.alloc));
+        let mut words = Addition::new(Vec::new(self.screen.alloc));
         if push_entries(entries, all, configurations, &mut words).is_ok() {
-            self.terminal.show(words.kept().as_slice());
+            self.screen.show(words.kept().as_slice());
         }
     }
 
@@ -265,19 +310,19 @@ impl<'a, C: Clock> Progress for Line<'a, C> {
 
 /// How far threads are. Each tells of its own calls; whoever finds it time shows the line.
 #[derive(Drop)]
-pub struct SharedLine {
-    terminal: Terminal,
+pub struct SharedLine<'a> {
+    screen: &'a Screen,
     began: u64,
     shown: AtomicU64,
     calls: AtomicU64,
     returned: AtomicU64,
 }
 
-impl SharedLine {
+impl<'a> SharedLine<'a> {
     /// Before the first call. Nothing is shown yet.
-    pub fn new<C: Clock>(alloc: Global, clock: &C, errors: Stderr) -> SharedLine {
+    pub fn new<C: Clock>(clock: &C, screen: &'a Screen) -> SharedLine<'a> {
         SharedLine {
-            terminal: Terminal { alloc, errors },
+            screen,
             began: milliseconds(clock),
             shown: AtomicU64::new(0),
             calls: AtomicU64::new(0),
@@ -299,24 +344,17 @@ impl SharedLine {
     /// Shows how many calls returned, after so many milliseconds.
     fn show(&self, done: u64, gone: u64) {
         let all = self.calls.load(Ordering::SeqCst);
-        let mut words = Addition::new(Vec::new(self.terminal.alloc));
+        let mut words = Addition::new(Vec::new(self.screen.alloc));
         if (Share { done, all, gone })
             .push(b" calls", &mut words)
             .is_ok()
         {
-            self.terminal.show(words.kept().as_slice());
-        }
-    }
-
-    /// Erases the line, where it was shown.
-    pub fn end(&self) {
-        if self.shown.load(Ordering::SeqCst) > 0 {
-            self.terminal.erase();
+            self.screen.show(words.kept().as_slice());
         }
     }
 }
 
-impl Gate for SharedLine {
+impl<'a> Gate for SharedLine<'a> {
     fn after<R: Wait + Clock>(&self, rt: &R, stepped: &Stepped) {
         if !matches!(stepped, Stepped::Returned(_)) {
             return;
@@ -329,7 +367,7 @@ impl Gate for SharedLine {
     }
 }
 
-impl Watch for SharedLine {
+impl<'a> Watch for SharedLine<'a> {
     fn begins(&self, calls: usize) {
         self.calls.store(calls as u64, Ordering::SeqCst);
     }

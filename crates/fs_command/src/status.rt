@@ -6,6 +6,8 @@ ghost use Rattle.clap.specs.Values.{kind_of};
 ghost use Rattle.fs_command.specs.Statuses.{has_status, status_of, status_of_checked, status_of_drawn, status_of_found, status_of_linearized, status_of_many, status_of_outcome, status_of_outcomes, status_of_replayed, status_of_run, status_of_scheduled, status_of_shrunk, status_of_started, status_of_traced, status_of_verdict, status_of_words};
 ghost use Rattle.fs_sched.specs.Faults.{status_of_fault};
 
+use crate::input::words_of;
+use crate::seen::{Faulty, Seen};
 use clap::Error;
 use clap::error::ErrorKind;
 use fs_draw::DrawFault;
@@ -18,6 +20,7 @@ use fs_shrink::{Shrunk, TRIAL_LIMIT};
 use fs_start::StartFault;
 use fs_threads::ThreadsFault;
 use fs_trace::ScheduleFault;
+use std::fmt::Display;
 use std::io::{self, ErrorKind as IoErrorKind, Write};
 
 /// The status after a run: success where every call of the script returned.
@@ -34,16 +37,32 @@ pub fn status_of_verdict(lawful: bool) -> u8
     if lawful { 0 } else { 1 }
 }
 
+/// Writes the message of a fault; of one of the text that was read its line too, and what to have explained.
+fn tell_fault<E: Write, F: Faulty + Display>(errors: &mut E, seen: &Seen, fault: &F) {
+    // Where standard error takes no message, the status says it all the same.
+    let _ = writeln!(errors, "atomfs: {fault}");
+    if let Some(fault) = fault.of_text() {
+        tell(errors, seen.about(fault, false).as_slice());
+    }
+}
+
+/// The status of a fault that is none of a text, and its message.
+pub fn report_fault<E: Write>(errors: &mut E, fault: RunFault) -> u8
+    ensures { result ≡ status_of_fault fault }
+{
+    let _ = writeln!(errors, "atomfs: {fault}");
+    fault.status()
+}
+
 /// The status that a subcommand came to, or that of its fault, whose message is written: 4 where there was no worker.
-pub fn report<E: Write>(errors: &mut E, outcome: Result<u8, ThreadsFault>) -> u8
+pub fn report<E: Write>(errors: &mut E, seen: &Seen, outcome: Result<u8, ThreadsFault>) -> u8
     ensures { result ≡ status_of outcome }
 {
     let fault = match outcome {
         Ok(status) => return status,
         Err(fault) => fault,
     };
-    // Where standard error takes no message, the status says it all the same.
-    let _ = writeln!(errors, "atomfs: {fault}");
+    tell_fault(errors, seen, &fault);
     match fault {
         ThreadsFault::Run(fault) => fault.status(),
         ThreadsFault::Lists(_) => 4,
@@ -64,12 +83,12 @@ fn tell<E: Write>(errors: &mut E, reason: &[u8]) {
 
 /// The status that a check came to, or that of its fault, whose message is written. Of a journal that is not lawful the message
 /// says what is wrong.
-pub fn report_check<E: Write>(errors: &mut E, outcome: Result<Checked, RunFault>) -> u8
+pub fn report_check<E: Write>(errors: &mut E, seen: &Seen, outcome: Result<Checked, RunFault>) -> u8
     ensures { result ≡ status_of_checked outcome }
 {
     let checked = match outcome {
         Ok(checked) => checked,
-        Err(fault) => return report(errors, Err(ThreadsFault::Run(fault))),
+        Err(fault) => return report(errors, seen, Err(ThreadsFault::Run(fault))),
     };
     tell(errors, checked.reason.as_slice());
     status_of_verdict(checked.lawful)
@@ -87,12 +106,16 @@ fn status_of_outcome(outcome: Outcome) -> u8
 
 /// The status that a history came to, or that of its fault, whose message is written. Of `none` and `fault` the message
 /// says which entry that is, and of which call, and of `none` what the call could have replied.
-pub fn report_linearize<E: Write>(errors: &mut E, outcome: Result<Linearized, RunFault>) -> u8
+pub fn report_linearize<E: Write>(
+    errors: &mut E,
+    seen: &Seen,
+    outcome: Result<Linearized, RunFault>,
+) -> u8
     ensures { result ≡ status_of_linearized outcome }
 {
     let told = match outcome {
         Ok(told) => told,
-        Err(fault) => return report(errors, Err(ThreadsFault::Run(fault))),
+        Err(fault) => return report(errors, seen, Err(ThreadsFault::Run(fault))),
     };
     tell(errors, told.reason.as_slice());
     status_of_outcome(told.outcome)
@@ -119,28 +142,41 @@ fn status_of_outcomes(outcomes: &[Outcome]) -> u8
 }
 
 /// The status that histories came to, or that of their fault, whose message is written.
-pub fn report_many<E: Write>(errors: &mut E, outcome: Result<Histories, RunFault>) -> u8
+pub fn report_many<E: Write>(
+    errors: &mut E,
+    seen: &Seen,
+    outcome: Result<Histories, RunFault>,
+) -> u8
     ensures { result ≡ status_of_many outcome }
 {
     match outcome {
         Ok(told) => status_of_outcomes(told.outcomes.as_slice()),
-        Err(fault) => report(errors, Err(ThreadsFault::Run(fault))),
+        Err(fault) => report(errors, seen, Err(ThreadsFault::Run(fault))),
     }
 }
 
 /// The status that a run from the tree in a file came to, or that of its fault, whose message is written: a fault of the tree
-/// behind the name of the file.
-pub fn report_from<E: Write>(errors: &mut E, file: &str, outcome: Result<u8, StartFault>) -> u8
+/// behind the name of the file, of which this was read.
+pub fn report_from<E: Write>(
+    errors: &mut E,
+    seen: &Seen,
+    file: &str,
+    tree: &Seen,
+    outcome: Result<u8, StartFault>,
+) -> u8
     ensures { result ≡ status_of_started outcome }
 {
     let fault = match outcome {
         Ok(status) => return status,
         Err(fault) => fault,
     };
-    let _ = match fault {
-        StartFault::Tree(_) => writeln!(errors, "atomfs: {file}: {fault}"),
-        StartFault::Run(_) => writeln!(errors, "atomfs: {fault}"),
-    };
+    match fault {
+        StartFault::Tree(of_tree) => {
+            let _ = writeln!(errors, "atomfs: {file}: {fault}");
+            tell(errors, tree.about(of_tree, true).as_slice());
+        }
+        StartFault::Run(_) => tell_fault(errors, seen, &fault),
+    }
     fault.status()
 }
 
@@ -149,21 +185,55 @@ pub fn report_file<E: Write>(errors: &mut E, file: &str, fault: RunFault) -> u8
     ensures { result ≡ status_of_fault fault }
 {
     if let RunFault::OutOfMemory = fault {
-        return report(errors, Err(ThreadsFault::Run(fault)));
+        return report_fault(errors, fault);
     }
     let _ = writeln!(errors, "atomfs: {file}: {fault}");
     fault.status()
 }
 
+/// The status where a file is not opened, and the message behind its name: 4 where there is no memory.
+pub fn report_unopened<E: Write>(errors: &mut E, file: &str, error: &io::Error) -> u8
+    ensures memory { error_kind error.now ≡ IoErrorKind.OutOfMemory → result ≡ 4 }
+    ensures file { error_kind error.now ≢ IoErrorKind.OutOfMemory → result ≡ 5 }
+{
+    let kind = error.kind();
+    if kind == IoErrorKind::OutOfMemory {
+        return report_fault(errors, RunFault::OutOfMemory);
+    }
+    let why = words_of(kind);
+    let _ = writeln!(errors, "atomfs: {file}: {why}");
+    5
+}
+
+/// The status where a picture would be written to a terminal, and the message.
+pub fn report_picture<E: Write>(errors: &mut E) -> u8
+    ensures { result ≡ 2 }
+{
+    let _ = writeln!(
+        errors,
+        "atomfs: a terminal shows no picture: write it to a file by `> run.svg` behind the command"
+    );
+    2
+}
+
+/// Says that a command reads standard input, where that is a terminal and no file was named.
+pub fn tell_reading<E: Write>(errors: &mut E) {
+    let _ = writeln!(errors, "atomfs: reading standard input; end it with Ctrl-D");
+}
+
 /// The status that a schedule which is written came to, or that of its fault, whose message is written.
-pub fn report_schedule<E: Write>(errors: &mut E, outcome: Result<u8, ScheduleFault>) -> u8
+pub fn report_schedule<E: Write>(
+    errors: &mut E,
+    seen: &Seen,
+    outcome: Result<u8, ScheduleFault>,
+) -> u8
     ensures { result ≡ status_of_scheduled outcome }
 {
     let fault = match outcome {
         Ok(status) => return status,
         Err(fault) => fault,
     };
-    let _ = writeln!(errors, "atomfs: {fault}");
+    tell_fault(errors, seen, &fault);
     fault.status()
 }
 
@@ -171,6 +241,7 @@ pub fn report_schedule<E: Write>(errors: &mut E, outcome: Result<u8, ScheduleFau
 /// found is told too.
 pub fn report_find<E: Write>(
     errors: &mut E,
+    seen: &Seen,
     seed: u64,
     runs: u64,
     outcome: Result<Option<u64>, FindFault>,
@@ -191,7 +262,7 @@ pub fn report_find<E: Write>(
         }
         Err(fault) => fault,
     };
-    let _ = writeln!(errors, "atomfs: {fault}");
+    tell_fault(errors, seen, &fault);
     fault.status()
 }
 
@@ -213,7 +284,11 @@ fn tell_shrunk<E: Write>(errors: &mut E, shrunk: &Shrunk) {
 }
 
 /// The status that a script which is shrunk came to, or that of its fault, whose message is written. What is left is told too.
-pub fn report_shrink<E: Write>(errors: &mut E, outcome: Result<Option<Shrunk>, FindFault>) -> u8
+pub fn report_shrink<E: Write>(
+    errors: &mut E,
+    seen: &Seen,
+    outcome: Result<Option<Shrunk>, FindFault>,
+) -> u8
     ensures { result ≡ status_of_shrunk outcome }
 {
     let fault = match outcome {
@@ -227,7 +302,7 @@ pub fn report_shrink<E: Write>(errors: &mut E, outcome: Result<Option<Shrunk>, F
         }
         Err(fault) => fault,
     };
-    let _ = writeln!(errors, "atomfs: {fault}");
+    tell_fault(errors, seen, &fault);
     fault.status()
 }
 
@@ -236,27 +311,31 @@ pub fn report_words<E: Write>(errors: &mut E, fault: WhatFault) -> u8
     ensures { result ≡ status_of_words fault }
 {
     if let WhatFault::OutOfMemory = fault {
-        return report(errors, Err(ThreadsFault::Run(RunFault::OutOfMemory)));
+        return report_fault(errors, RunFault::OutOfMemory);
     }
     let _ = writeln!(errors, "atomfs: --where: {fault}");
     2
 }
 
 /// The status that a picture came to, or that of its fault, whose message is written.
-pub fn report_draw<E: Write>(errors: &mut E, outcome: Result<u8, DrawFault>) -> u8
+pub fn report_draw<E: Write>(errors: &mut E, seen: &Seen, outcome: Result<u8, DrawFault>) -> u8
     ensures { result ≡ status_of_drawn outcome }
 {
     let fault = match outcome {
         Ok(status) => return status,
         Err(fault) => fault,
     };
-    let _ = writeln!(errors, "atomfs: {fault}");
+    tell_fault(errors, seen, &fault);
     fault.status()
 }
 
 /// The status that what was asked of trees came to, or that of its fault, whose message is written. Of a journal that is not lawful
 /// the message says what is wrong.
-pub fn report_tree<E: Write>(errors: &mut E, outcome: Result<Replayed, ReplayFault>) -> u8
+pub fn report_tree<E: Write>(
+    errors: &mut E,
+    seen: &Seen,
+    outcome: Result<Replayed, ReplayFault>,
+) -> u8
     ensures { result ≡ status_of_replayed outcome }
 {
     let fault = match outcome {
@@ -266,13 +345,13 @@ pub fn report_tree<E: Write>(errors: &mut E, outcome: Result<Replayed, ReplayFau
         }
         Err(fault) => fault,
     };
-    let _ = writeln!(errors, "atomfs: {fault}");
+    tell_fault(errors, seen, &fault);
     fault.status()
 }
 
 /// The status that a trace came to, or that of its fault, whose message is written. Of a journal that is not lawful the message says
 /// what is wrong.
-pub fn report_trace<E: Write>(errors: &mut E, outcome: Result<Traced, RunFault>) -> u8
+pub fn report_trace<E: Write>(errors: &mut E, seen: &Seen, outcome: Result<Traced, RunFault>) -> u8
     ensures { result ≡ status_of_traced outcome }
 {
     match outcome {
@@ -280,7 +359,7 @@ pub fn report_trace<E: Write>(errors: &mut E, outcome: Result<Traced, RunFault>)
             tell(errors, traced.reason.as_slice());
             status_of_verdict(traced.well)
         }
-        Err(fault) => report(errors, Err(ThreadsFault::Run(fault))),
+        Err(fault) => report(errors, seen, Err(ThreadsFault::Run(fault))),
     }
 }
 
@@ -290,7 +369,7 @@ pub fn status_of_unreadable_args<E: Write>(errors: &mut E, error: &io::Error) ->
     ensures usage { error_kind error.now ≢ IoErrorKind.OutOfMemory → result ≡ 2 }
 {
     if error.kind() == IoErrorKind::OutOfMemory {
-        return report(errors, Err(ThreadsFault::Run(RunFault::OutOfMemory)));
+        return report_fault(errors, RunFault::OutOfMemory);
     }
     let _ = writeln!(errors, "atomfs: an argument is not UTF-8");
     2
@@ -304,10 +383,10 @@ pub fn status_of_usage<W: Write, E: Write>(output: &mut W, errors: &mut E, error
     ensures usage { kind_of error ≢ ErrorKind.OutOfMemory → kind_of error ≢ ErrorKind.DisplayHelp → kind_of error ≢ ErrorKind.DisplayVersion → result ≡ 2 }
 {
     match error.kind() {
-        ErrorKind::OutOfMemory => report(errors, Err(ThreadsFault::Run(RunFault::OutOfMemory))),
+        ErrorKind::OutOfMemory => report_fault(errors, RunFault::OutOfMemory),
         ErrorKind::DisplayHelp | ErrorKind::DisplayVersion => match write!(output, "{error}") {
             Ok(()) => 0,
-            Err(_) => report(errors, Err(ThreadsFault::Run(RunFault::Write))),
+            Err(_) => report_fault(errors, RunFault::Write),
         },
         _ => {
             let _ = write!(errors, "{error}");

@@ -6,7 +6,7 @@ use fs_layout::{
     Arrow, BAR_HEIGHT, BOX_HEIGHT, Band, Bands, Bar, CHECKPOINT, Dot, Frame, Hold, Part, Piece,
     Places, Row, add, checkpoint_reach, digits, less, small_width,
 };
-use fs_scene::{Card, Scene, label_of, push_cut, push_number};
+use fs_scene::{Card, Scene, label_of, push_cut};
 use std::alloc::{AllocError, Global};
 
 /// What is drawn, its places, and the frame.
@@ -55,7 +55,7 @@ fn write_checkpoints(
     ink.raw(b"<g class=\"a\">")?;
     for x in &row.checkpoints {
         ink.raw(
-            b"<g class=\"checkpoint\"><title>the journal begins again here, and the next call is #1</title>",
+            b"<g class=\"checkpoint\"><title>the journal begins again here, and the next call is call 1</title>",
         )?;
         ink.with(b"<path class=\"j\" d=\"M ", *x)?;
         ink.with(b" ", add(bands.top, 17))?;
@@ -199,12 +199,17 @@ impl<'a> Canvas<'a> {
         ink.raw(b"</g>\n")
     }
 
-    /// The words of a wait: the last name of the node, and the call that holds it.
-    fn wait_words(&self, hold: &Hold) -> Result<Vec<u8>, AllocError> {
+    /// The words of a wait: the last name of the node, and the word of the call that holds it; that word alone where both do not fit.
+    fn wait_words(&self, hold: &Hold, holder: u32) -> Result<Vec<u8>, AllocError> {
+        let who = self.scene.text_at(holder);
         let mut words = Vec::new(self.alloc);
         push_cut(hold.name.as_slice(), 8, &mut words)?;
         words.push(b' ')?;
-        push_number(hold.holder, &mut words)?;
+        words.extend_from_slice(who)?;
+        if add(words_end(hold, words.len()), 2) > hold.to {
+            words.clear();
+            words.extend_from_slice(who)?;
+        }
         Ok(words)
     }
 
@@ -213,13 +218,13 @@ impl<'a> Canvas<'a> {
         let mut dots = Ink::new(self.alloc);
         let mut any = false;
         for hold in &piece.holds {
-            if hold.holder == 0 {
+            let Some(holder) = hold.holder else {
                 continue;
-            }
+            };
             any = true;
             let top = band.slot(hold.slot);
-            let words = self.wait_words(hold)?;
-            let end = add(add(hold.from, 4), small_width(words.len()));
+            let words = self.wait_words(hold, holder)?;
+            let end = words_end(hold, words.len());
             let fits = add(end, 2) <= hold.to;
             if fits {
                 ink.text_at(b"v", add(hold.from, 2), add(top, 9), words.as_slice())?;
@@ -241,7 +246,7 @@ impl<'a> Canvas<'a> {
         let mut names = Ink::new(self.alloc);
         let mut any = false;
         for hold in &piece.holds {
-            if hold.holder != 0 {
+            if hold.holder.is_some() {
                 continue;
             }
             let top = band.slot(hold.slot);
@@ -324,6 +329,11 @@ impl<'a> Canvas<'a> {
         }
         ink.raw(b"</g>\n")
     }
+}
+
+/// Where the words of a wait end that have so many characters.
+fn words_end(hold: &Hold, characters: usize) -> u64 {
+    add(add(hold.from, 4), small_width(characters))
 }
 
 /// The class of a part of a bar.

@@ -4,6 +4,14 @@ use crate::ink::Ink;
 use fs_scene::{ARROW, Card, Scene, push_cut};
 use std::alloc::{AllocError, Global};
 
+/// A call as one word: its lane, and its place among the calls of that.
+fn write_who(scene: &Scene, card: &Card, ink: &mut Ink) -> Result<(), AllocError> {
+    if let Some(name) = scene.lanes.get(card.lane) {
+        ink.words(name.as_slice())?;
+    }
+    ink.with(b"#", card.turn)
+}
+
 /// The call and its reply.
 fn write_call(alloc: Global, scene: &Scene, card: &Card, ink: &mut Ink) -> Result<(), AllocError> {
     let (call_width, reply_width) = if scene.is_large() {
@@ -17,17 +25,14 @@ fn write_call(alloc: Global, scene: &Scene, card: &Card, ink: &mut Ink) -> Resul
         words.extend_from_slice(&[b' ', ARROW, b' '])?;
         push_cut(card.reply.words.as_slice(), reply_width, &mut words)?;
     }
-    ink.with(b"#", card.number)?;
+    write_who(scene, card, ink)?;
     ink.raw(b" ")?;
     ink.words(words.as_slice())
 }
 
-/// The lane, and the first and the last event or entry.
-fn write_lane(scene: &Scene, card: &Card, ink: &mut Ink) -> Result<(), AllocError> {
-    ink.raw(b"\n")?;
-    if let Some(name) = scene.lanes.get(card.lane) {
-        ink.words(name.as_slice())?;
-    }
+/// The number of the call, and the first and the last event or entry.
+fn write_number(scene: &Scene, card: &Card, ink: &mut Ink) -> Result<(), AllocError> {
+    ink.with(b"\ncall ", card.number)?;
     ink.raw(if scene.is_run {
         b", events "
     } else {
@@ -49,11 +54,8 @@ fn write_commit(scene: &Scene, card: &Card, ink: &mut Ink) -> Result<(), AllocEr
     ink.with(b", at ", card.commit)?;
     if let Some(helper) = card.helper {
         if let Some(other) = scene.cards.get(helper) {
-            ink.with(b", given by #", other.number)?;
-            if let Some(name) = scene.lanes.get(other.lane) {
-                ink.raw(b" of ")?;
-                ink.words(name.as_slice())?;
-            }
+            ink.raw(b", given by ")?;
+            write_who(scene, other, ink)?;
         }
     }
     if card.carried > 0 {
@@ -70,7 +72,7 @@ pub(crate) fn write_tip(
     ink: &mut Ink,
 ) -> Result<(), AllocError> {
     write_call(alloc, scene, card, ink)?;
-    write_lane(scene, card, ink)?;
+    write_number(scene, card, ink)?;
     write_commit(scene, card, ink)?;
     if !card.due.is_none() {
         let mut due = Vec::new(alloc);

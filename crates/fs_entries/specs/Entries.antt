@@ -17,9 +17,9 @@ use Rattle.fs_replay.specs.Commits.{front_by}
 use Rattle.fs_replay.specs.Replays.{is_journal, IsReplayOf}
 use Rattle.fs_replay.specs.declared.asking.Question.TheVariants.{Whole}
 
--- the line of an entry: its place, whose it is, what it does, and words behind that
+-- the line of an entry: its place, its call and the seat of that, what it does, and words behind that
 abbrev pub line_text : ℕ → List ℕ → ℕ → List ℕ → List ℕ → List ℕ
-line_text n seat c verb words = decimal n ++ (codes " " ++ (seat ++ (codes "#" ++ (decimal c ++ (verb ++ (words ++ codes "\n"))))))
+line_text n seat c verb words = decimal n ++ (codes " call " ++ (decimal c ++ (codes " on seat " ++ (seat ++ (verb ++ (words ++ codes "\n"))))))
 
 -- the same of this entry: who began what, whose call committed, and what was returned to whom
 abbrev pub IsLine : ℕ → Entry → List ℕ → Type 0
@@ -34,7 +34,7 @@ AreLines n (e ∷ es) text = (line rest : List ℕ) × IsLine n e line × AreLin
 
 -- the trace of these entries, behind which this tree stands: a line for each, lines of the calls that are left, the tree, and the counts
 abbrev pub IsTraceBehind : List Entry → List ℕ → List ℕ → Type 0
-IsTraceBehind es tree text = (lines left : List ℕ) × AreLines 1 es lines × (text ≡ codes "atomfs-trace 1\n" ++ (lines ++ (left ++ (tree ++ end_line es))))
+IsTraceBehind es tree text = (lines left : List ℕ) × AreLines 1 es lines × (text ≡ codes "atomfs-trace 2\n" ++ (lines ++ (left ++ (tree ++ end_line es))))
 
 -- the trace of a journal: its entries, or those before its first fault, and the tree that these make; it went well where it is lawful
 abbrev pub IsTraceOfJournal : List ℕ → Bool → List ℕ → Type 0

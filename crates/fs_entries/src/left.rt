@@ -26,8 +26,8 @@ fn push_left(
     call: &Call,
     text: &mut Addition,
 ) -> Result<(), AllocError> {
-    text.push_with_number(b"left ", seat.get())?;
-    text.push_with_number(b"#", number.get())?;
+    text.push_with_number(b"left call ", number.get())?;
+    text.push_with_number(b" on seat ", seat.get())?;
     text.push(b" ")?;
     let mut words = Vec::new(alloc);
     write_call(alloc, call, &mut words)?;

@@ -99,9 +99,9 @@ fn push_line(
     ensures before { text.new.before ≡ text.old.before }
 {
     text.push_number(place as u64)?;
-    text.push(b" ")?;
+    text.push_with_number(b" call ", number.get())?;
+    text.push(b" on seat ")?;
     text.push(seat)?;
-    text.push_with_number(b"#", number.get())?;
     text.push(verb)?;
     text.push(words)?;
     text.push(b"\n")

@@ -87,10 +87,10 @@ fn push_trace(
     entries: &[Entry],
     text: &mut Addition,
 ) -> Result<(), AllocError>
-    ensures ok { OnOk result (text.new.added ≡ text.old.added ++ (codes "atomfs-trace 1\n" ++ (lines.now ++ (left.now ++ (tree.now ++ end_line entries.now))))) }
+    ensures ok { OnOk result (text.new.added ≡ text.old.added ++ (codes "atomfs-trace 2\n" ++ (lines.now ++ (left.now ++ (tree.now ++ end_line entries.now))))) }
     ensures before { text.new.before ≡ text.old.before }
 {
-    text.push(b"atomfs-trace 1\n")?;
+    text.push(b"atomfs-trace 2\n")?;
     text.push(lines)?;
     text.push(left)?;
     text.push(tree)?;

@@ -24,13 +24,14 @@ pub struct Bar {
     pub to: u64,
 }
 
-/// A node that is held or waited for, in a slot below the bar; the call that holds it where it is waited for, else 0.
+/// A node that is held or waited for, in a slot below the bar; where it is waited for the place among the names at which the word of
+/// the call stands that holds it.
 #[derive(Drop)]
 pub struct Hold {
     pub slot: usize,
     pub from: u64,
     pub to: u64,
-    pub holder: u64,
+    pub holder: Option<u32>,
     pub node: u32,
     pub name: Vec<u8>,
 }
@@ -323,7 +324,7 @@ impl Rows {
         lane: usize,
         x: u64,
         node: u32,
-        holder: u64,
+        holder: Option<u32>,
         name: &[u8],
     ) -> Result<(), AllocError> {
         if lane >= self.lanes.len() {
@@ -340,7 +341,7 @@ impl Rows {
             node,
             name: Vec::from_slice(alloc, name)?,
         };
-        if holder == 0 {
+        if holder.is_none() {
             return live.take(hold);
         }
         live.use_slot(slot);
@@ -421,9 +422,9 @@ impl Rows {
         self.pass_by(lane, mark, x)?;
         match mark.what {
             What::Begin => self.begin(alloc, mark.card as usize, lane, x, row),
-            What::Take(node) => self.hold(alloc, lane, x, node, 0, scene.name_of(mark)),
+            What::Take(node) => self.hold(alloc, lane, x, node, None, scene.name_of(mark)),
             What::Wait(node, holder) => {
-                self.hold(alloc, lane, x, node, u64::from(holder), scene.name_of(mark))
+                self.hold(alloc, lane, x, node, Some(holder), scene.name_of(mark))
             }
             What::LetGo(node) => self.let_go(lane, node, x),
             What::Help(helped) => self.help(scene, helped as usize, lane, x, row),

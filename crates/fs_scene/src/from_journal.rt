@@ -11,7 +11,8 @@ use fs_words::Addition;
 use std::alloc::{AllocError, Global};
 use std::collections::BTreeMap;
 
-/// A journal that is gone through: the calls so far by their numbers, the lane of each seat, and the seats that are busy.
+/// A journal that is gone through: the calls so far by their numbers, the lane of each seat, the lanes that are busy, and how many
+/// calls began in each.
 #[derive(Drop)]
 struct Reading {
     alloc: Global,
@@ -19,6 +20,7 @@ struct Reading {
     cards: BTreeMap<u64, usize>,
     lanes: BTreeMap<u64, usize>,
     busy: Vec<bool>,
+    begun: Vec<u64>,
     commits: u64,
 }
 
@@ -89,8 +91,10 @@ impl Reading {
         let lanes = lanes_of(alloc, entries)?;
         let names = names_of(alloc, &lanes, text)?;
         let mut busy = Vec::new(alloc);
+        let mut begun = Vec::new(alloc);
         for _ in &names {
             busy.push(false)?;
+            begun.push(0)?;
         }
         Ok(Reading {
             alloc,
@@ -108,6 +112,7 @@ impl Reading {
             cards: BTreeMap::new(alloc),
             lanes,
             busy,
+            begun,
             commits: 0,
         })
     }
@@ -134,6 +139,15 @@ impl Reading {
         }
     }
 
+    /// The place of the next call of a lane among the calls of that.
+    fn next_turn(&mut self, lane: usize) -> u64 {
+        let Some(begun) = self.begun.get_mut(lane) else {
+            return 0;
+        };
+        *begun = begun.saturating_add(1);
+        *begun
+    }
+
     /// A call begins in a lane; the answer is its place among the calls.
     fn add_call(
         &mut self,
@@ -142,7 +156,8 @@ impl Reading {
         lane: usize,
         call: &Call,
     ) -> Result<usize, AllocError> {
-        let mut one = Card::new(self.alloc, number.get(), lane);
+        let turn = self.next_turn(lane);
+        let mut one = Card::new(self.alloc, number.get(), lane, turn);
         one.tell(self.alloc, call)?;
         let card = self.scene.cards.len();
         self.cards.insert(number.get(), card)?;

@@ -1,6 +1,6 @@
 //! The scene of a script's run.
 
-use crate::labels::last_name;
+use crate::labels::{last_name, push_who};
 use crate::scene::{Card, Mark, Reported, Scene, What, short};
 use fs_calls::Reply;
 use fs_script::Script;
@@ -40,13 +40,14 @@ impl SoFar {
     }
 }
 
-/// What a line of a story tells of its call; none of an idle turn and of a checkpoint.
-fn what_of(line: &Line, so_far: &SoFar) -> Option<What> {
+/// What a line of a story tells of its call, where a wait is for a call whose word stands at this place; none of an idle turn and of a
+/// checkpoint.
+fn what_of(line: &Line, so_far: &SoFar, holder: u32) -> Option<What> {
     Some(match line.deed {
         Deed::Idles | Deed::Checkpoint => return None,
         Deed::Begins => What::Begin,
         Deed::Takes(node) => What::Take(short(node.get())),
-        Deed::Waits(node, holder) => What::Wait(short(node.get()), short(holder.get() as usize)),
+        Deed::Waits(node, _) => What::Wait(short(node.get()), holder),
         Deed::LetsGo(node) => What::LetGo(short(node.get())),
         Deed::Helps(helped) => What::Help(so_far.card_of(helped.get())),
         Deed::Commits => What::Commit,
@@ -74,22 +75,30 @@ fn lanes_of(alloc: Global, script: &Script) -> Result<Vec<Vec<u8>>, AllocError> 
     Ok(lanes)
 }
 
-/// The scene of a run so far, of which the calls have no words yet, and where the last name of each node stands among the names.
+/// The scene of a run so far, of which the calls have no words yet; where the last name of each node stands among the names, and the
+/// word of each call that others wait for; and how many calls began in each lane.
 #[derive(Drop)]
 pub struct Strip {
     alloc: Global,
     scene: Scene,
     places: BTreeMap<u32, u32>,
+    holders: BTreeMap<u32, u32>,
+    begun: Vec<u64>,
     so_far: SoFar,
 }
 
 impl Strip {
     /// Before the first moment of a run of a script.
     pub fn new(alloc: Global, script: &Script) -> Result<Strip, AllocError> {
+        let lanes = lanes_of(alloc, script)?;
+        let mut begun = Vec::new(alloc);
+        for _ in &lanes {
+            begun.push(0)?;
+        }
         Ok(Strip {
             alloc,
             scene: Scene {
-                lanes: lanes_of(alloc, script)?,
+                lanes,
                 calls: 0,
                 cards: Vec::new(alloc),
                 marks: Vec::new(alloc),
@@ -100,6 +109,8 @@ impl Strip {
                 around: None,
             },
             places: BTreeMap::new(alloc),
+            holders: BTreeMap::new(alloc),
+            begun,
             so_far: SoFar {
                 begun: 0,
                 before: 0,
@@ -108,12 +119,49 @@ impl Strip {
         })
     }
 
+    /// The place of the next call of a lane among the calls of that.
+    fn next_turn(&mut self, lane: usize) -> u64 {
+        let Some(begun) = self.begun.get_mut(lane) else {
+            return 0;
+        };
+        *begun = begun.saturating_add(1);
+        *begun
+    }
+
+    /// The word of a call, by its place among the calls.
+    fn word_of(&self, card: u32) -> Result<Vec<u8>, AllocError> {
+        let mut word = Vec::new(self.alloc);
+        if let Some(card) = self.scene.cards.get(card as usize) {
+            if let Some(thread) = self.scene.lanes.get(card.lane) {
+                push_who(thread.as_slice(), card.turn, &mut word)?;
+            }
+        }
+        Ok(word)
+    }
+
+    /// Where the word of the call for which a line waits stands among the names; 0 where it waits for none.
+    fn holder_of(&mut self, line: &Line) -> Result<u32, AllocError> {
+        let Deed::Waits(_, holder) = line.deed else {
+            return Ok(0);
+        };
+        let card = self.so_far.card_of(holder.get());
+        if let Some(place) = self.holders.get(&card) {
+            return Ok(*place);
+        }
+        let place = short(self.scene.names.len());
+        let word = self.word_of(card)?;
+        self.scene.names.push(word)?;
+        self.holders.insert(card, place)?;
+        Ok(place)
+    }
+
     /// A call does this at an event, to a node of this name.
     fn mark(&mut self, line: &Line, what: What, name: &[u8]) -> Result<(), AllocError> {
         if let (What::Begin, Some(lane)) = (what, line.seat) {
+            let turn = self.next_turn(lane);
             self.scene
                 .cards
-                .push(Card::new(self.alloc, line.call, lane))?;
+                .push(Card::new(self.alloc, line.call, lane, turn))?;
         }
         self.so_far.note(what);
         let mark = Mark {
@@ -153,7 +201,8 @@ impl Page for Strip {
             self.scene.checkpoints.push(line.number as u64)?;
             return Ok(());
         }
-        match what_of(&line, &self.so_far) {
+        let holder = self.holder_of(&line)?;
+        match what_of(&line, &self.so_far, holder) {
             Some(what) => self.mark(&line, what, name_of(&line, words)),
             None => Ok(()),
         }

@@ -135,8 +135,14 @@ fn push_call(card: &Card, label: &mut Vec<u8>) -> Result<(), AllocError> {
     Ok(())
 }
 
+/// Adds a call as one word: its thread, and its place among the calls of that.
+pub fn push_who(thread: &[u8], turn: u64, word: &mut Vec<u8>) -> Result<(), AllocError> {
+    word.extend_from_slice(thread)?;
+    push_number(turn, word)
+}
+
 /// Adds `#` and a number.
-pub fn push_number(number: u64, label: &mut Vec<u8>) -> Result<(), AllocError> {
+fn push_number(number: u64, label: &mut Vec<u8>) -> Result<(), AllocError> {
     let mut buffer = Buffer::new();
     label.push(b'#')?;
     label.extend_from_slice(buffer.format(number).as_bytes())
@@ -200,7 +206,7 @@ pub fn label_of(alloc: Global, card: &Card, again: bool, short: bool) -> Result<
     if again {
         label.plain.extend_from_slice(&[ELLIPSIS, b' '])?;
     }
-    push_number(card.number, &mut label.plain)?;
+    push_number(card.turn, &mut label.plain)?;
     if !(again && short) {
         label.plain.push(b' ')?;
         push_call(card, &mut label.plain)?;

@@ -14,6 +14,6 @@ mod seat_names;
 
 pub use from_journal::scene_of_journal;
 pub use from_run::{Strip, scene_of_run};
-pub use labels::{Label, label_of, last_name, push_cut, push_number};
+pub use labels::{Label, label_of, last_name, push_cut, push_who};
 pub use overlap::around;
 pub use scene::{ARROW, Card, ELLIPSIS, Fault, Mark, Reported, Scene, What};

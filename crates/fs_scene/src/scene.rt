@@ -17,7 +17,7 @@ pub enum What {
     Begin,
     /// It took the node of this number.
     Take(u32),
-    /// It waits for the node of this number, which the call of the second one holds.
+    /// It waits for the node of this number, which a call holds whose word stands at this place among the names.
     Wait(u32, u32),
     /// It let the node of this number go.
     LetGo(u32),
@@ -83,13 +83,14 @@ impl Reported {
     }
 }
 
-/// A call: its number, which counts from 1 behind each checkpoint, its lane, its words, its reply (none where it did not
-/// return), the reply that was due where it is another one, the kind of the fault where an entry of it has another fault, and where
+/// A call: its number, which counts from 1 behind each checkpoint, its lane, its place among the calls of that, counted from 1, its
+/// words, its reply (none where it did not return), the reply that was due where it is another one, the kind of the fault where an entry of it has another fault, and where
 /// it began, ended, took its place and was carried out. Numbers that are not there are 0.
 #[derive(Drop)]
 pub struct Card {
     pub number: u64,
     pub lane: usize,
+    pub turn: u64,
     pub words: Vec<u8>,
     pub has_two_paths: bool,
     pub reply: Reported,
@@ -104,11 +105,12 @@ pub struct Card {
 }
 
 impl Card {
-    /// A call of which nothing is told yet but its number and its lane.
-    pub fn new(alloc: Global, number: u64, lane: usize) -> Card {
+    /// A call of which nothing is told yet but its number, its lane, and its place there.
+    pub fn new(alloc: Global, number: u64, lane: usize, turn: u64) -> Card {
         Card {
             number,
             lane,
+            turn,
             words: Vec::new(alloc),
             has_two_paths: false,
             reply: Reported::none(alloc),
@@ -140,8 +142,8 @@ pub struct Fault {
     pub mark: Option<usize>,
 }
 
-/// What is drawn: the names of the lanes, the calls in the order of their begins, the marks, the names of which they tell, and of
-/// each checkpoint the number of the event behind it; whether it is a run, of which each event is told; and how many calls there are in all.
+/// What is drawn: the names of the lanes, the calls in the order of their begins, the marks, the names and the words of calls of which
+/// they tell, and of each checkpoint the number of the event behind it; whether it is a run, of which each event is told; and how many calls there are in all.
 #[derive(Drop)]
 pub struct Scene {
     pub lanes: Vec<Vec<u8>>,
@@ -178,11 +180,16 @@ impl Scene {
 
     /// The last name of the node of which a mark tells; no bytes where it tells of none.
     pub fn name_of(&self, mark: &Mark) -> &[u8] {
-        let Some(place) = mark.name else {
-            return &[];
-        };
+        match mark.name {
+            Some(place) => self.text_at(place),
+            None => &[],
+        }
+    }
+
+    /// A text among the names; no bytes where there is none at this place.
+    pub fn text_at(&self, place: u32) -> &[u8] {
         match self.names.get(place as usize) {
-            Some(name) => name.as_slice(),
+            Some(text) => text.as_slice(),
             None => &[],
         }
     }

@@ -168,15 +168,16 @@ impl<'a> Voice<'a> {
         }
     }
 
-    /// A call as one word: its thread and its number.
+    /// A call as one word: its thread, and its place among the calls of that, counted from 1.
     fn push_who(&self, number: u64, line: &mut Vec<u8>) -> Result<(), AllocError> {
-        if let Some(place) = self.place_of(number) {
-            if let Some(name) = self.names.name(place.seat) {
-                line.extend_from_slice(name)?;
-            }
+        let Some(place) = self.place_of(number) else {
+            return Ok(());
+        };
+        if let Some(name) = self.names.name(place.seat) {
+            line.extend_from_slice(name)?;
         }
         line.extend_from_slice(b"#")?;
-        push_number(number, line)
+        push_number((place.at as u64).saturating_add(1), line)
     }
 
     fn push_path(&self, store: &Store, node: NodeNo, line: &mut Vec<u8>) -> Result<(), AllocError> {
@@ -475,6 +476,8 @@ impl<'a> Voice<'a> {
         if let Some(call) = self.call_of(number) {
             write_call(self.alloc, call, line)?;
         }
+        line.extend_from_slice(b", call ")?;
+        push_number(number, line)?;
         Ok(Said::of(Deed::Begins))
     }
 
@@ -560,7 +563,7 @@ fn show_checkpoint<P: Page>(number: usize, page: &mut P) -> Result<(), AllocErro
         deed: Deed::Checkpoint,
         path: Part::none(),
     };
-    page.show(line, b", the next call is #1")
+    page.show(line, b", the next call is call 1")
 }
 
 /// Tells a run as its moments come: each event, or those that tell something new, and each checkpoint. A page is shown each

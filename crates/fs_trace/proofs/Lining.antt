@@ -50,7 +50,7 @@ threads_more names i name old now new less is e adds =
 pub head_is : (every : Bool) (names : List (List ℕ)) (ms : List Moment) (start now : TraceLines) (before added left text : List ℕ) → IsTraceStart names start → HasLines start now (map deed_told (shown every ms)) → before ≡ now.text.before → added ≡ now.text.added ++ left
     → text ≡ before ++ added → IsTraceHead every names ms text
 head_is every names ms start now before added left text (none, starts) (same, (lines, are, e)) is_before is_added is_text =
-    let first : List ℕ = codes "atomfs-trace 1\n" in
+    let first : List ℕ = codes "atomfs-trace 2\n" in
     let threads : List ℕ = flat_map thread_line names in (
       lines,
       left,
@@ -62,7 +62,7 @@ head_is every names ms start now before added left text (none, starts) (same, (l
 -- and the whole
 pub trace_is : (every : Bool) (names : List (List ℕ)) (ms : List Moment) (last : State) (head with_tree counts text : List ℕ) → IsTraceHead every names ms head → AppendsTree last.graph head with_tree → counts ≡ end_line last.timeline → text ≡ with_tree ++ counts → IsTraceText every names ms last text
 trace_is every names ms last head with_tree counts text (lines, left, are, is_head) (t, spelled, is_tree) is_counts is_text =
-    let first : List ℕ = codes "atomfs-trace 1\n" in
+    let first : List ℕ = codes "atomfs-trace 2\n" in
     let threads : List ℕ = flat_map thread_line names in
     let tail : List ℕ = tree_text t ++ end_line last.timeline in (
       lines,

@@ -51,7 +51,7 @@ heads_shown every ms = map line_head (map deed_told (shown every ms))
 abbrev pub IsTraceText : Bool → List (List ℕ) → List Moment → State → List ℕ → Type 0
 IsTraceText every names ms last text =
     (lines left : List ℕ) × (t : Tree) × AreLines (heads_shown every ms) lines × IsSpelled last.graph t
-    × (text ≡ codes "atomfs-trace 1\n" ++ (flat_map thread_line names ++ (lines ++ (left ++ (tree_text t ++ end_line last.timeline)))))
+    × (text ≡ codes "atomfs-trace 2\n" ++ (flat_map thread_line names ++ (lines ++ (left ++ (tree_text t ++ end_line last.timeline)))))
 
 -- the trace of a run of the script that an input has, and how that run ended in all its pieces
 abbrev pub IsTraceOf : Schedule → Bool → List ℕ → RunEnd → List ℕ → Type 0

@@ -76,7 +76,7 @@ impl TraceLines {
         ensures { IfOk result (λ lines. IsTraceStart names.now lines) }
     {
         let mut text = Addition::new(Vec::new(alloc));
-        text.push(b"atomfs-trace 1\n")?;
+        text.push(b"atomfs-trace 2\n")?;
         push_threads(names, &mut text)?;
         Ok(TraceLines { text })
     }
@@ -90,18 +90,18 @@ impl Page for TraceLines {
     }
 }
 
-/// The line of a call that did not return; the number is that of a call that began.
+/// The line of a call that did not return; the turn is that of a call that began, among those of its thread.
 fn push_left(
     alloc: Global,
     name: &[u8],
-    number: Option<u64>,
+    turn: Option<u64>,
     call: &Call,
     text: &mut Addition,
 ) -> Result<(), AllocError> {
     text.push(b"left ")?;
     text.push(name)?;
-    match number {
-        Some(number) => text.push_with_number(b"#", number)?,
+    match turn {
+        Some(turn) => text.push_with_number(b"#", turn)?,
         None => text.push(b" unbegun")?,
     }
     let mut words = Vec::new(alloc);
@@ -123,7 +123,7 @@ fn push_left_of(
         push_left(
             alloc,
             name,
-            Some(standing.call),
+            Some(standing.begun as u64),
             &calls[standing.begun - 1],
             text,
         )?;

@@ -16,7 +16,7 @@ AddsLines heads old new = (lines : List ℕ) × AreLines heads lines × (new ≡
 
 -- a trace before its first line
 abbrev pub IsTraceStart : List (List ℕ) → TraceLines → Type 0
-IsTraceStart names lines = (lines.text.before ≡ []) × (lines.text.added ≡ codes "atomfs-trace 1\n" ++ flat_map thread_line names)
+IsTraceStart names lines = (lines.text.before ≡ []) × (lines.text.added ≡ codes "atomfs-trace 2\n" ++ flat_map thread_line names)
 
 -- a trace has a line for each of what is told, behind what it was first
 abbrev pub HasLines : TraceLines → TraceLines → List Saying → Type 0
@@ -24,4 +24,4 @@ HasLines first lines told = (lines.text.before ≡ first.text.before) × AddsLin
 
 -- a trace up to its tree
 abbrev pub IsTraceHead : Bool → List (List ℕ) → List Moment → List ℕ → Type 0
-IsTraceHead every names ms text = (lines left : List ℕ) × AreLines (heads_shown every ms) lines × (text ≡ codes "atomfs-trace 1\n" ++ (flat_map thread_line names ++ (lines ++ left)))
+IsTraceHead every names ms text = (lines left : List ℕ) × AreLines (heads_shown every ms) lines × (text ≡ codes "atomfs-trace 2\n" ++ (flat_map thread_line names ++ (lines ++ left)))

@@ -7,7 +7,7 @@ pub returns : goal.returns
 returns c =
     let lines = c.deref.result.now in
     let left = c.deref-2.result.now in
-    let rest = codes "atomfs-trace 1\n" ++ (lines ++ (left ++ (c.args.tree.now ++ end_line c.args.entries.now))) in
+    let rest = codes "atomfs-trace 2\n" ++ (lines ++ (left ++ (c.args.tree.now ++ end_line c.args.entries.now))) in
     let before = c.in_ok-push_trace.ensures.before ∙ c.new-text.ensures.before ∙ c.new.ensures.items in (
       lines,
       left,

@@ -1,0 +1,289 @@
+//! What was read of a text, and what a message shows of it beside its fault.
+
+ghost use Rattle.std.specs.Prelude.{◌≡◌, ◌+◌, ◌<◌, ◌≤◌, length, if◌then◌else◌};
+
+use fs_draw::DrawFault;
+use fs_find::FindFault;
+use fs_replay::ReplayFault;
+use fs_sched::{Failed, RunFault, Source};
+use fs_start::StartFault;
+use fs_threads::ThreadsFault;
+use fs_trace::ScheduleFault;
+use fs_words::headers::{script_limits, started_limits};
+use fs_words::lines::cut_line;
+use fs_words::words::is_word;
+use fs_words::{FaultKind, ScriptFault};
+use std::alloc::{AllocError, Global};
+
+/// The most columns of a line that are shown.
+const WIDTH: usize = 80;
+
+/// More bytes than are said of a fault behind its line and its kind.
+const MOST: usize = 512;
+
+/// What stands in place of the rest of a line.
+const REST: &[u8] = b"...";
+
+const DIGITS: &[u8; 16] = b"0123456789abcdef";
+
+/// So many bytes of a text are kept, from its first on: to keep more would cost those whose texts have no fault.
+const SEEN_BYTES: usize = 65_536;
+
+/// What was read of a text, as far as it is kept.
+#[derive(Drop)]
+pub struct Seen {
+    alloc: Global,
+    text: Vec<u8>,
+    is_full: bool,
+}
+
+impl Seen {
+    /// Nothing was read yet. It takes no memory.
+    pub fn new(alloc: Global) -> Seen {
+        Seen {
+            alloc,
+            text: Vec::new(alloc),
+            is_full: false,
+        }
+    }
+
+    /// Keeps what was read next. Where there is no memory for it, or no room, nothing more is kept.
+    fn keep(&mut self, piece: &[u8]) {
+        if self.is_full {
+            return;
+        }
+        // All its room at once: a text that grows beside it would be moved again and again.
+        if self.text.is_empty() {
+            match Vec::with_capacity(self.alloc, SEEN_BYTES) {
+                Ok(text) => self.text = text,
+                Err(_) => {
+                    self.is_full = true;
+                    return;
+                }
+            }
+        }
+        let room = SEEN_BYTES.saturating_sub(self.text.len());
+        let fits = piece.len().min(room);
+        self.is_full = self.text.extend_from_slice(&piece[..fits]).is_err() || fits < piece.len();
+    }
+
+    /// The line of a number, counted from 1, where all of it was kept.
+    fn line(&self, number: u64) -> Option<&[u8]> {
+        let mut left = self.text.as_slice();
+        let mut at = 0u64;
+        'lines: while let Some((line, rest)) = cut_line(left) {
+            at = at.saturating_add(1);
+            if at == number {
+                let is_cut = self.is_full && rest.is_empty();
+                return if is_cut { None } else { Some(line) };
+            }
+            left = rest;
+        }
+        None
+    }
+
+    /// What a message says behind this fault of the text: its line, what the text is where its first line is another than it has to
+    /// be, and which word to have explained. Without memory it says nothing.
+    pub(crate) fn about(&self, fault: ScriptFault, is_tree: bool) -> Vec<u8> {
+        match self.lines_about(fault, is_tree) {
+            Ok(lines) => lines,
+            Err(_) => Vec::new(self.alloc),
+        }
+    }
+
+    fn lines_about(&self, fault: ScriptFault, is_tree: bool) -> Result<Vec<u8>, AllocError> {
+        let mut lines = Vec::with_capacity(self.alloc, MOST)?;
+        if let Some(line) = self.line(fault.line) {
+            push_shown(line, &mut lines)?;
+        }
+        if fault.kind == FaultKind::BadHeader {
+            if let Some(words) = nature_of(self.text.as_slice(), is_tree) {
+                lines.extend_from_slice(words)?;
+                lines.push(b'\n')?;
+            }
+        }
+        let kind = fault.kind;
+        let advice = format!(in self.alloc; "`atomfs explain {kind}` says what to write instead")?;
+        lines.extend_from_slice(advice.as_bytes())?;
+        Ok(lines)
+    }
+}
+
+/// Adds a line as a terminal shows it: two spaces, and what fits into the columns.
+fn push_shown(line: &[u8], lines: &mut Vec<u8>) -> Result<(), AllocError> {
+    if line.is_empty() {
+        return Ok(());
+    }
+    lines.extend_from_slice(b"  ")?;
+    let from = lines.len();
+    for byte in line {
+        if lines.len().saturating_sub(from) > WIDTH {
+            break;
+        }
+        push_byte(*byte, lines)?;
+    }
+    if lines.len().saturating_sub(from) > WIDTH {
+        lines.truncate(from.saturating_add(WIDTH - REST.len()));
+        lines.extend_from_slice(REST)?;
+    }
+    lines.push(b'\n')?;
+    Ok(())
+}
+
+/// Adds a byte; one that is no printable ASCII character by an escape, and so a backslash.
+fn push_byte(byte: u8, lines: &mut Vec<u8>) -> Result<(), AllocError> {
+    match byte {
+        b'\t' => lines.extend_from_slice(b"\\t"),
+        b'\r' => lines.extend_from_slice(b"\\r"),
+        b'\\' => lines.extend_from_slice(b"\\\\"),
+        b' '..=b'~' => {
+            lines.push(byte)?;
+            Ok(())
+        }
+        _ => {
+            let (high, low) = (DIGITS[(byte / 16) as usize], DIGITS[(byte % 16) as usize]);
+            lines.extend_from_slice(&[b'\\', b'x', high, low])
+        }
+    }
+}
+
+/// Whether a line is the first one of a journal.
+fn begins_journal(line: &[u8]) -> bool {
+    is_word(line, b"atomfs-journal 1") || started_limits(line).is_some()
+}
+
+/// What a text is whose first line is another than it has to be, where that is known.
+fn nature_of(text: &[u8], is_tree: bool) -> Option<&'static [u8]> {
+    let Some((first, _)) = cut_line(text) else {
+        return Some(b"the text is empty");
+    };
+    if first.starts_with(b"\xef\xbb\xbf") {
+        return Some(b"the text begins with a byte order mark: write it without one");
+    }
+    if first.ends_with(b"\r") {
+        return Some(b"the lines end with CR LF: write LF alone");
+    }
+    if begins_journal(first) {
+        return Some(if is_tree {
+            b"this journal has other limits than the script: give both the same version"
+        } else {
+            b"this is a journal: `atomfs check` reads it"
+        });
+    }
+    if script_limits(first).is_some() {
+        return Some(b"this is a script: `atomfs run` reads it");
+    }
+    if is_word(first, b"tree") {
+        return Some(b"this is a tree: `atomfs run --from` reads it");
+    }
+    if first.starts_with(b"atomfs-trace ") {
+        return Some(b"this is a trace, which no command reads");
+    }
+    None
+}
+
+/// A source, and what was read of it.
+#[derive(Drop)]
+pub struct Kept<R> {
+    /// The source.
+    pub inner: R,
+    /// What was read of it.
+    pub seen: Seen,
+}
+
+impl<R> Kept<R> {
+    /// A source of which nothing was read yet.
+    pub fn new(alloc: Global, inner: R) -> Kept<R>
+        ensures { result.inner ≡ inner }
+    {
+        Kept {
+            inner,
+            seen: Seen::new(alloc),
+        }
+    }
+}
+
+impl<R: Source> Source for Kept<R> {
+    ghost remaining = { λ kept. R.remaining kept.inner };
+
+    ghost failures = { λ kept. R.failures kept.inner };
+
+    fn read(&mut self, buffer: &mut [u8]) -> Result<usize, Failed> {
+        match self.inner.read(buffer) {
+            Ok(count) => {
+                self.seen.keep(&buffer[..count]);
+                Ok(count)
+            }
+            Err(fault) => Err(fault),
+        }
+    }
+}
+
+/// A fault of a command, which may be one of the text that was read.
+pub(crate) trait Faulty {
+    /// The fault of the text, where it is one.
+    fn of_text(&self) -> Option<ScriptFault>;
+}
+
+impl Faulty for RunFault {
+    fn of_text(&self) -> Option<ScriptFault> {
+        match self {
+            RunFault::Input(fault) => Some(*fault),
+            _ => None,
+        }
+    }
+}
+
+impl Faulty for ThreadsFault {
+    fn of_text(&self) -> Option<ScriptFault> {
+        match self {
+            ThreadsFault::Run(fault) => fault.of_text(),
+            ThreadsFault::Lists(_) => None,
+        }
+    }
+}
+
+impl Faulty for StartFault {
+    fn of_text(&self) -> Option<ScriptFault> {
+        match self {
+            StartFault::Run(fault) => fault.of_text(),
+            StartFault::Tree(fault) => Some(*fault),
+        }
+    }
+}
+
+impl Faulty for ScheduleFault {
+    fn of_text(&self) -> Option<ScriptFault> {
+        match self {
+            ScheduleFault::Run(fault) => fault.of_text(),
+            ScheduleFault::TooManyEvents | ScheduleFault::TooLong => None,
+        }
+    }
+}
+
+impl Faulty for FindFault {
+    fn of_text(&self) -> Option<ScriptFault> {
+        match self {
+            FindFault::Schedule(fault) => fault.of_text(),
+            FindFault::NoCall => None,
+        }
+    }
+}
+
+impl Faulty for ReplayFault {
+    fn of_text(&self) -> Option<ScriptFault> {
+        match self {
+            ReplayFault::Run(fault) => fault.of_text(),
+            _ => None,
+        }
+    }
+}
+
+impl Faulty for DrawFault {
+    fn of_text(&self) -> Option<ScriptFault> {
+        match self {
+            DrawFault::Run(fault) => fault.of_text(),
+            DrawFault::NoCall(_) => None,
+        }
+    }
+}
