@@ -38,7 +38,8 @@ typedef struct atomfs {
 } atomfs;
 
 /* A closed handle: atomfs fs = ATOMFS_INIT; */
-#define ATOMFS_INIT { 0, 0, 0 }
+#define ATOMFS_INIT                                                                                                    \
+    { 0, 0, 0 }
 
 /* The greatest limit of nodes by the limits ATOMFS_V1 and ATOMFS_V2, and by ATOMFS_V3; the most names that a call answers, and the
  * most bytes; the number by which all calls are kept, and the first line of the journal of a tree that began empty by the limits
@@ -54,30 +55,37 @@ typedef struct atomfs {
 enum {
     ATOMFS_OK = 0,
     /* From here to ATOMFS_WAITS the call or the look was done, or the call is under way. */
-    ATOMFS_TOO_SMALL = 1,     /* done; there are *count bytes, out has fewer, and is as before: ask again, for the reply of a
-                                 call by atomfs_reply_, since the call itself would be made a second time */
-    ATOMFS_UNTOLD = 2,        /* the call returned, and its reply is not told: for want of memory, when atomfs_reply_ can be
-                                 asked again, or since it is of another kind than the function tells */
-    ATOMFS_WAITS = 3,         /* the call *number is under way, and a call of another seat holds the node that it wants next */
+
+    /* done; there are *count bytes, out has fewer, and is as before: ask again, for the reply of a call by
+       atomfs_reply_, since the call itself would be made a second time */
+    ATOMFS_TOO_SMALL = 1,
+    /* the call returned, and its reply is not told: for want of memory, when atomfs_reply_ can be asked again, or
+       since it is of another kind than the function tells */
+    ATOMFS_UNTOLD = 2,
+    /* the call *number is under way, and a call of another seat holds the node that it wants next */
+    ATOMFS_WAITS = 3,
+
     /* From here to ATOMFS_FAILED nothing has changed, but for calls that a tree by atomfs_keep has forgotten before. */
-    ATOMFS_CLOSED = 4,        /* the handle is closed */
-    ATOMFS_ALREADY_OPEN = 5,  /* the handle is open */
-    ATOMFS_BAD_LIMIT = 6,     /* the limit is 0, or above ATOMFS_NODE_LIMIT, by ATOMFS_V3 above ATOMFS_V3_NODE_LIMIT */
-    ATOMFS_NO_MEMORY = 7,     /* out of memory */
-    ATOMFS_NO_SEAT = 8,       /* there is no such seat */
-    ATOMFS_SEAT_BUSY = 9,     /* the seat has a call under way */
-    ATOMFS_FULL = 10,         /* the call needs a node, and all are in use; or a tree has more than there may be */
-    ATOMFS_NO_REPLY = 11,     /* no call of this number has returned */
-    ATOMFS_UNDER_WAY = 12,    /* a call is under way, the one of the least number is *number */
-    ATOMFS_BAD_VERSION = 13,  /* the limits are none of ATOMFS_V1, ATOMFS_V2 and ATOMFS_V3, or those of the tree have no such call */
-    ATOMFS_NULL = 14,         /* a pointer is null, and may not be */
-    ATOMFS_BAD_LENGTH = 15,   /* a length is 2^63 or more */
+
+    ATOMFS_CLOSED = 4,       /* the handle is closed */
+    ATOMFS_ALREADY_OPEN = 5, /* the handle is open */
+    ATOMFS_BAD_LIMIT = 6,    /* the limit is 0, or above ATOMFS_NODE_LIMIT, by ATOMFS_V3 above ATOMFS_V3_NODE_LIMIT */
+    ATOMFS_NO_MEMORY = 7,    /* out of memory */
+    ATOMFS_NO_SEAT = 8,      /* there is no such seat */
+    ATOMFS_SEAT_BUSY = 9,    /* the seat has a call under way */
+    ATOMFS_FULL = 10,        /* the call needs a node, and all are in use; or a tree has more than there may be */
+    ATOMFS_NO_REPLY = 11,    /* no call of this number has returned */
+    ATOMFS_UNDER_WAY = 12,   /* a call is under way, the one of the least number is *number */
+    /* the limits are none of ATOMFS_V1, ATOMFS_V2 and ATOMFS_V3, or those of the tree have no such call */
+    ATOMFS_BAD_VERSION = 13,
+    ATOMFS_NULL = 14,       /* a pointer is null, and may not be */
+    ATOMFS_BAD_LENGTH = 15, /* a length is 2^63 or more */
     /* Faults of what is read: a path, a request, a line, or a script or a journal, whose line *count is. */
     ATOMFS_BAD_HEADER = 16,   /* the first line is another than it has to be */
     ATOMFS_BAD_LINE = 17,     /* a line has a form that none has at its place, or the call of a request is none */
     ATOMFS_BAD_THREAD = 18,   /* the name of a thread is none */
     ATOMFS_THREAD_TWICE = 19, /* a thread has two blocks */
-    ATOMFS_BAD_PATH = 20,     /* a word, or the bytes of a typed call, are no path; atomfs_check_path says why */
+    ATOMFS_BAD_PATH = 20,     /* a word, or the bytes of a typed call, are no path: atomfs_status_text says why */
     ATOMFS_BAD_NUMBER = 21,   /* a word is no number */
     ATOMFS_BAD_HEX = 22,      /* a word is neither - nor pairs of hexadecimal digits */
     ATOMFS_NO_SCHEDULE = 23,  /* a script ends without a line schedule */
@@ -95,30 +103,34 @@ enum {
     /* Of a tool over a text. */
     ATOMFS_NO_CALL = 34,    /* no call has the number around which is to be drawn */
     ATOMFS_BAD_CHOICE = 35, /* a schedule, a number or a word is none of those that there are */
-    /* The call returned with an error, which is in the journal, and the tree is as before: this and Linux's number of the
-       error, as ATOMFS_FAILED + ENOENT. Errors are ENOENT, ENOTDIR, EEXIST, ENOTEMPTY, EISDIR, EINVAL, EBUSY, EPERM,
-       ENOSPC (too many entries), EFBIG and EOVERFLOW (more names than a call answers). */
+    /* The call returned with an error, which is in the journal, and the tree is as before: this and Linux's number
+       of the error, as ATOMFS_FAILED + ENOENT. Errors are ENOENT, ENOTDIR, EEXIST, ENOTEMPTY, EISDIR, EINVAL, EBUSY,
+       EPERM, ENOSPC (too many entries), EFBIG and EOVERFLOW (more names than a call answers). */
     ATOMFS_FAILED = 128
 };
 
 /* The limits of names, paths, directories and files of a tree. */
 enum {
-    ATOMFS_V1 = 1, /* names of at most 32 bytes, paths of 64 names, directories of 256 entries, files of 65,536 bytes */
-    ATOMFS_V2 = 2, /* names of at most 64 bytes, paths of 64 names, directories of 256 entries, files of 1,048,576 bytes */
-    ATOMFS_V3 = 3  /* names of at most 255 bytes, paths of 2,048 names, directories of 1,048,576 entries, files of 2,147,483,648
-                      bytes; these alone have atomfs_list */
+    /* names of at most 32 bytes, paths of 64 names, directories of 256 entries, files of 65,536 bytes */
+    ATOMFS_V1 = 1,
+    /* names of at most 64 bytes, paths of 64 names, directories of 256 entries, files of 1,048,576 bytes */
+    ATOMFS_V2 = 2,
+    /* names of at most 255 bytes, paths of 2,048 names, directories of 1,048,576 entries, files of 2,147,483,648
+       bytes; these alone have atomfs_list */
+    ATOMFS_V3 = 3
 };
 
 /* What a step did, and what *about is then. */
 enum {
-    ATOMFS_DID_IDLE = 0,        /* no call is under way on the seat; 0 */
-    ATOMFS_DID_TAKE = 1,        /* the call took a node; the node */
-    ATOMFS_DID_WAIT = 2,        /* it would take a node that another call holds; the number of that call */
-    ATOMFS_DID_LET_GO = 3,      /* it let a node go; the node */
-    ATOMFS_DID_HELP = 4,        /* it gave another call its place; the number of that call */
-    ATOMFS_DID_COMMIT = 5,      /* it took its place, made its change and fixed its reply; 0 */
-    ATOMFS_DID_CARRY_OUT = 6,   /* it had its place already, made its change and fixed its reply; 0 */
-    ATOMFS_DID_RETURN = 7       /* it returned, and atomfs_reply_ tells its reply; 0 */
+    ATOMFS_DID_IDLE = 0,      /* no call is under way on the seat; 0 */
+    ATOMFS_DID_TAKE = 1,      /* the call took a node; the node */
+    ATOMFS_DID_WAIT = 2,      /* it would take a node that another call holds; the number of that call */
+    ATOMFS_DID_LET_GO = 3,    /* it let a node go; the node */
+    ATOMFS_DID_HELP = 4,      /* it gave another call its place; the number of that call */
+    ATOMFS_DID_COMMIT = 5,    /* it took its place, made its change and fixed its reply; 0 */
+    ATOMFS_DID_CARRY_OUT = 6, /* it had its place already, made its change and fixed its reply; 0 */
+    ATOMFS_DID_RETURN = 7,    /* it returned, and atomfs_reply_ tells its reply; 0 */
+    ATOMFS_DID_BEGIN = 8      /* it began, which a gate alone hears of; its number */
 };
 
 /* What is wrong with an entry: *kind of atomfs_verdict. */
@@ -161,8 +173,9 @@ enum {
 
 /* What came of a history: *found of atomfs_linearize. */
 enum {
-    ATOMFS_FOUND_LAWFUL = 0,     /* an order of its calls explains it; the text is the journal with its commits */
-    ATOMFS_FOUND_NO_ORDER = 1,   /* none does; `none`, the place of the first return that none explains, and its call */
+    ATOMFS_FOUND_LAWFUL = 0, /* an order of its calls explains it; the text is the journal with its commits */
+    /* none does; `none`, the place of a return up to which none explains the entries, and its call (docs/LINEARIZE.md) */
+    ATOMFS_FOUND_NO_ORDER = 1,
     ATOMFS_FOUND_NO_HISTORY = 2, /* an entry cannot come next; `fault`, its place and why */
     ATOMFS_FOUND_UNKNOWN = 3     /* the limit was reached; `unknown` and the place to which the search had come */
 };
@@ -171,7 +184,9 @@ enum {
 enum {
     ATOMFS_TELL_LINE = 0,  /* its line */
     ATOMFS_TELL_FRONT = 1, /* in the place of the line `none` a journal up to that return, as by --front */
-    ATOMFS_TELL_WORDS = 2  /* its line, and behind `none` and `fault` what the entry is, in words; then for `none` what could be replied */
+    /* its line, and behind `none` and `fault` what the entry is, in words; then for `none` some of the replies that
+       the call could have had */
+    ATOMFS_TELL_WORDS = 2
 };
 
 /* What stands at a path: a directory and how many entries it has, or a file and how many bytes. */
@@ -182,15 +197,17 @@ struct atomfs_stat {
 
 /* A call that is begun by itself. Fields that its call does not have are not looked at. */
 typedef struct atomfs_request {
-    uint8_t call;           /* one of ATOMFS_CALL_ */
-    const char *path;       /* the path, of a rename and an exchange the first */
+    uint8_t call;     /* one of ATOMFS_CALL_ */
+    const char *path; /* the path, of a rename and an exchange the first */
     size_t length;
-    const char *other;      /* the second path of a rename and an exchange, of a list the path whose last name it begins behind */
+    /* the second path of a rename and an exchange, of a list the path whose last name it begins behind */
+    const char *other;
     size_t other_length;
-    uint64_t offset;        /* where a read and a write begin */
-    uint64_t size;          /* how many bytes a read asks for, how many a truncate leaves, how many names a list asks for, where
-                               more than 4,294,967,295 count as so many */
-    const void *bytes;      /* the bytes of a write */
+    uint64_t offset; /* where a read and a write begin */
+    /* how many bytes a read asks for, how many a truncate leaves, how many names a list asks for, where more than
+       4,294,967,295 count as so many */
+    uint64_t size;
+    const void *bytes; /* the bytes of a write */
     size_t bytes_length;
 } atomfs_request;
 
@@ -208,7 +225,8 @@ uint8_t atomfs_open_with(atomfs *fs, size_t limit, uint8_t version);
  * opens at the tree at which it starts; its entries are read, and not made again. The handle has no seats and no calls, and its journal
  * begins at that tree. It takes time by the bytes of the text.
  * OK, ALREADY_OPEN, BAD_LIMIT, BAD_VERSION, NO_MEMORY; FULL, where the tree has more nodes than limit; a fault of the text
- * (ATOMFS_BAD_HEADER and so on), where *line is its line, counted from 1. By an error the handle stays as it was. */
+ * (ATOMFS_BAD_HEADER and so on), where *line is its line, counted from 1. At NO_MEMORY *line may be changed, too, and means nothing.
+ * By an error the handle stays as it was. */
 uint8_t atomfs_open_from(atomfs *fs, size_t limit, uint8_t version, const char *text, size_t length, size_t *line);
 
 /* The same at the tree as it stands behind another handle, by its limits, without a text: a copy of its own. That handle stays as it
@@ -245,22 +263,23 @@ uint8_t atomfs_unlink(atomfs *fs, uint64_t seat, const char *path, size_t length
 uint8_t atomfs_rmdir(atomfs *fs, uint64_t seat, const char *path, size_t length, uint64_t *number);
 
 /* Moves what stands at path, with all below it, to other, and removes what stood there. */
-uint8_t atomfs_rename(atomfs *fs, uint64_t seat, const char *path, size_t length, const char *other, size_t other_length,
-                      uint64_t *number);
+uint8_t atomfs_rename(atomfs *fs, uint64_t seat, const char *path, size_t length, const char *other,
+                      size_t other_length, uint64_t *number);
 
 /* Lets what stands at two paths change places, each with all below it. */
-uint8_t atomfs_exchange(atomfs *fs, uint64_t seat, const char *path, size_t length, const char *other, size_t other_length,
-                        uint64_t *number);
+uint8_t atomfs_exchange(atomfs *fs, uint64_t seat, const char *path, size_t length, const char *other,
+                        size_t other_length, uint64_t *number);
 
 /* Tells what stands at a path. At OK *stat is written. */
-uint8_t atomfs_stat(atomfs *fs, uint64_t seat, const char *path, size_t length, struct atomfs_stat *stat, uint64_t *number);
+uint8_t atomfs_stat(atomfs *fs, uint64_t seat, const char *path, size_t length, struct atomfs_stat *stat,
+                    uint64_t *number);
 
 /* Tells all names of a directory, in byte order, a byte 0 behind each: *count bytes with these. Where there are more than
  * ATOMFS_LIST_LIMIT, as by ATOMFS_V3 alone, ATOMFS_FAILED + EOVERFLOW: atomfs_list tells them in pieces.
  * TOO_SMALL and UNTOLD too, where the call has returned all the same, and atomfs_reply_names tells its names, as many at a
  * time as there is room for. */
-uint8_t atomfs_readdir(atomfs *fs, uint64_t seat, const char *path, size_t length, char *out, size_t room, size_t *count,
-                       uint64_t *number);
+uint8_t atomfs_readdir(atomfs *fs, uint64_t seat, const char *path, size_t length, char *out, size_t room,
+                       size_t *count, uint64_t *number);
 
 /* Tells names of a directory, in byte order, a byte 0 behind each: *count bytes with these. Of those above the last name of the
  * path after, whatever stands there, or of all, where after is the root, it tells the first, at most most and at most
@@ -354,7 +373,8 @@ const char *atomfs_version(void);
 /* The name of the error of a status from ATOMFS_FAILED on, as "ENOENT"; null for any other status. */
 const char *atomfs_errno_name(uint8_t status);
 
-/* What a status says, in words; never null. */
+/* What a status says, in words; never null. Of ATOMFS_BAD_PATH it says which fault the last path had that a typed call
+ * refused in this thread, as atomfs_check_path would, so long as no text has been refused for a path since. */
 const char *atomfs_status_text(uint8_t status);
 
 /* ---- The journal and the tree */
@@ -380,7 +400,8 @@ uint8_t atomfs_forget(atomfs *fs, uint64_t *number);
 /* From now on the tree forgets by itself: a call that begins, where more than most calls stand in the journal and none is
  * under way, has atomfs_forget done first. So the reply of the last call can be asked for always, and by 0 that of no other.
  * For want of memory the calls stay, and the next call tries again. By ATOMFS_KEEP_ALL, as a handle is opened, none is
- * forgotten. To forget takes as long as the calls take and the tree is large: so keep some thousands. OK, CLOSED. */
+ * forgotten. To forget plays the calls that change something on a second copy of the tree, which stays for the next time: so it
+ * takes their time, however large the tree is. A copy is made again after more calls than a quarter of its nodes. OK, CLOSED. */
 uint8_t atomfs_keep(atomfs *fs, uint32_t most);
 
 /* Checks the journal as it stands, without a text: *place is 0 and *kind ATOMFS_FAULT_NONE where it is lawful, as it is proved
@@ -431,17 +452,18 @@ uint8_t atomfs_trace(const char *script, size_t length, uint8_t schedule, uint64
 
 /* Draws a script's run, or a journal, whatever the schedule, as an SVG file: all calls by ATOMFS_WHOLE, else the call around and
  * those that overlap it. NO_CALL and the faults of a journal too. */
-uint8_t atomfs_draw(const char *text, size_t length, uint8_t schedule, uint64_t seed, uint64_t around, char *out, size_t room,
-                    size_t *count);
+uint8_t atomfs_draw(const char *text, size_t length, uint8_t schedule, uint64_t seed, uint64_t around, char *out,
+                    size_t room, size_t *count);
 
 /* Runs a script, and tells it again with the events of the run as its schedule. TOO_LARGE with the line 0, where a script has no
- * room for them. */
+ * room for them. Words !checkpoint stay by ATOMFS_GIVEN alone. */
 uint8_t atomfs_schedule(const char *script, size_t length, uint8_t schedule, uint64_t seed, char *out, size_t room,
                         size_t *count);
 
 /* Runs a script by so many schedules, drawn from seed, the next number and so on, and tells a line with the verdict on each.
  * BAD_CHOICE, where there are not 1 to 10,000 runs, or seed is 2^63 or more. */
-uint8_t atomfs_seeds(const char *script, size_t length, uint64_t seed, uint64_t runs, char *out, size_t room, size_t *count);
+uint8_t atomfs_seeds(const char *script, size_t length, uint64_t seed, uint64_t runs, char *out, size_t room,
+                     size_t *count);
 
 /* Finds an order in which the calls of a history took effect (docs/LINEARIZE.md), and tells the journal with their commits, or why
  * there is none: tell is one of ATOMFS_TELL_, and *found, at OK and TOO_SMALL, one of ATOMFS_FOUND_. The search makes at most limit
@@ -461,37 +483,89 @@ uint8_t atomfs_explain(const char *word, size_t length, char *out, size_t room, 
  *
  * A shared tree has a lock of its own, and each thread has a session in it, with a seat of its own. A call of a session takes
  * the lock for its begin and for each of its steps, and lets it go between them: so calls of several sessions overlap, and a
- * rename helps those below what it moves. A call that wants a node which another call holds sleeps until that one lets a node
- * go. Some call always goes on, so each of them returns. No thread is cancelled in a call.
+ * rename helps those below what it moves. A call that wants a node which another call holds sleeps until that one lets the node
+ * go. Some call always goes on, so each of them returns.
  *
- * Both are null while they are closed: atomfs_shared *shared = NULL; atomfs_session *session = NULL; */
+ * Both are null while they are closed: atomfs_shared *shared = NULL; atomfs_session *session = NULL;
+ *
+ * What may come beside a call:
+ *   - pthread_cancel of its thread. No call is cancelled between its begin and its return, and no thread that has the handle
+ *     of atomfs_shared_lock: the cancellation waits until then. Threads are cancelled by the deferred type, which they begin
+ *     with. The session of a thread that was cancelled stays, for another thread or for atomfs_shared_end;
+ *   - a signal. Its handler calls no function of this library, or it may wait for the very call that it interrupts;
+ *   - fork. The tree of the parent goes on as it was. The child has a copy in which a call may stand half-way and the lock be
+ *     taken for ever: it calls no function of this library;
+ *   - atomfs_shared_close, which answers UNDER_WAY, and closes nothing, while a call is under way, the handle is lent, or a
+ *     thread waits for either. A call that begins behind it reads memory that was freed: end the threads before. Every session
+ *     of the tree is freed by it, too;
+ *   - the end of its thread, as by a gate that does not return. Its call is left half-way, or the handle lent, which another
+ *     thread may give back for it. Others may wait for it:
+ *     atomfs_shared_wait_most bounds how long, atomfs_shared_holders tells who holds what, atomfs_shared_finish goes on. */
 typedef struct atomfs_shared atomfs_shared;
 typedef struct atomfs_session atomfs_session;
 
-/* Opens a tree, as atomfs_open_with. OK; ALREADY_OPEN, where *shared is not null; BAD_LIMIT, BAD_VERSION, NO_MEMORY. */
+/* Opens a tree, as atomfs_open_with. OK; ALREADY_OPEN, where *shared is not null; BAD_LIMIT, BAD_VERSION, NO_MEMORY;
+ * BAD_CHOICE, where ATOMFS_PAUSES in the environment is no number. */
 uint8_t atomfs_shared_open(atomfs_shared **shared, size_t limit, uint8_t version);
 
-/* Closes a tree, which no other thread may use any more, and ends its sessions. OK, CLOSED, UNDER_WAY. */
+/* The same with the tree, the journal and the seats of an open handle, which is closed by that; calls that are under way come to
+ * their returns. So a tree of atomfs_open_from can be shared. OK; ALREADY_OPEN, where *shared is not null; CLOSED, where *fs is;
+ * NO_MEMORY, BAD_CHOICE, as above. By an error *fs stays as it was. */
+uint8_t atomfs_shared_from(atomfs_shared **shared, atomfs *fs);
+
+/* Closes a tree, which no other thread may use any more, and ends and frees its sessions. OK, CLOSED, UNDER_WAY. */
 uint8_t atomfs_shared_close(atomfs_shared **shared);
 
 /* Adds a session. *seat, unless seat is null, is the number of its seat: a new one, or that of a session that has ended.
- * OK; ALREADY_OPEN, where *session is not null; CLOSED, NO_MEMORY. */
+ * OK; ALREADY_OPEN, where *session is not null; CLOSED, NO_MEMORY; WAITS, as atomfs_shared_wait_most says. */
 uint8_t atomfs_shared_session(atomfs_shared *shared, atomfs_session **session, uint64_t *seat);
 
-/* Ends a session. OK; SEAT_BUSY, where its call is under way; NO_SEAT, where it has ended. */
+/* Ends a session. What leads to it elsewhere still does until the tree is closed, and each call on it answers NO_SEAT: so 32
+ * bytes of it stay. OK; SEAT_BUSY, where its call is under way; NO_SEAT, where it has ended. */
 uint8_t atomfs_shared_end(atomfs_session **session);
 
 /* Waits until no call is under way, and lends the handle to this thread; calls that would begin wait for its
  * atomfs_shared_unlock. So *fs is at rest, for all that can be asked of a handle, for checkpoints, and for calls on a seat of
- * atomfs_seat that nothing is to come between. Meanwhile the thread calls no session; it leaves no call under way, and does
- * not close *fs. OK, CLOSED. */
+ * atomfs_seat that nothing is to come between. Meanwhile the thread calls no session, and does not close *fs.
+ * OK, CLOSED; WAITS, as atomfs_shared_wait_most says. */
 uint8_t atomfs_shared_lock(atomfs_shared *shared, atomfs **fs);
 
-/* Gives the handle back. OK, CLOSED. */
+/* Gives the handle back. Calls that were left under way on it come to their returns by atomfs_step_any. OK; CLOSED, where it is
+ * not lent. */
 uint8_t atomfs_shared_unlock(atomfs_shared *shared);
 
-/* The typed calls, on a session. Each answers what the one of its name does, but never WAITS: it sleeps. SEAT_BUSY, where
- * another thread has a call under way on the session. */
+/* What is called behind an event of a call: the seat, what it did, one of ATOMFS_DID_ but never ATOMFS_DID_WAIT, and what it speaks
+ * of. It runs in the thread of the call, with the lock let go, and cannot be cancelled. It uses neither its own session nor the
+ * handle, and what it waits for must not wait for this call. */
+typedef void (*atomfs_gate)(void *context, uint64_t seat, uint8_t did, uint64_t about);
+
+/* From now on the calls of sessions call gate behind each of their events: the begin, each step that does not wait, the return.
+ * So a test has a call stand where it wants. By a null gate, as a tree is opened, they do not. OK, CLOSED. */
+uint8_t atomfs_shared_gate(atomfs_shared *shared, atomfs_gate gate, void *context);
+
+/* From now on the calls of sessions pause behind some events, before the gate, as it is drawn from seed and the seat: a yield or
+ * some microseconds. So calls of threads overlap that else hardly meet. Which calls meet is still the system's to say: the same
+ * seed draws the same pauses, and no run a second time. By ATOMFS_NO_PAUSES they do not. ATOMFS_PAUSES in the environment is
+ * the seed with which trees are opened. OK, CLOSED. */
+#define ATOMFS_NO_PAUSES UINT64_MAX
+uint8_t atomfs_shared_pauses(atomfs_shared *shared, uint64_t seed);
+
+/* How long a thread sleeps at most for a call that holds a node, for the handle, or for the last call's return, in
+ * milliseconds; 0, as a tree is opened, is without end. Behind that it is answered WAITS. Of a call *number is written then: it
+ * is under way, and on its session SEAT_BUSY is answered until atomfs_shared_finish has brought it to its return. Where *number
+ * is 0, and from atomfs_shared_lock and atomfs_shared_session, nothing was done. OK, CLOSED. */
+uint8_t atomfs_shared_wait_most(atomfs_shared *shared, uint32_t milliseconds);
+
+/* Tells who holds what: a line for each call of a session that is under way, as `call 5 on seat 2 holds 0 3, waits for call 4`, with
+ * nodes by their numbers, and a line `the handle is lent` before them where it is. OK, TOO_SMALL, CLOSED. Nothing changes. */
+uint8_t atomfs_shared_holders(atomfs_shared *shared, char *out, size_t room, size_t *count);
+
+/* Brings all calls of sessions to their returns by atomfs_step_any, whether their threads go on with them or not; those that do
+ * are answered as ever, unless the journal begins again before. *count is how many they were. OK, CLOSED. */
+uint8_t atomfs_shared_finish(atomfs_shared *shared, uint64_t *count);
+
+/* The typed calls, on a session. Each answers what the one of its name does, but WAITS only as atomfs_shared_wait_most says: it
+ * sleeps. SEAT_BUSY, where a call is under way on the session; NO_SEAT, where it has ended. */
 uint8_t atomfs_shared_mkdir(atomfs_session *session, const char *path, size_t length, uint64_t *number);
 uint8_t atomfs_shared_mknod(atomfs_session *session, const char *path, size_t length, uint64_t *number);
 uint8_t atomfs_shared_unlink(atomfs_session *session, const char *path, size_t length, uint64_t *number);
@@ -508,9 +582,10 @@ uint8_t atomfs_shared_list(atomfs_session *session, const char *path, size_t len
                            size_t after_length, uint32_t most, char *out, size_t room, size_t *count, uint64_t *number);
 uint8_t atomfs_shared_read(atomfs_session *session, const char *path, size_t length, uint64_t offset, void *out,
                            size_t room, size_t *count, uint64_t *number);
-uint8_t atomfs_shared_write(atomfs_session *session, const char *path, size_t length, uint64_t offset, const void *bytes,
-                            size_t bytes_length, uint64_t *wrote, uint64_t *number);
-uint8_t atomfs_shared_truncate(atomfs_session *session, const char *path, size_t length, uint64_t size, uint64_t *number);
+uint8_t atomfs_shared_write(atomfs_session *session, const char *path, size_t length, uint64_t offset,
+                            const void *bytes, size_t bytes_length, uint64_t *wrote, uint64_t *number);
+uint8_t atomfs_shared_truncate(atomfs_session *session, const char *path, size_t length, uint64_t size,
+                               uint64_t *number);
 
 /* ---- Paths, without a handle */
 

@@ -4,56 +4,7 @@
  * of the memory that a program can have. This file answers such calls by a status, hands the others on, and gives words for
  * statuses. Nothing here is proved, so it decides nothing else. embed/build gives the proved functions the names below. */
 #include "checks.h"
-
-#define PROVED(name) proved_atomfs_##name
-
-uint8_t PROVED(open)(atomfs *, size_t);
-uint8_t PROVED(open_with)(atomfs *, size_t, uint8_t);
-uint8_t PROVED(open_from)(atomfs *, size_t, uint8_t, const char *, size_t, size_t *);
-uint8_t PROVED(open_at)(atomfs *, size_t, atomfs *, uint64_t *);
-uint8_t PROVED(close)(atomfs *);
-uint8_t PROVED(seat)(atomfs *, uint64_t *);
-uint8_t PROVED(mkdir)(atomfs *, uint64_t, const char *, size_t, uint64_t *);
-uint8_t PROVED(mknod)(atomfs *, uint64_t, const char *, size_t, uint64_t *);
-uint8_t PROVED(unlink)(atomfs *, uint64_t, const char *, size_t, uint64_t *);
-uint8_t PROVED(rmdir)(atomfs *, uint64_t, const char *, size_t, uint64_t *);
-uint8_t PROVED(rename)(atomfs *, uint64_t, const char *, size_t, const char *, size_t, uint64_t *);
-uint8_t PROVED(exchange)(atomfs *, uint64_t, const char *, size_t, const char *, size_t, uint64_t *);
-uint8_t PROVED(stat)(atomfs *, uint64_t, const char *, size_t, struct atomfs_stat *, uint64_t *);
-uint8_t PROVED(readdir)(atomfs *, uint64_t, const char *, size_t, char *, size_t, size_t *, uint64_t *);
-uint8_t PROVED(list)(atomfs *, uint64_t, const char *, size_t, const char *, size_t, uint32_t, char *, size_t, size_t *,
-                     uint64_t *);
-uint8_t PROVED(read)(atomfs *, uint64_t, const char *, size_t, uint64_t, void *, size_t, size_t *, uint64_t *);
-uint8_t PROVED(write)(atomfs *, uint64_t, const char *, size_t, uint64_t, const void *, size_t, uint64_t *, uint64_t *);
-uint8_t PROVED(truncate)(atomfs *, uint64_t, const char *, size_t, uint64_t, uint64_t *);
-uint8_t PROVED(begin_call)(atomfs *, uint64_t, uint8_t, const char *, size_t, const char *, size_t, uint64_t, uint64_t,
-                           const void *, size_t, uint64_t *);
-uint8_t PROVED(step)(atomfs *, uint64_t, uint8_t *, uint64_t *);
-uint8_t PROVED(step_any)(atomfs *, uint64_t *, uint8_t *, uint64_t *);
-uint8_t PROVED(reply_done)(atomfs *, uint64_t);
-uint8_t PROVED(reply_stat)(atomfs *, uint64_t, struct atomfs_stat *);
-uint8_t PROVED(reply_names)(atomfs *, uint64_t, const char *, size_t, char *, size_t, size_t *);
-uint8_t PROVED(reply_bytes)(atomfs *, uint64_t, void *, size_t, size_t *);
-uint8_t PROVED(reply_wrote)(atomfs *, uint64_t, uint64_t *);
-uint8_t PROVED(journal)(atomfs *, size_t, char *, size_t, size_t *, size_t *);
-uint8_t PROVED(opening)(atomfs *, char *, size_t, size_t *);
-uint8_t PROVED(checkpoint)(atomfs *, char *, size_t, size_t *, uint64_t *);
-uint8_t PROVED(forget)(atomfs *, uint64_t *);
-uint8_t PROVED(keep)(atomfs *, uint32_t);
-uint8_t PROVED(verdict)(atomfs *, uint64_t *, uint8_t *);
-uint8_t PROVED(tree)(atomfs *, char *, size_t, size_t *);
-uint8_t PROVED(begin)(atomfs *, uint64_t, const char *, size_t, uint64_t *);
-uint8_t PROVED(call)(atomfs *, uint64_t, const char *, size_t, char *, size_t, size_t *, uint64_t *);
-uint8_t PROVED(reply)(atomfs *, uint64_t, char *, size_t, size_t *);
-uint8_t PROVED(run)(const char *, size_t, char *, size_t, size_t *);
-uint8_t PROVED(check)(const char *, size_t, char *, size_t, size_t *);
-uint8_t PROVED(trace)(const char *, size_t, uint8_t, uint64_t, uint8_t, char *, size_t, size_t *);
-uint8_t PROVED(draw)(const char *, size_t, uint8_t, uint64_t, uint64_t, char *, size_t, size_t *);
-uint8_t PROVED(schedule)(const char *, size_t, uint8_t, uint64_t, char *, size_t, size_t *);
-uint8_t PROVED(seeds)(const char *, size_t, uint64_t, uint64_t, char *, size_t, size_t *);
-uint8_t PROVED(linearize)(const char *, size_t, uint64_t, uint8_t, char *, size_t, size_t *, uint8_t *);
-uint8_t PROVED(explain)(const char *, size_t, char *, size_t, size_t *);
-uint8_t PROVED(check_path)(const char *, size_t, uint8_t);
+#include "proved.h"
 
 /* What stands at null for no bytes: nothing reads or writes it. */
 static char nothing;
@@ -76,9 +27,36 @@ static uint8_t may_call_and_tell(const atomfs *fs, const void *bytes, size_t len
 }
 
 /* Of one that takes more bytes. */
-static uint8_t may_call_with(const atomfs *fs, const void *bytes, size_t length, const void *other, size_t other_length) {
+static uint8_t may_call_with(const atomfs *fs, const void *bytes, size_t length, const void *other,
+                             size_t other_length) {
     uint8_t status = may_call(fs, bytes, length);
     return refused(status) ? status : bytes_there(other, other_length);
+}
+
+/* Which fault the last path had that a typed call refused in this thread: what atomfs_status_text says of ATOMFS_BAD_PATH. A kernel
+ * has no memory of a thread, so there it is the last one of all. */
+#ifdef ATOMFS_FREESTANDING
+static uint8_t path_fault;
+#else
+static __thread uint8_t path_fault;
+#endif
+
+/* Notes it, and hands the status on. What the handle's limits are is not known here, so the fault is one that the wider limits
+ * find, if they find any: it is a fault by all narrower ones, too. */
+static uint8_t noted(uint8_t status, const char *path, size_t length, const char *other, size_t other_length) {
+    if (status != ATOMFS_BAD_PATH) return status;
+    path_fault = ATOMFS_OK;
+    for (uint8_t version = ATOMFS_V3; version >= ATOMFS_V1 && path_fault == ATOMFS_OK; version--) {
+        path_fault = PROVED(check_path)(from(path), length, version);
+        if (path_fault == ATOMFS_OK && other != NULL) path_fault = PROVED(check_path)(other, other_length, version);
+    }
+    return status;
+}
+
+/* The same of a status that speaks of a word in a line: which fault that has is not known. */
+static uint8_t of_text(uint8_t status) {
+    if (status == ATOMFS_BAD_PATH) path_fault = ATOMFS_OK;
+    return status;
 }
 
 uint8_t atomfs_open(atomfs *fs, size_t limit) {
@@ -93,8 +71,9 @@ uint8_t atomfs_open_with(atomfs *fs, size_t limit, uint8_t version) {
 
 uint8_t atomfs_open_from(atomfs *fs, size_t limit, uint8_t version, const char *text, size_t length, size_t *line) {
     uint8_t status;
-    if (refused(status = there(fs)) || refused(status = bytes_there(text, length)) || refused(status = there(line))) return status;
-    return PROVED(open_from)(fs, limit, version, from(text), length, line);
+    if (refused(status = there(fs)) || refused(status = bytes_there(text, length)) || refused(status = there(line)))
+        return status;
+    return of_text(PROVED(open_from)(fs, limit, version, from(text), length, line));
 }
 
 /* The proved function takes two handles. Of one that is given as both, a step on a seat that is not there says whether it is open. */
@@ -123,21 +102,28 @@ uint8_t atomfs_seat(atomfs *fs, uint64_t *seat) {
 #define ON_PATH(name)                                                                                                  \
     uint8_t atomfs_##name(atomfs *fs, uint64_t seat, const char *path, size_t length, uint64_t *number) {              \
         uint8_t status = may_call(fs, path, length);                                                                   \
-        return refused(status) ? status : PROVED(name)(fs, seat, from(path), length, NUMBER_TO(number));               \
+        if (refused(status)) return status;                                                                            \
+        status = PROVED(name)(fs, seat, from(path), length, NUMBER_TO(number));                                        \
+        return noted(status, path, length, NULL, 0);                                                                   \
     }
 
 ON_PATH(mkdir)
 ON_PATH(mknod)
 ON_PATH(unlink)
 ON_PATH(rmdir)
-ON_PATH(begin)
+
+uint8_t atomfs_begin(atomfs *fs, uint64_t seat, const char *line, size_t length, uint64_t *number) {
+    uint8_t status = may_call(fs, line, length);
+    return refused(status) ? status : of_text(PROVED(begin)(fs, seat, from(line), length, NUMBER_TO(number)));
+}
 
 #define ON_BOTH(name)                                                                                                  \
     uint8_t atomfs_##name(atomfs *fs, uint64_t seat, const char *path, size_t length, const char *other,               \
                           size_t other_length, uint64_t *number) {                                                     \
         uint8_t status = may_call_with(fs, path, length, other, other_length);                                         \
         if (refused(status)) return status;                                                                            \
-        return PROVED(name)(fs, seat, from(path), length, from(other), other_length, NUMBER_TO(number));               \
+        status = PROVED(name)(fs, seat, from(path), length, from(other), other_length, NUMBER_TO(number));             \
+        return noted(status, path, length, from(other), other_length);                                                 \
     }
 
 ON_BOTH(rename)
@@ -147,34 +133,40 @@ uint8_t atomfs_stat(atomfs *fs, uint64_t seat, const char *path, size_t length, 
                     uint64_t *number) {
     uint8_t status;
     if (refused(status = may_call(fs, path, length)) || refused(status = there(stat))) return status;
-    return PROVED(stat)(fs, seat, from(path), length, stat, NUMBER_TO(number));
+    return noted(PROVED(stat)(fs, seat, from(path), length, stat, NUMBER_TO(number)), path, length, NULL, 0);
 }
 
-#define CALL_AND_TELL(name)                                                                                            \
-    uint8_t atomfs_##name(atomfs *fs, uint64_t seat, const char *bytes, size_t length, char *out, size_t room,         \
-                          size_t *count, uint64_t *number) {                                                           \
-        uint8_t status = may_call_and_tell(fs, bytes, length, out, room, count);                                       \
-        if (refused(status)) return status;                                                                            \
-        return PROVED(name)(fs, seat, from(bytes), length, into(out), room, count, NUMBER_TO(number));                 \
-    }
+uint8_t atomfs_readdir(atomfs *fs, uint64_t seat, const char *path, size_t length, char *out, size_t room,
+                       size_t *count, uint64_t *number) {
+    uint8_t status = may_call_and_tell(fs, path, length, out, room, count);
+    if (refused(status)) return status;
+    status = PROVED(readdir)(fs, seat, from(path), length, into(out), room, count, NUMBER_TO(number));
+    return noted(status, path, length, NULL, 0);
+}
 
-CALL_AND_TELL(readdir)
-CALL_AND_TELL(call)
+uint8_t atomfs_call(atomfs *fs, uint64_t seat, const char *line, size_t length, char *out, size_t room, size_t *count,
+                    uint64_t *number) {
+    uint8_t status = may_call_and_tell(fs, line, length, out, room, count);
+    if (refused(status)) return status;
+    return of_text(PROVED(call)(fs, seat, from(line), length, into(out), room, count, NUMBER_TO(number)));
+}
 
 uint8_t atomfs_list(atomfs *fs, uint64_t seat, const char *path, size_t length, const char *after, size_t after_length,
                     uint32_t most, char *out, size_t room, size_t *count, uint64_t *number) {
     uint8_t status;
     if (refused(status = may_call_with(fs, path, length, after, after_length))) return status;
     if (refused(status = may_tell(fs, out, room, count))) return status;
-    return PROVED(list)(fs, seat, from(path), length, from(after), after_length, most, into(out), room, count,
-                        NUMBER_TO(number));
+    status = PROVED(list)(fs, seat, from(path), length, from(after), after_length, most, into(out), room, count,
+                          NUMBER_TO(number));
+    return noted(status, path, length, from(after), after_length);
 }
 
 uint8_t atomfs_read(atomfs *fs, uint64_t seat, const char *path, size_t length, uint64_t offset, void *out, size_t room,
                     size_t *count, uint64_t *number) {
     uint8_t status = may_call_and_tell(fs, path, length, out, room, count);
     if (refused(status)) return status;
-    return PROVED(read)(fs, seat, from(path), length, offset, into(out), room, count, NUMBER_TO(number));
+    status = PROVED(read)(fs, seat, from(path), length, offset, into(out), room, count, NUMBER_TO(number));
+    return noted(status, path, length, NULL, 0);
 }
 
 uint8_t atomfs_write(atomfs *fs, uint64_t seat, const char *path, size_t length, uint64_t offset, const void *bytes,
@@ -182,12 +174,14 @@ uint8_t atomfs_write(atomfs *fs, uint64_t seat, const char *path, size_t length,
     uint8_t status;
     if (refused(status = may_call_with(fs, path, length, bytes, bytes_length))) return status;
     if (refused(status = there(wrote))) return status;
-    return PROVED(write)(fs, seat, from(path), length, offset, from(bytes), bytes_length, wrote, NUMBER_TO(number));
+    status = PROVED(write)(fs, seat, from(path), length, offset, from(bytes), bytes_length, wrote, NUMBER_TO(number));
+    return noted(status, path, length, NULL, 0);
 }
 
 uint8_t atomfs_truncate(atomfs *fs, uint64_t seat, const char *path, size_t length, uint64_t size, uint64_t *number) {
     uint8_t status = may_call(fs, path, length);
-    return refused(status) ? status : PROVED(truncate)(fs, seat, from(path), length, size, NUMBER_TO(number));
+    if (refused(status)) return status;
+    return noted(PROVED(truncate)(fs, seat, from(path), length, size, NUMBER_TO(number)), path, length, NULL, 0);
 }
 
 uint8_t atomfs_begin_call(atomfs *fs, uint64_t seat, const atomfs_request *request, uint64_t *number) {
@@ -203,8 +197,10 @@ uint8_t atomfs_begin_call(atomfs *fs, uint64_t seat, const atomfs_request *reque
     size_t bytes_length = writes ? request->bytes_length : 0;
     if (refused(status = bytes_there(other, other_length))) return status;
     if (refused(status = bytes_there(bytes, bytes_length))) return status;
-    return PROVED(begin_call)(fs, seat, request->call, from(request->path), request->length, from(other), other_length,
-                              request->offset, request->size, from(bytes), bytes_length, NUMBER_TO(number));
+    status =
+        PROVED(begin_call)(fs, seat, request->call, from(request->path), request->length, from(other), other_length,
+                           request->offset, request->size, from(bytes), bytes_length, NUMBER_TO(number));
+    return noted(status, request->path, request->length, on_both ? from(other) : NULL, other_length);
 }
 
 uint8_t atomfs_step(atomfs *fs, uint64_t seat, uint8_t *did, uint64_t *about) {
@@ -303,7 +299,7 @@ static uint8_t may_make(const char *text, size_t length, const char *out, size_t
 #define ON_TEXT(name)                                                                                                  \
     uint8_t atomfs_##name(const char *text, size_t length, char *out, size_t room, size_t *count) {                    \
         uint8_t status = may_make(text, length, out, room, count);                                                     \
-        return refused(status) ? status : PROVED(name)(from(text), length, into(out), room, count);                    \
+        return refused(status) ? status : of_text(PROVED(name)(from(text), length, into(out), room, count));           \
     }
 
 ON_TEXT(run)
@@ -314,34 +310,35 @@ uint8_t atomfs_trace(const char *script, size_t length, uint8_t schedule, uint64
                      size_t room, size_t *count) {
     uint8_t status = may_make(script, length, out, room, count);
     if (refused(status)) return status;
-    return PROVED(trace)(from(script), length, schedule, seed, every, into(out), room, count);
+    return of_text(PROVED(trace)(from(script), length, schedule, seed, every, into(out), room, count));
 }
 
-uint8_t atomfs_draw(const char *text, size_t length, uint8_t schedule, uint64_t seed, uint64_t around, char *out, size_t room,
-                    size_t *count) {
+uint8_t atomfs_draw(const char *text, size_t length, uint8_t schedule, uint64_t seed, uint64_t around, char *out,
+                    size_t room, size_t *count) {
     uint8_t status = may_make(text, length, out, room, count);
     if (refused(status)) return status;
-    return PROVED(draw)(from(text), length, schedule, seed, around, into(out), room, count);
+    return of_text(PROVED(draw)(from(text), length, schedule, seed, around, into(out), room, count));
 }
 
 uint8_t atomfs_schedule(const char *script, size_t length, uint8_t schedule, uint64_t seed, char *out, size_t room,
                         size_t *count) {
     uint8_t status = may_make(script, length, out, room, count);
     if (refused(status)) return status;
-    return PROVED(schedule)(from(script), length, schedule, seed, into(out), room, count);
+    return of_text(PROVED(schedule)(from(script), length, schedule, seed, into(out), room, count));
 }
 
-uint8_t atomfs_seeds(const char *script, size_t length, uint64_t seed, uint64_t runs, char *out, size_t room, size_t *count) {
+uint8_t atomfs_seeds(const char *script, size_t length, uint64_t seed, uint64_t runs, char *out, size_t room,
+                     size_t *count) {
     uint8_t status = may_make(script, length, out, room, count);
     if (refused(status)) return status;
-    return PROVED(seeds)(from(script), length, seed, runs, into(out), room, count);
+    return of_text(PROVED(seeds)(from(script), length, seed, runs, into(out), room, count));
 }
 
 uint8_t atomfs_linearize(const char *history, size_t length, uint64_t limit, uint8_t tell, char *out, size_t room,
                          size_t *count, uint8_t *found) {
     uint8_t status;
     if (refused(status = may_make(history, length, out, room, count)) || refused(status = there(found))) return status;
-    return PROVED(linearize)(from(history), length, limit, tell, into(out), room, count, found);
+    return of_text(PROVED(linearize)(from(history), length, limit, tell, into(out), room, count, found));
 }
 
 uint8_t atomfs_check_path(const char *path, size_t length, uint8_t version) {
@@ -377,11 +374,28 @@ static const char *failed_text(uint8_t status) {
     case 20: return "not a directory (ENOTDIR)";
     case 21: return "a directory, where a file is needed (EISDIR)";
     case 22: return "a directory cannot be moved below itself (EINVAL)";
-    case 27: return "the file would have more than 65,536 bytes, 1,048,576 by the second limits or 2,147,483,648 by the third (EFBIG)";
-    case 28: return "the directory has 256 entries, or 1,048,576 by the third limits, and no more may be made in it (ENOSPC)";
+    case 27:
+        return "the file would have more than 65,536 bytes, 1,048,576 by the second limits or 2,147,483,648 by the "
+               "third (EFBIG)";
+    case 28:
+        return "the directory has 256 entries, or 1,048,576 by the third limits, and no more may be made in it "
+               "(ENOSPC)";
     case 39: return "the directory is not empty (ENOTEMPTY)";
     case 75: return "the directory has more names than a call answers, which are 256 (EOVERFLOW)";
     default: return "no status of this library";
+    }
+}
+
+/* What the last path was that this thread was refused. */
+static const char *no_path_text(void) {
+    switch (path_fault) {
+    case ATOMFS_PATH_NOT_ABSOLUTE: return "no path: it does not begin with a slash";
+    case ATOMFS_PATH_NUL: return "no path: it has a byte 0";
+    case ATOMFS_PATH_NAME_TOO_LONG: return "no path: a name has more bytes than the limits allow";
+    case ATOMFS_PATH_TOO_MANY_NAMES: return "no path: it has more names than the limits allow";
+    case ATOMFS_PATH_DOT: return "no path: a name of it is . or ..";
+    case ATOMFS_PATH_TRAILING_SLASH: return "no path: it ends with a slash";
+    default: return "no path";
     }
 }
 
@@ -407,7 +421,7 @@ const char *atomfs_status_text(uint8_t status) {
     case ATOMFS_BAD_LINE: return "a line has no form of its place, or a request no call";
     case ATOMFS_BAD_THREAD: return "the name of a thread is none";
     case ATOMFS_THREAD_TWICE: return "a thread has two blocks";
-    case ATOMFS_BAD_PATH: return "no path";
+    case ATOMFS_BAD_PATH: return no_path_text();
     case ATOMFS_BAD_NUMBER: return "no number";
     case ATOMFS_BAD_HEX: return "no bytes in hexadecimal digits";
     case ATOMFS_NO_SCHEDULE: return "the script has no schedule";

@@ -1,8 +1,14 @@
-/* The memory of the library, by malloc, realloc and free: what the proofs assume of it is that a block that is given has
- * the size that was asked for, is aligned to 16, and is nobody else's until it is freed. */
-#include <stddef.h>
+/* The memory of the library: by malloc, realloc and free, or in the freestanding library by the host's functions (heap.h, which
+ * says what the proofs assume of them). */
+#include "heap.h"
 #include <stdint.h>
+
+#ifndef ATOMFS_FREESTANDING
 #include <stdlib.h>
+#define atomfs_host_allocate malloc
+#define atomfs_host_reallocate realloc
+#define atomfs_host_free free
+#endif
 
 struct tried {
     uint64_t ok;
@@ -16,11 +22,13 @@ static struct tried answer(void *block) {
     return tried;
 }
 
-struct tried rattle_alloc(size_t size, size_t align) { return answer(malloc(size != 0 ? size : align)); }
+struct tried rattle_alloc(size_t size, size_t align) {
+    return answer(atomfs_host_allocate(size != 0 ? size : align));
+}
 
 struct tried rattle_realloc(void *block, size_t kept, size_t size, size_t align) {
     (void)kept;
-    return answer(realloc(block, size != 0 ? size : align));
+    return answer(atomfs_host_reallocate(block, size != 0 ? size : align));
 }
 
-void rattle_dealloc(void *block) { free(block); }
+void rattle_dealloc(void *block) { atomfs_host_free(block); }

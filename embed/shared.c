@@ -1,66 +1,235 @@
 /* A tree that threads share: a lock round a handle of the proved functions, and sessions that take it for a begin and for each
  * step. Nothing here is proved; tests/shared.c tests it.
  *
- * A call sleeps only for a node that another call holds, and is woken by the step by which that one lets a node go. The sleep
- * begins under the lock under which the node was found taken, so no such step is missed. Of the calls under way one always goes
- * on, as is proved of atomfs_step_any, and it sleeps for none: so each call comes to its return. */
+ * A call sleeps only for a node that another call holds. The step by which that one lets the node go wakes one of those that
+ * sleep for it, since only one can take it. The sleep begins under the lock under which the node was found taken, so no such
+ * step is missed. Of the calls under way one always goes on, as is proved of atomfs_step_any, and it sleeps for none: so each
+ * call comes to its return. */
 #define _POSIX_C_SOURCE 200809L
 #include "checks.h"
+#include <errno.h>
+#include <inttypes.h>
 #include <pthread.h>
+#include <sched.h>
+#include <stdio.h>
 #include <stdlib.h>
+#include <string.h>
+#include <time.h>
 
-/* The names of a reply take no more bytes, each with its byte 0. */
-enum { MOST_NAMES = ATOMFS_LIST_LIMIT * 256, MOST_NAME = 255, SOME_NAMES = 2048 };
+enum {
+    /* The names of a reply take no more bytes, each with its byte 0. */
+    MOST_NAMES = ATOMFS_LIST_LIMIT * 256,
+    MOST_NAME = 255,
+    SOME_NAMES = 2048,
+    /* A call holds fewer nodes at once. */
+    MOST_HELD = 16,
+    /* Calls and sleepers are found by the rests of their numbers by this one. */
+    QUEUES = 64,
+    /* A line of atomfs_shared_holders has no more bytes. */
+    MOST_LINE = 64 + MOST_HELD * 21
+};
 
-struct atomfs_session {
-    atomfs_shared *shared;
-    atomfs_session *next;        /* in one list of the tree's: of those that are used, or of those that have ended */
-    atomfs_session *next_asleep; /* in the list of those that sleep */
+/* A seat, which one session has at a time, and the call on it. */
+struct place {
+    struct place *next;        /* in the list of those whose session has ended */
+    struct place *next_asleep; /* in the queue in which it sleeps */
     uint64_t seat;
-    uint64_t call;               /* the number of its call, while it is busy */
-    uint64_t holder;             /* the number of the call for which it sleeps */
+    uint64_t call;            /* the number of its last call */
+    uint64_t holder;          /* the number of the call for which it sleeps, or slept as long as it may; else 0 */
+    uint64_t wants;           /* the node for which it sleeps, where that is known */
+    uint64_t held[MOST_HELD]; /* the nodes that its call holds, in the order in which it took them */
+    size_t holds;
+    uint64_t drawn;          /* what its next pause is drawn from */
+    struct place *next_busy; /* in a list of those with calls under way, and what leads to it there */
+    struct place **busy_from;
+    int cancel; /* whether its thread could be cancelled before its call */
     int is_busy;
     int is_asleep;
+    int knows; /* what it wants */
     pthread_cond_t woken;
+};
+
+/* Places that sleep, the first that came first. */
+struct queue {
+    struct place *first;
+    struct place *last;
+};
+
+/* What a caller has. It stays behind its end, so that calls on it are refused, until the tree is closed. */
+struct atomfs_session {
+    atomfs_shared *shared;
+    atomfs_session *next;
+    struct place *place; /* null once it has ended */
 };
 
 struct atomfs_shared {
     pthread_mutex_t lock;
-    pthread_cond_t turn;         /* the last call returned, or the handle was given back */
+    pthread_cond_t given; /* the handle was given back, so calls may begin */
+    pthread_cond_t rests; /* that, or the last call returned, so the handle may be lent */
     atomfs fs;
-    atomfs_session *used;
-    atomfs_session *ended;
-    atomfs_session *asleep;
+    atomfs_session *sessions;
+    struct place *free_places;
+    struct queue sure[QUEUES];   /* those that sleep for a node, by its number */
+    struct queue unsure[QUEUES]; /* those that sleep for a call, whichever node they want, by its number */
+    struct place *busy[QUEUES];  /* those with calls under way, by their numbers */
     uint64_t under_way;
-    uint64_t asked;              /* how often the handle was asked for, and how often it was given back */
+    uint64_t asked; /* how often the handle was asked for, and how often it was given back, or no longer asked for */
     uint64_t given_back;
+    uint64_t begins_asked; /* how many calls waited to begin, and how many of them wait no more */
+    uint64_t begins_done;
+    uint64_t waiting; /* how many threads wait for the handle, or to begin a call behind those that asked for it */
+    int is_lent;
+    pthread_t lender; /* the thread that has the handle, and whether it could be cancelled before */
+    int cancel;
+    atomfs_gate gate;
+    void *context;
+    int pauses;
+    uint64_t seed;
+    uint32_t wait_most; /* in milliseconds; 0 is without end */
 };
+
+/* ---- The lock
+ *
+ * A thread that has it is not cancelled, nor one whose call is under way or to which the handle is lent: it would leave the
+ * lock taken, or a call half-way, and all others asleep. pthread_cond_wait is a point of cancellation. */
+
+/* Takes the lock. Whether the thread could be cancelled. */
+static int taken(atomfs_shared *shared) {
+    int cancel;
+    pthread_setcancelstate(PTHREAD_CANCEL_DISABLE, &cancel);
+    pthread_mutex_lock(&shared->lock);
+    return cancel;
+}
+
+static void let_go(atomfs_shared *shared, int cancel) {
+    pthread_mutex_unlock(&shared->lock);
+    pthread_setcancelstate(cancel, NULL);
+}
+
+/* When a wait that begins now is given up. */
+static struct timespec deadline(const atomfs_shared *shared) {
+    struct timespec until;
+    clock_gettime(CLOCK_MONOTONIC, &until);
+    until.tv_sec += shared->wait_most / 1000;
+    until.tv_nsec += (long)(shared->wait_most % 1000) * 1000000;
+    if (until.tv_nsec >= 1000000000) {
+        until.tv_sec++;
+        until.tv_nsec -= 1000000000;
+    }
+    return until;
+}
+
+/* Waits for a condition. Whether it is not given up. */
+static int slept_until(atomfs_shared *shared, pthread_cond_t *condition, const struct timespec *until) {
+    if (shared->wait_most == 0) return pthread_cond_wait(condition, &shared->lock) == 0;
+    return pthread_cond_timedwait(condition, &shared->lock, until) != ETIMEDOUT;
+}
+
+/* Whether a call may begin that came when the handle had been asked for so many times. */
+static int may_begin(const atomfs_shared *shared, uint64_t before) {
+    return !shared->is_lent && shared->given_back >= before;
+}
+
+/* Waits until a call may begin: until those have given the handle back who asked for it before. Whether it is not given up. */
+static int begins_in_turn(atomfs_shared *shared) {
+    uint64_t before = shared->asked;
+    if (may_begin(shared, before)) return 1;
+    struct timespec until = deadline(shared);
+    shared->waiting++;
+    shared->begins_asked++;
+    while (!may_begin(shared, before) && slept_until(shared, &shared->given, &until)) continue;
+    shared->begins_done++;
+    shared->waiting--;
+    return may_begin(shared, before);
+}
+
+/* Whether the handle may be lent to one who came when it had been asked for so many times, and so many begins were waiting. */
+static int may_lend(const atomfs_shared *shared, uint64_t before, uint64_t begins) {
+    return may_begin(shared, before) && shared->begins_done >= begins && shared->under_way == 0;
+}
+
+/* Whoever waits for the handle is told that no call is under way, where that is so. */
+static void tell_at_rest(atomfs_shared *shared) {
+    if (shared->under_way == 0 && shared->asked != shared->given_back) pthread_cond_broadcast(&shared->rests);
+}
+
+/* One who asked for the handle has it no more, or asks no more. */
+static void is_given_back(atomfs_shared *shared) {
+    shared->given_back++;
+    pthread_cond_broadcast(&shared->given);
+    tell_at_rest(shared);
+}
+
+/* Waits until the handle may be lent: until those have had it who asked for it before, those calls have begun that waited before,
+ * and none is under way. So neither those who begin calls nor those who ask for the handle keep the others off. Whether it is not
+ * given up. */
+static int has_handle_in_turn(atomfs_shared *shared) {
+    struct timespec until = deadline(shared);
+    uint64_t before = shared->asked++, begins = shared->begins_asked;
+    shared->waiting++;
+    while (!may_lend(shared, before, begins) && slept_until(shared, &shared->rests, &until)) continue;
+    shared->waiting--;
+    if (may_lend(shared, before, begins)) return 1;
+    is_given_back(shared);
+    return 0;
+}
 
 /* ---- The tree and its sessions */
 
+/* A condition whose waits are given up by a clock that nobody sets. */
+static int made_condition(pthread_cond_t *condition) {
+    pthread_condattr_t by;
+    if (pthread_condattr_init(&by) != 0) return 0;
+    int made = pthread_condattr_setclock(&by, CLOCK_MONOTONIC) == 0 && pthread_cond_init(condition, &by) == 0;
+    pthread_condattr_destroy(&by);
+    return made;
+}
+
 static int made_locks(atomfs_shared *shared) {
     if (pthread_mutex_init(&shared->lock, NULL) != 0) return 0;
-    if (pthread_cond_init(&shared->turn, NULL) == 0) return 1;
+    if (made_condition(&shared->given)) {
+        if (made_condition(&shared->rests)) return 1;
+        pthread_cond_destroy(&shared->given);
+    }
     pthread_mutex_destroy(&shared->lock);
     return 0;
 }
 
 static void free_shared(atomfs_shared *shared) {
-    pthread_cond_destroy(&shared->turn);
+    pthread_cond_destroy(&shared->rests);
+    pthread_cond_destroy(&shared->given);
     pthread_mutex_destroy(&shared->lock);
     free(shared);
+}
+
+/* Reads the seed of the environment, where there is one. */
+static uint8_t pauses_of_environment(atomfs_shared *shared) {
+    const char *word = getenv("ATOMFS_PAUSES");
+    if (word == NULL || *word == '\0') return ATOMFS_OK;
+    for (const char *at = word; *at != '\0'; at++)
+        if (*at < '0' || *at > '9' || at - word > 18) return ATOMFS_BAD_CHOICE;
+    shared->seed = strtoull(word, NULL, 10);
+    shared->pauses = 1;
+    return ATOMFS_OK;
+}
+
+/* A tree that has no handle yet. */
+static uint8_t made_shared(atomfs_shared **shared, atomfs_shared **made) {
+    uint8_t status;
+    if (refused(status = there(shared))) return status;
+    if (*shared != NULL) return ATOMFS_ALREADY_OPEN;
+    if ((*made = calloc(1, sizeof **made)) == NULL) return ATOMFS_NO_MEMORY;
+    if (refused(status = pauses_of_environment(*made)) || !made_locks(*made)) {
+        free(*made);
+        return refused(status) ? status : ATOMFS_NO_MEMORY;
+    }
+    return ATOMFS_OK;
 }
 
 uint8_t atomfs_shared_open(atomfs_shared **shared, size_t limit, uint8_t version) {
     atomfs_shared *made;
     uint8_t status;
-    if (refused(status = there(shared))) return status;
-    if (*shared != NULL) return ATOMFS_ALREADY_OPEN;
-    if ((made = calloc(1, sizeof *made)) == NULL) return ATOMFS_NO_MEMORY;
-    if (!made_locks(made)) {
-        free(made);
-        return ATOMFS_NO_MEMORY;
-    }
+    if (refused(status = made_shared(shared, &made))) return status;
     if (refused(status = atomfs_open_with(&made->fs, limit, version))) {
         free_shared(made);
         return status;
@@ -69,12 +238,44 @@ uint8_t atomfs_shared_open(atomfs_shared **shared, size_t limit, uint8_t version
     return ATOMFS_OK;
 }
 
-static void free_sessions(atomfs_session *first) {
-    while (first != NULL) {
-        atomfs_session *next = first->next;
-        pthread_cond_destroy(&first->woken);
-        free(first);
-        first = next;
+/* Brings all calls to their returns that are under way on a handle. */
+static void finish_all(atomfs *fs) {
+    uint64_t seat, about;
+    uint8_t did = ATOMFS_DID_IDLE;
+    do {
+        if (refused(atomfs_step_any(fs, &seat, &did, &about))) return;
+    } while (did != ATOMFS_DID_IDLE);
+}
+
+uint8_t atomfs_shared_from(atomfs_shared **shared, atomfs *fs) {
+    atomfs_shared *made;
+    uint8_t status;
+    if (refused(status = there(fs))) return status;
+    if (!fs->is_open) return ATOMFS_CLOSED;
+    if (refused(status = made_shared(shared, &made))) return status;
+    made->fs = *fs;
+    *fs = (atomfs)ATOMFS_INIT;
+    finish_all(&made->fs);
+    *shared = made;
+    return ATOMFS_OK;
+}
+
+static void free_place(struct place *place) {
+    pthread_cond_destroy(&place->woken);
+    free(place);
+}
+
+static void free_sessions(atomfs_shared *shared) {
+    while (shared->sessions != NULL) {
+        atomfs_session *session = shared->sessions;
+        shared->sessions = session->next;
+        if (session->place != NULL) free_place(session->place);
+        free(session);
+    }
+    while (shared->free_places != NULL) {
+        struct place *place = shared->free_places;
+        shared->free_places = place->next;
+        free_place(place);
     }
 }
 
@@ -83,46 +284,41 @@ uint8_t atomfs_shared_close(atomfs_shared **shared) {
     uint8_t status;
     if (refused(status = there(shared))) return status;
     if ((closed = *shared) == NULL) return ATOMFS_CLOSED;
-    pthread_mutex_lock(&closed->lock);
-    status = closed->under_way > 0 ? ATOMFS_UNDER_WAY : ATOMFS_OK;
-    pthread_mutex_unlock(&closed->lock);
+    int cancel = taken(closed);
+    status = closed->under_way > 0 || closed->waiting > 0 || closed->is_lent ? ATOMFS_UNDER_WAY : ATOMFS_OK;
+    let_go(closed, cancel);
     if (refused(status)) return status;
-    free_sessions(closed->used);
-    free_sessions(closed->ended);
+    free_sessions(closed);
     atomfs_close(&closed->fs);
     free_shared(closed);
     *shared = NULL;
     return ATOMFS_OK;
 }
 
-/* A session with a new seat; the lock is held. */
-static uint8_t new_session(atomfs_shared *shared, atomfs_session **session) {
-    atomfs_session *made = calloc(1, sizeof *made);
+/* A place with a new seat; the lock is held. */
+static uint8_t new_place(atomfs_shared *shared, struct place **place) {
+    struct place *made = calloc(1, sizeof *made);
     if (made == NULL) return ATOMFS_NO_MEMORY;
-    if (pthread_cond_init(&made->woken, NULL) != 0) {
+    if (!made_condition(&made->woken)) {
         free(made);
         return ATOMFS_NO_MEMORY;
     }
     uint8_t status = atomfs_seat(&shared->fs, &made->seat);
     if (refused(status)) {
-        free_sessions(made);
+        free_place(made);
         return status;
     }
-    made->shared = shared;
-    *session = made;
+    made->drawn = shared->seed + made->seat;
+    *place = made;
     return ATOMFS_OK;
 }
 
-/* Takes the first of a list out of it. */
-static atomfs_session *first_of(atomfs_session **list) {
-    atomfs_session *first = *list;
-    *list = first->next;
-    return first;
-}
-
-static void put_first(atomfs_session **list, atomfs_session *session) {
-    session->next = *list;
-    *list = session;
+/* A place of a session that has ended, or a new one. */
+static uint8_t free_or_new_place(atomfs_shared *shared, struct place **place) {
+    if (shared->free_places == NULL) return new_place(shared, place);
+    *place = shared->free_places;
+    shared->free_places = (*place)->next;
+    return ATOMFS_OK;
 }
 
 uint8_t atomfs_shared_session(atomfs_shared *shared, atomfs_session **session, uint64_t *seat) {
@@ -130,12 +326,23 @@ uint8_t atomfs_shared_session(atomfs_shared *shared, atomfs_session **session, u
     if (shared == NULL) return ATOMFS_CLOSED;
     if (refused(status = there(session))) return status;
     if (*session != NULL) return ATOMFS_ALREADY_OPEN;
-    pthread_mutex_lock(&shared->lock);
-    if (shared->ended != NULL) *session = first_of(&shared->ended);
-    else status = new_session(shared, session);
-    if (status == ATOMFS_OK) put_first(&shared->used, *session);
-    if (status == ATOMFS_OK && seat != NULL) *seat = (*session)->seat;
-    pthread_mutex_unlock(&shared->lock);
+    atomfs_session *made = calloc(1, sizeof *made);
+    if (made == NULL) return ATOMFS_NO_MEMORY;
+    int cancel = taken(shared);
+    /* The handle is used by whom it is lent to. */
+    if (shared->free_places == NULL && !begins_in_turn(shared))
+        status = ATOMFS_WAITS;
+    else
+        status = free_or_new_place(shared, &made->place);
+    if (status == ATOMFS_OK) {
+        made->shared = shared;
+        made->next = shared->sessions;
+        shared->sessions = *session = made;
+        if (seat != NULL) *seat = made->place->seat;
+    }
+    tell_at_rest(shared);
+    let_go(shared, cancel);
+    if (refused(status)) free(made);
     return status;
 }
 
@@ -143,17 +350,81 @@ uint8_t atomfs_shared_end(atomfs_session **session) {
     uint8_t status;
     if (refused(status = there(session)) || refused(status = there(*session))) return status;
     atomfs_shared *shared = (*session)->shared;
-    pthread_mutex_lock(&shared->lock);
-    if ((*session)->is_busy) status = ATOMFS_SEAT_BUSY;
+    int cancel = taken(shared);
+    struct place *place = (*session)->place;
+    if (place == NULL)
+        status = ATOMFS_NO_SEAT;
+    else if (place->is_busy)
+        status = ATOMFS_SEAT_BUSY;
     else {
-        atomfs_session **at = &shared->used;
-        while (*at != NULL && *at != *session) at = &(*at)->next;
-        if (*at == NULL) status = ATOMFS_NO_SEAT;
-        else put_first(&shared->ended, first_of(at));
-        if (status == ATOMFS_OK) *session = NULL;
+        place->next = shared->free_places;
+        shared->free_places = place;
+        (*session)->place = NULL;
+        *session = NULL;
     }
-    pthread_mutex_unlock(&shared->lock);
+    let_go(shared, cancel);
     return status;
+}
+
+/* ---- What is done between two events */
+
+uint8_t atomfs_shared_gate(atomfs_shared *shared, atomfs_gate gate, void *context) {
+    if (shared == NULL) return ATOMFS_CLOSED;
+    int cancel = taken(shared);
+    shared->gate = gate;
+    shared->context = context;
+    let_go(shared, cancel);
+    return ATOMFS_OK;
+}
+
+uint8_t atomfs_shared_pauses(atomfs_shared *shared, uint64_t seed) {
+    if (shared == NULL) return ATOMFS_CLOSED;
+    int cancel = taken(shared);
+    shared->pauses = seed != ATOMFS_NO_PAUSES;
+    shared->seed = seed;
+    for (struct place *place = shared->free_places; place != NULL; place = place->next)
+        place->drawn = seed + place->seat;
+    for (atomfs_session *session = shared->sessions; session != NULL; session = session->next)
+        if (session->place != NULL) session->place->drawn = seed + session->place->seat;
+    let_go(shared, cancel);
+    return ATOMFS_OK;
+}
+
+uint8_t atomfs_shared_wait_most(atomfs_shared *shared, uint32_t milliseconds) {
+    if (shared == NULL) return ATOMFS_CLOSED;
+    int cancel = taken(shared);
+    shared->wait_most = milliseconds;
+    let_go(shared, cancel);
+    return ATOMFS_OK;
+}
+
+/* The next number of SplitMix64. */
+static uint64_t draw_next(uint64_t *drawn) {
+    uint64_t made = *drawn += 0x9e3779b97f4a7c15;
+    made = (made ^ (made >> 30)) * 0xbf58476d1ce4e5b9;
+    made = (made ^ (made >> 27)) * 0x94d049bb133111eb;
+    return made ^ (made >> 31);
+}
+
+/* Lets other threads run now and then, and longer now and then: so calls meet that else would hardly meet. */
+static void pause_drawn(uint64_t drawn) {
+    static const struct timespec pause = { .tv_nsec = 1000 };
+    if (drawn % 1000 < 10)
+        nanosleep(&pause, NULL);
+    else if (drawn % 1000 < 200)
+        sched_yield();
+}
+
+/* Lets the lock go behind an event, and takes it again. Meanwhile it pauses, where that is drawn, and calls the gate. */
+static void pass_gate(atomfs_shared *shared, struct place *place, uint8_t did, uint64_t about) {
+    atomfs_gate gate = shared->gate;
+    void *context = shared->context;
+    int pauses = shared->pauses;
+    uint64_t drawn = pauses ? draw_next(&place->drawn) : 0, seat = place->seat;
+    pthread_mutex_unlock(&shared->lock);
+    if (pauses) pause_drawn(drawn);
+    if (gate != NULL) gate(context, seat, did, about);
+    pthread_mutex_lock(&shared->lock);
 }
 
 /* ---- The handle, while no call is under way */
@@ -162,97 +433,304 @@ uint8_t atomfs_shared_lock(atomfs_shared *shared, atomfs **fs) {
     uint8_t status;
     if (shared == NULL) return ATOMFS_CLOSED;
     if (refused(status = there(fs))) return status;
-    pthread_mutex_lock(&shared->lock);
-    uint64_t before = shared->asked++;
-    while (shared->given_back < before || shared->under_way > 0) pthread_cond_wait(&shared->turn, &shared->lock);
+    int cancel = taken(shared);
+    if (!has_handle_in_turn(shared)) {
+        let_go(shared, cancel);
+        return ATOMFS_WAITS;
+    }
+    shared->is_lent = 1;
+    shared->lender = pthread_self();
+    shared->cancel = cancel;
+    pthread_mutex_unlock(&shared->lock);
     *fs = &shared->fs;
     return ATOMFS_OK;
 }
 
 uint8_t atomfs_shared_unlock(atomfs_shared *shared) {
     if (shared == NULL) return ATOMFS_CLOSED;
-    shared->given_back++;
-    pthread_cond_broadcast(&shared->turn);
-    pthread_mutex_unlock(&shared->lock);
+    int cancel = taken(shared);
+    if (!shared->is_lent) {
+        let_go(shared, cancel);
+        return ATOMFS_CLOSED;
+    }
+    finish_all(&shared->fs);
+    /* Another thread may give it back, for one that has ended: that one keeps its own way to be cancelled. */
+    if (pthread_equal(shared->lender, pthread_self())) cancel = shared->cancel;
+    shared->is_lent = 0;
+    is_given_back(shared);
+    let_go(shared, cancel);
     return ATOMFS_OK;
 }
 
 /* ---- Calls */
 
-/* A session sleeps until the call of a number lets a node go. */
-static void sleep_for(atomfs_session *session, uint64_t holder) {
-    atomfs_shared *shared = session->shared;
-    session->holder = holder;
-    session->is_asleep = 1;
-    session->next_asleep = shared->asleep;
-    shared->asleep = session;
-    while (session->is_asleep) pthread_cond_wait(&session->woken, &shared->lock);
+/* The place with the call of a number that is under way; null, where no session has it. */
+static struct place *place_of_call(const atomfs_shared *shared, uint64_t call) {
+    struct place *place = shared->busy[call % QUEUES];
+    while (place != NULL && place->call != call) place = place->next_busy;
+    return place;
 }
 
-/* Wakes the sessions that sleep for the call of a number. */
-static void wake(atomfs_shared *shared, uint64_t holder) {
-    atomfs_session **at = &shared->asleep;
-    while (*at != NULL) {
-        atomfs_session *session = *at;
-        if (session->holder == holder) {
-            *at = session->next_asleep;
-            session->is_asleep = 0;
-            pthread_cond_signal(&session->woken);
-        } else {
-            at = &session->next_asleep;
+static void becomes_busy(atomfs_shared *shared, struct place *place, uint64_t call) {
+    struct place **from = &shared->busy[call % QUEUES];
+    place->call = call;
+    place->holds = 0;
+    place->holder = 0;
+    place->is_busy = 1;
+    place->busy_from = from;
+    place->next_busy = *from;
+    if (*from != NULL) (*from)->busy_from = &place->next_busy;
+    *from = place;
+    shared->under_way++;
+}
+
+static void becomes_idle(atomfs_shared *shared, struct place *place) {
+    place->is_busy = 0;
+    *place->busy_from = place->next_busy;
+    if (place->next_busy != NULL) place->next_busy->busy_from = place->busy_from;
+    shared->under_way--;
+    tell_at_rest(shared);
+}
+
+/* ---- Sleep, and who is woken */
+
+static struct queue *bed_of(atomfs_shared *shared, const struct place *place) {
+    return place->knows ? &shared->sure[place->wants % QUEUES] : &shared->unsure[place->holder % QUEUES];
+}
+
+static void lies_down(struct queue *queue, struct place *place) {
+    place->is_asleep = 1;
+    place->next_asleep = NULL;
+    if (queue->last != NULL)
+        queue->last->next_asleep = place;
+    else
+        queue->first = place;
+    queue->last = place;
+}
+
+/* Takes the place behind another, or the first, out of a queue. */
+static void gets_up(struct queue *queue, struct place *before, struct place *place) {
+    if (before != NULL)
+        before->next_asleep = place->next_asleep;
+    else
+        queue->first = place->next_asleep;
+    if (queue->last == place) queue->last = before;
+    place->is_asleep = 0;
+}
+
+/* Takes a place out of the queue in which it sleeps. */
+static void leave_bed(atomfs_shared *shared, struct place *place) {
+    struct queue *queue = bed_of(shared, place);
+    struct place *before = NULL;
+    for (struct place *at = queue->first; at != place; at = at->next_asleep) before = at;
+    gets_up(queue, before, place);
+}
+
+/* Sleeps until the call of a number lets a node go that this one may take. Which node it wants is known, where the other holds
+ * one alone. Whether it is not given up. */
+static int slept_for(atomfs_shared *shared, struct place *place, uint64_t holder) {
+    struct timespec until = deadline(shared);
+    const struct place *other = place_of_call(shared, holder);
+    place->holder = holder;
+    place->knows = other != NULL && other->holds == 1;
+    if (place->knows) place->wants = other->held[0];
+    lies_down(bed_of(shared, place), place);
+    while (place->is_asleep)
+        if (!slept_until(shared, &place->woken, &until) && place->is_asleep) {
+            leave_bed(shared, place);
+            return 0;
         }
+    return 1;
+}
+
+/* Wakes the first that sleeps for a node, which is free, since one alone can take it. */
+static void wake_first(atomfs_shared *shared, uint64_t node) {
+    struct queue *queue = &shared->sure[node % QUEUES];
+    struct place *before = NULL, *place = queue->first;
+    while (place != NULL && place->wants != node) {
+        before = place;
+        place = place->next_asleep;
     }
+    if (place == NULL) return;
+    gets_up(queue, before, place);
+    pthread_cond_signal(&place->woken);
+}
+
+/* Wakes those that sleep for a call which has let a node go, and may want that one. */
+static void wake_unsure(atomfs_shared *shared, uint64_t holder) {
+    struct queue *queue = &shared->unsure[holder % QUEUES];
+    struct place *before = NULL, *place = queue->first;
+    while (place != NULL) {
+        struct place *next = place->next_asleep;
+        if (place->holder == holder) {
+            gets_up(queue, before, place);
+            pthread_cond_signal(&place->woken);
+        } else {
+            before = place;
+        }
+        place = next;
+    }
+}
+
+/* A node is held by the call on a place no more. */
+static void lets_go(atomfs_shared *shared, struct place *place, uint64_t node) {
+    size_t left = 0;
+    for (size_t i = 0; i < place->holds; i++)
+        if (place->held[i] != node) place->held[left++] = place->held[i];
+    place->holds = left;
+    wake_unsure(shared, place->call);
+    wake_first(shared, node);
+}
+
+/* Notes what a step of the call on a place did, which did not wait, and wakes those who can go on by it. */
+static void note(atomfs_shared *shared, struct place *place, uint8_t did, uint64_t about) {
+    place->holder = 0;
+    if (did == ATOMFS_DID_TAKE && place->holds < MOST_HELD) place->held[place->holds++] = about;
+    if (did == ATOMFS_DID_LET_GO) lets_go(shared, place, about);
+    if (did != ATOMFS_DID_RETURN) return;
+    while (place->holds > 0) lets_go(shared, place, place->held[0]);
+    becomes_idle(shared, place);
 }
 
 /* Begins a call, once those have given the handle back who asked for it before. */
 static uint8_t begun(atomfs_session *session, const atomfs_request *request, uint64_t *number) {
     atomfs_shared *shared = session->shared;
-    uint64_t before = shared->asked;
-    while (shared->given_back < before) pthread_cond_wait(&shared->turn, &shared->lock);
-    uint8_t status = atomfs_begin_call(&shared->fs, session->seat, request, number);
-    if (refused(status)) return status;
-    session->call = *number;
-    session->is_busy = 1;
-    shared->under_way++;
-    return ATOMFS_OK;
+    *number = 0;
+    if (session->place == NULL) return ATOMFS_NO_SEAT;
+    if (session->place->is_busy) return ATOMFS_SEAT_BUSY;
+    if (!begins_in_turn(shared)) {
+        tell_at_rest(shared);
+        return ATOMFS_WAITS;
+    }
+    /* Meanwhile it may have ended. */
+    struct place *place = session->place;
+    if (place == NULL) {
+        tell_at_rest(shared);
+        return ATOMFS_NO_SEAT;
+    }
+    uint8_t status = atomfs_begin_call(&shared->fs, place->seat, request, number);
+    if (status == ATOMFS_OK)
+        becomes_busy(shared, place, *number);
+    else
+        tell_at_rest(shared);
+    return status;
 }
 
-/* Makes a step of the call, sleeps where it is to wait, and wakes those who wait for it. Whether it has returned. */
-static int has_returned(atomfs_session *session) {
-    atomfs_shared *shared = session->shared;
-    uint8_t did = ATOMFS_DID_IDLE;
-    uint64_t about;
-    do {
-        if (refused(atomfs_step(&shared->fs, session->seat, &did, &about))) return 1;
-        if (did == ATOMFS_DID_WAIT) sleep_for(session, about);
-    } while (did == ATOMFS_DID_WAIT);
-    if (did == ATOMFS_DID_LET_GO || did == ATOMFS_DID_RETURN) wake(shared, session->call);
-    return did == ATOMFS_DID_RETURN || did == ATOMFS_DID_IDLE;
+/* Makes the steps of a call up to its return, which steps of others may come to as well. OK; WAITS, where it slept as long as
+ * it may. */
+static uint8_t stepped(atomfs_shared *shared, struct place *place, uint64_t number) {
+    uint8_t did = ATOMFS_DID_BEGIN;
+    uint64_t about = number;
+    for (;;) {
+        if (did != ATOMFS_DID_WAIT)
+            pass_gate(shared, place, did, about);
+        else if (!slept_for(shared, place, about))
+            return ATOMFS_WAITS;
+        if (!place->is_busy || place->call != number) return ATOMFS_OK;
+        if (refused(atomfs_step(&shared->fs, place->seat, &did, &about))) return ATOMFS_OK;
+        if (did != ATOMFS_DID_WAIT) note(shared, place, did, about);
+        if (did == ATOMFS_DID_RETURN) return ATOMFS_OK;
+    }
 }
 
 /* Begins a call and steps it to its return. At OK it has returned, and the lock is held, under which its reply is in the
- * last entry of the journal; else there was no call. */
+ * last entry of the journal; else there was no call, or it is under way. */
 static uint8_t returned(atomfs_session *session, const atomfs_request *request, uint64_t *number) {
     atomfs_shared *shared = session->shared;
-    pthread_mutex_lock(&shared->lock);
+    int cancel = taken(shared);
     uint8_t status = begun(session, request, number);
-    if (refused(status)) {
-        pthread_mutex_unlock(&shared->lock);
-        return status;
+    if (status == ATOMFS_OK) {
+        session->place->cancel = cancel;
+        status = stepped(shared, session->place, *number);
     }
-    do {
-        pthread_mutex_unlock(&shared->lock);
-        pthread_mutex_lock(&shared->lock);
-    } while (!has_returned(session));
-    session->is_busy = 0;
-    shared->under_way--;
-    if (shared->under_way == 0 && shared->asked != shared->given_back) pthread_cond_broadcast(&shared->turn);
-    return ATOMFS_OK;
+    if (refused(status)) let_go(shared, cancel);
+    return status;
 }
 
-/* What was told under the lock, which is given back. */
+/* What was told under the lock, which is given back. The gate hears of the return. */
 static uint8_t told(atomfs_session *session, uint8_t status) {
-    pthread_mutex_unlock(&session->shared->lock);
+    atomfs_shared *shared = session->shared;
+    struct place *place = session->place;
+    /* Until it is out of the gate the tree is not closed. */
+    shared->waiting++;
+    pass_gate(shared, place, ATOMFS_DID_RETURN, 0);
+    shared->waiting--;
+    let_go(shared, place->cancel);
+    return status;
+}
+
+/* The place of a seat with a call under way. */
+static struct place *place_of_seat(const atomfs_shared *shared, uint64_t seat) {
+    for (size_t i = 0; i < QUEUES; i++)
+        for (struct place *place = shared->busy[i]; place != NULL; place = place->next_busy)
+            if (place->seat == seat) return place;
+    return NULL;
+}
+
+uint8_t atomfs_shared_finish(atomfs_shared *shared, uint64_t *count) {
+    uint64_t seat, about;
+    uint8_t did, status;
+    if (shared == NULL) return ATOMFS_CLOSED;
+    if (refused(status = there(count))) return status;
+    int cancel = taken(shared);
+    *count = shared->under_way;
+    while (shared->under_way > 0) {
+        if (refused(status = atomfs_step_any(&shared->fs, &seat, &did, &about)) || did == ATOMFS_DID_IDLE) break;
+        struct place *place = place_of_seat(shared, seat);
+        if (place == NULL) continue;
+        note(shared, place, did, about);
+        if (place->is_asleep) {
+            leave_bed(shared, place);
+            pthread_cond_signal(&place->woken);
+        }
+    }
+    let_go(shared, cancel);
+    return status;
+}
+
+/* A line on the call on a place. */
+static size_t line_of(const struct place *place, char *line) {
+    int length = snprintf(line, MOST_LINE, "call %" PRIu64 " on seat %" PRIu64 " holds", place->call, place->seat);
+    for (size_t i = 0; i < place->holds; i++)
+        length += snprintf(line + length, MOST_LINE - (size_t)length, " %" PRIu64, place->held[i]);
+    if (place->holds == 0) length += snprintf(line + length, MOST_LINE - (size_t)length, " no node");
+    if (place->holder != 0)
+        length += snprintf(line + length, MOST_LINE - (size_t)length, ", waits for call %" PRIu64, place->holder);
+    length += snprintf(line + length, MOST_LINE - (size_t)length, "\n");
+    return (size_t)length;
+}
+
+/* Adds a line to what is told, where there is room. */
+static void add_line(const char *line, size_t length, char *out, size_t room, size_t *told) {
+    if (*told <= room && length <= room - *told) memcpy(out + *told, line, length);
+    *told += length;
+}
+
+/* All lines, and how many bytes they have. */
+static size_t all_holders(const atomfs_shared *shared, char *out, size_t room) {
+    static const char lent[] = "the handle is lent\n";
+    char line[MOST_LINE];
+    size_t told_ = 0;
+    if (shared->is_lent) add_line(lent, sizeof lent - 1, out, room, &told_);
+    for (size_t i = 0; i < QUEUES; i++)
+        for (const struct place *place = shared->busy[i]; place != NULL; place = place->next_busy) {
+            size_t length = line_of(place, line);
+            add_line(line, length, out, room, &told_);
+        }
+    return told_;
+}
+
+uint8_t atomfs_shared_holders(atomfs_shared *shared, char *out, size_t room, size_t *count) {
+    uint8_t status;
+    if (shared == NULL) return ATOMFS_CLOSED;
+    if (refused(status = may_tell(shared, out, room, count))) return status;
+    int cancel = taken(shared);
+    *count = all_holders(shared, NULL, 0);
+    if (*count <= room)
+        all_holders(shared, out, room);
+    else
+        status = ATOMFS_TOO_SMALL;
+    let_go(shared, cancel);
     return status;
 }
 
@@ -308,7 +786,8 @@ static uint8_t names_length(atomfs *fs, uint64_t number, size_t *length) {
     uint8_t status;
     *length = 0;
     do {
-        if (refused(status = atomfs_reply_names(fs, number, last, last_length, some, sizeof some, &count))) return status;
+        if (refused(status = atomfs_reply_names(fs, number, last, last_length, some, sizeof some, &count)))
+            return status;
         *length += count;
         for (last_length = 0; last_length + 1 < count && some[count - 2 - last_length] != '\0';) last_length++;
         for (size_t i = 0; i < last_length; i++) last[i] = some[count - 1 - last_length + i];
@@ -344,7 +823,8 @@ uint8_t atomfs_shared_readdir(atomfs_session *session, const char *path, size_t 
 }
 
 uint8_t atomfs_shared_list(atomfs_session *session, const char *path, size_t length, const char *after,
-                           size_t after_length, uint32_t most, char *out, size_t room, size_t *count, uint64_t *number) {
+                           size_t after_length, uint32_t most, char *out, size_t room, size_t *count,
+                           uint64_t *number) {
     atomfs_request request = { .call = ATOMFS_CALL_LIST, .path = path, .length = length, .size = most };
     request.other = after;
     request.other_length = after_length;
@@ -353,7 +833,9 @@ uint8_t atomfs_shared_list(atomfs_session *session, const char *path, size_t len
 
 uint8_t atomfs_shared_read(atomfs_session *session, const char *path, size_t length, uint64_t offset, void *out,
                            size_t room, size_t *count, uint64_t *number) {
-    atomfs_request request = { .call = ATOMFS_CALL_READ, .path = path, .length = length, .offset = offset, .size = room };
+    atomfs_request request = {
+        .call = ATOMFS_CALL_READ, .path = path, .length = length, .offset = offset, .size = room
+    };
     uint8_t status;
     if (refused(status = may_tell(session, out, room, count))) return status;
     number = NUMBER_TO(number);
@@ -361,8 +843,8 @@ uint8_t atomfs_shared_read(atomfs_session *session, const char *path, size_t len
     return told(session, atomfs_reply_bytes(&session->shared->fs, *number, out, room, count));
 }
 
-uint8_t atomfs_shared_write(atomfs_session *session, const char *path, size_t length, uint64_t offset, const void *bytes,
-                            size_t bytes_length, uint64_t *wrote, uint64_t *number) {
+uint8_t atomfs_shared_write(atomfs_session *session, const char *path, size_t length, uint64_t offset,
+                            const void *bytes, size_t bytes_length, uint64_t *wrote, uint64_t *number) {
     atomfs_request request = { .call = ATOMFS_CALL_WRITE, .path = path, .length = length, .offset = offset };
     uint8_t status;
     if (refused(status = there(session)) || refused(status = there(wrote))) return status;

@@ -10,9 +10,7 @@ static void stop(const char *what, uint8_t status) {
     exit(1);
 }
 
-static void tell(const char *what, uint8_t status) {
-    fprintf(stderr, "%s -> %s\n", what, atomfs_status_text(status));
-}
+static void tell(const char *what, uint8_t status) { fprintf(stderr, "%s -> %s\n", what, atomfs_status_text(status)); }
 
 /* Steps a seat so many times, or until its call returns; what the last step did. */
 static int steps(atomfs *fs, uint64_t seat, int most) {

@@ -1,10 +1,9 @@
-//! Two seats on one tree from Rust, and two threads by sessions. Replies go to standard error, and the journal to standard
-//! output, for `atomfs check`.
+//! Two seats on one tree from Rust, and two threads by sessions. Replies go to standard error, and the journal to
+//! standard output, for `atomfs check`.
 
-use std::sync::{Arc, Mutex};
 use std::thread;
 
-use atomfs::{Call, Did, Error, ErrorKind, Session, Tree};
+use atomfs::{Call, Did, Error, ErrorKind, SharedTree, Tree};
 
 /// A mkdir stands half-way in /a/d, which a rename moves and helps, and a stat has to wait for it.
 fn meet(tree: &mut Tree) -> Result<(), Error> {
@@ -41,14 +40,16 @@ fn main() -> Result<(), Error> {
     }
     meet(&mut tree)?;
 
-    let tree = Arc::new(Mutex::new(tree));
+    let tree = SharedTree::try_from(tree)?;
     thread::scope(|scope| {
         for name in ["/c", "/d"] {
-            let mut session = Session::new(&tree).expect("a seat");
-            scope.spawn(move || (0..100).try_for_each(|_| session.mkdir(name).and_then(|()| session.rmdir(name))).expect("calls"));
+            let mut session = tree.session().expect("a seat");
+            scope.spawn(move || {
+                (0..100).try_for_each(|_| session.mkdir(name).and_then(|()| session.rmdir(name))).expect("calls")
+            });
         }
     });
-    let mut tree = tree.lock().expect("no thread panicked");
+    let mut tree = tree.lock();
     eprintln!("{}", tree.check()?);
     print!("{}", tree.journal()?);
     Ok(())
