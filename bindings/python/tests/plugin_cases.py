@@ -8,7 +8,14 @@ import zipfile
 
 import pytest
 
-SECTION = ["*- atom_tree -*", "<atomfs.Tree open: 3 of 16,777,216 nodes, 3 calls, Limits.V3>", "/", "└── a/", "    └── f (2 bytes)", "The last calls:"]
+SECTION = [
+    "*- atom_tree -*",
+    "<atomfs.Tree open: 3 of 16,777,216 nodes, 3 calls, Limits.V3>",
+    "/",
+    "└── a/",
+    "    └── f (2 bytes)",
+    "The last calls:",
+]
 
 
 def outcomes(pytester, text, *options, **counts):
@@ -168,7 +175,9 @@ def test_picture(pytester):
     """
     result = outcomes(pytester, text, "--basetemp=temp", failed=4)
     temp = pytester.path / "temp"
-    assert pictured(result) == [temp / name / "atom_tree.svg" for name in ("test_own0", "test_beside0", "test_removed0")]
+    assert pictured(result) == [
+        temp / name / "atom_tree.svg" for name in ("test_own0", "test_beside0", "test_removed0")
+    ]
 
 
 def test_picture_of_a_patch(pytester):
@@ -214,14 +223,55 @@ def test_explore(pytester):
         def test_explore(tmp_path, atom_tree):
             atomfs.explore(CALLS, lambda tree, replies: "/a" in tree)
     """
-    pytester.makeconftest("""
+    pytester.makeconftest(
+        """
         def pytest_exception_interact(call):
             print("It is at", call.excinfo.value.picture)
-    """)
+    """
+    )
     result = outcomes(pytester, text, "--basetemp=temp", "-s", failed=2)
     paths = pictured(result)
     assert paths == [pytester.path / "temp" / name / "explore.svg" for name in ("test_simulate0", "test_explore0")]
-    result.stdout.fnmatch_lines([*(f"*It is at {path}" for path in paths), "*- atomfs.explore -*", f"The picture: {paths[0]}"])
+    result.stdout.fnmatch_lines(
+        [*(f"*It is at {path}" for path in paths), "*- atomfs.explore -*", f"The picture: {paths[0]}"]
+    )
+
+
+def test_functions(pytester):
+    """The report of functions has the lines of the test's own file, and those of the package not."""
+    text = """
+        import os
+        import atomfs
+
+        def lead():
+            if not os.path.exists("/sandbox/leader"):
+                open("/sandbox/leader", "w").close()
+                return "leads"
+
+        @atomfs.simulate({"ann": lead, "bob": lead}, runs=50, patch=True)
+        def test_simulate(tree, replies):
+            assert list(replies.values()).count("leads") == 1
+
+        def test_outcomes():
+            found = atomfs.outcomes({"ann": lead, "bob": lead}, lambda tree, replies: replies["ann"], 50, patch=True)
+            found.sometimes("leads").sometimes(None).never("leads")
+    """
+    result = outcomes(pytester, text, "--basetemp=temp", failed=2)
+    result.stdout.fnmatch_lines(
+        [
+            ">       assert list(replies.values()).count(*",
+            "The above exception was the direct cause of the following exception:",
+            "E * atomfs.ScheduleError: seed *: AssertionError: *",
+            "E * test_functions.py:5  if not os.path.exists(*)*stat /leader: failed ENOENT",
+            "E * test_functions.py:6  open(*)*mknod /leader: ok",
+            "*- atomfs.explore -*",
+            "E * AssertionError: never 'leads': * of 50 runs break it",
+            ">       found.sometimes(*",
+        ]
+    )
+    lines = result.stdout.str().splitlines()
+    assert not [line for line in lines if "_explore/" in line or "tracebackhide" in line]
+    assert len(pictured(result)) == 2
 
 
 def test_section_of_last_calls(pytester):
@@ -244,7 +294,9 @@ def test_verdict(pytester):
             atom_tree.check = lambda: "fault 3 WrongReply"
     """
     result = outcomes(pytester, text, passed=1, errors=1)
-    result.stdout.fnmatch_lines(["the journal of atom_tree: fault 3 WrongReply", "<atomfs.Tree open: *", "└── a/", "mkdir /a: ok"])
+    result.stdout.fnmatch_lines(
+        ["the journal of atom_tree: fault 3 WrongReply", "<atomfs.Tree open: *", "└── a/", "mkdir /a: ok"]
+    )
 
 
 def test_closed(pytester):
@@ -268,3 +320,136 @@ def test_large_journal(pytester):
                 atom_tree.write_bytes("/f", bytes(1_048_576))
     """
     outcomes(pytester, text, passed=1)
+
+
+IN_MEMORY = """
+    import os
+    import pathlib
+    import subprocess
+    import sys
+    import tempfile
+    import unittest
+
+    import pytest
+
+    @pytest.fixture(scope="session")
+    def shared(tmp_path_factory):
+        folder = tmp_path_factory.mktemp("shared")
+        (folder / "f").write_text("of the session")
+        return folder
+
+    def test_paths(tmp_path, tmpdir, shared):
+        (tmp_path / "f").write_text("text")
+        tmpdir.join("g").write("text")
+        assert (shared / "f").read_text() == "of the session"
+        pathlib.Path("relative").write_text("text")
+        with tempfile.NamedTemporaryFile() as file:
+            assert os.path.dirname(file.name) == tempfile.gettempdir()
+
+    def test_later(shared, monkeypatch, tmp_path):
+        assert (shared / "f").read_text() == "of the session" and os.path.exists("relative")
+        monkeypatch.chdir(tmp_path)
+        assert os.listdir() == []
+        told = subprocess.run([sys.executable, "-c", "open('by_program', 'w').write('x'); print('told')"], capture_output=True)
+        assert told.stdout == b"told\\n" and os.listdir() == ["by_program"]
+
+    class TestOfUnittest(unittest.TestCase):
+        def test_one(self):
+            with tempfile.TemporaryDirectory() as folder:
+                os.symlink("none", f"{folder}/l")
+                os.chmod(folder, 0o711)
+                self.assertEqual(os.stat(folder).st_mode & 0o777, 0o711)
+"""
+
+
+def test_in_memory(pytester, tmp_path):
+    """Tests that know nothing of this run in trees by one word, and leave nothing on the disk."""
+    pytester.makepyfile(IN_MEMORY)
+    outcomes(pytester, IN_MEMORY, "--atomfs", passed=3)
+    left = [path for path in pytester.path.rglob("*") if "__pycache__" not in path.parts and path.is_file()]
+    assert [path.suffix for path in left] == [".py"]
+    outcomes(pytester, IN_MEMORY, passed=3)
+    assert (pytester.path / "relative").exists()
+
+
+def test_in_memory_at(pytester):
+    """A directory of the disk is as it was, whatever tests do there; a failed test has its tree, its journal and its picture."""
+    (pytester.mkdir("data") / "f").write_text("data")
+    text = """
+        import os
+        import pathlib
+
+        def test_reads():
+            assert pathlib.Path("data/f").read_text() == "data"
+
+        def test_writes():
+            pathlib.Path("data/f").write_text("changed")
+            os.mkdir("new")
+            assert False
+
+        def test_after():
+            assert pathlib.Path("data/f").read_text() == "changed" and False
+    """
+    result = outcomes(pytester, text, "--atomfs", "--atomfs-at", ".", passed=1, failed=2)
+    assert (pytester.path / "data" / "f").read_text() == "data" and not (pytester.path / "new").exists()
+    told = result.stdout.str()
+    result.stdout.fnmatch_lines([f"*- atomfs: {pytester.path} -*", "The last calls:", "mkdir /new: ok"])
+    kept = re.findall(r"The (journal|picture): (.*)", told)
+    assert [name for name, _ in kept][:2] == ["journal", "picture"]
+    journal = pathlib.Path(kept[0][1]).read_text()
+    # Of this test alone: the one before has another.
+    assert journal.startswith("atomfs-journal") and "mkdir /new" in journal and "begin 1 " in journal
+    assert "<svg" in pathlib.Path(kept[1][1]).read_text()
+    assert "stat /data/f" not in journal.split("mkdir /new")[1]
+
+
+def test_in_memory_with_fixtures(pytester):
+    """Pytest's own fixtures and those of this plugin do there what they do elsewhere."""
+    text = """
+        import os
+        import subprocess
+        import sys
+
+        def test_capfd(capfd, capfdbinary=None):
+            os.write(1, b"of os ")
+            subprocess.run([sys.executable, "-c", "print('of a program')"])
+            assert capfd.readouterr().out == "of os of a program\\n"
+
+        def test_capsys(capsys):
+            print("text")
+            assert capsys.readouterr().out == "text\\n"
+
+        def test_patch(atom_patch, tmp_path):
+            (atom_patch.at / "f").write_text("text")
+            (tmp_path / "f").write_text("other")
+            assert atom_patch.tree.read("/f") == b"text" and (tmp_path / "f").read_text() == "other"
+
+        def test_logs(caplog, recwarn, monkeypatch, tmp_path_factory, request):
+            monkeypatch.setattr(os, "getcwd", lambda: "/nowhere")
+            assert os.getcwd() == "/nowhere"
+
+        def test_after():
+            assert os.getcwd() != "/nowhere" and os.path.isdir(os.getcwd())
+    """
+    outcomes(pytester, text, "--atomfs", passed=5)
+
+
+def test_in_memory_with_xdist(pytester):
+    """Each worker has trees of its own."""
+    pytest.importorskip("xdist")
+    text = """
+        import pathlib
+        import pytest
+
+        @pytest.mark.parametrize("number", range(6))
+        def test_one(tmp_path, number):
+            (tmp_path / "f").write_text("text")
+            assert not pathlib.Path(f"only_{number}").exists()
+            pathlib.Path(f"only_{number}").write_text("text")
+    """
+    outcomes(pytester, text, "--atomfs", "-n", "2", passed=6)
+    assert not list(pytester.path.glob("only_*"))
+
+
+def test_options(pytester):
+    pytester.runpytest("--help").stdout.fnmatch_lines(["*--atomfs *", "*--atomfs-at=DIR*"])

@@ -47,7 +47,9 @@ class LeftOut(unittest.TestCase):
     def test_each(self):
         for name in LEFT_OUT:
             with self.subTest(name), self.assertRaises((OSError, errors.BulkCopyFailed)) as raised:
-                suite = type("Suite", (FSTestCases, unittest.TestCase), {"make_fs": lambda self: AtomFS(limits=Limits.V2)})(name)
+                suite = type(
+                    "Suite", (FSTestCases, unittest.TestCase), {"make_fs": lambda self: AtomFS(limits=Limits.V2)}
+                )(name)
                 suite.setUp()
                 getattr(suite, name)()
             causes = getattr(raised.exception, "errors", [raised.exception])

@@ -58,7 +58,11 @@ class Runs(unittest.TestCase):
         """Either call is the first, or the rename helps the mkdir that is half-way."""
         found = self.seen(MOVED, runs=300, before=BEFORE)
         self.assertEqual(len({replies for replies, _ in found}), 3)
-        helped = [journal for _, journal in found if "commit 4\nreturn 4 ok\nreturn 3 ok\n" in journal and "commit 3\ncommit 4\n" in journal]
+        helped = [
+            journal
+            for _, journal in found
+            if "commit 4\nreturn 4 ok\nreturn 3 ok\n" in journal and "commit 3\ncommit 4\n" in journal
+        ]
         self.assertTrue(helped)
 
     def test_replies(self):
@@ -69,11 +73,18 @@ class Runs(unittest.TestCase):
                 self.assertEqual(error.replies, {"t": REPLIES})
                 self.assertEqual(error.script.splitlines()[3:-2], [line for line, _ in SAME])
         (missing,) = failed(self, {"t": [("rename", "/a", "/b")]}).replies["t"]
-        self.assertEqual((type(missing), missing.errno, missing.filename, missing.filename2), (FileNotFoundError, errno.ENOENT, "/a", "/b"))
+        self.assertEqual(
+            (type(missing), missing.errno, missing.filename, missing.filename2),
+            (FileNotFoundError, errno.ENOENT, "/a", "/b"),
+        )
 
     def test_scripts(self):
         """The script of a run has its journal, and names its seed."""
-        threads = {**MOVED, "w": ["mknod /b/f", "write /a/f 3 00ff", "exchange /a/d /b/f"], "s": ["readdir /a", "rmdir /b/d", "readdir /"]}
+        threads = {
+            **MOVED,
+            "w": ["mknod /b/f", "write /a/f 3 00ff", "exchange /a/d /b/f"],
+            "s": ["readdir /a", "rmdir /b/d", "readdir /"],
+        }
         for limits in Limits:
             for seed in range(200):
                 error = failed(self, threads, seed=seed, before=BEFORE, limits=limits)
@@ -94,7 +105,9 @@ class Runs(unittest.TestCase):
         with self.assertRaises(ScheduleError) as raised:
             explore({"t": ["mkdir /a"]}, check)
         error = raised.exception
-        self.assertEqual((type(error.__cause__), error.journal.count("\n"), atomfs.check(error.journal)), (KeyError, 7, "lawful"))
+        self.assertEqual(
+            (type(error.__cause__), error.journal.count("\n"), atomfs.check(error.journal)), (KeyError, 7, "lawful")
+        )
         for part in ("seed 1: KeyError: 'none'", error.script, error.journal):
             self.assertIn(part, str(error))
 
@@ -157,7 +170,14 @@ class BadInput(unittest.TestCase):
                 self.assertRaisesRegex(kind, words, explore, {"t": [call]}, self.fail)
                 self.assertRaisesRegex(kind, words, explore, {"t": []}, self.fail, before=[call])
         for limits in (Limits.V1, Limits.V2):
-            self.assertRaisesRegex(ValueError, f"no tree by {limits} has the call list", explore, {"t": ["list / / 1"]}, self.fail, limits=limits)
+            self.assertRaisesRegex(
+                ValueError,
+                f"no tree by {limits} has the call list",
+                explore,
+                {"t": ["list / / 1"]},
+                self.fail,
+                limits=limits,
+            )
 
     def test_threads(self):
         for kind, threads in (

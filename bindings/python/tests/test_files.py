@@ -46,7 +46,9 @@ class Files(unittest.TestCase):
                 files.create(str(at))
             with self.assertRaises(errors.InsufficientStorage) as raised:
                 files.create("x")
-        self.assertEqual(str(raised.exception), "path 'x': The directory has 256 entries, and no more may be made in it")
+        self.assertEqual(
+            str(raised.exception), "path 'x': The directory has 256 entries, and no more may be made in it"
+        )
 
     def test_given_tree(self):
         """A tree that is given stays open."""
@@ -65,7 +67,9 @@ class Files(unittest.TestCase):
         self.assertEqual(told, [])
 
     def test_limits(self):
-        self.assertEqual(self.files.getmeta("atomfs"), {"name_bytes": 255, "path_names": 2_048, "file_bytes": 2_147_483_648})
+        self.assertEqual(
+            self.files.getmeta("atomfs"), {"name_bytes": 255, "path_names": 2_048, "file_bytes": 2_147_483_648}
+        )
         for path in (LONG, f"a/{LONG}/b", "n/" * 2_049):
             with self.subTest(path):
                 self.assertRaises(errors.InvalidPath, self.files.makedir, path)

@@ -1,12 +1,19 @@
 """`AtomFileSystem`, and `atomfs://`."""
 import pathlib
+import pickle
 import tempfile
 import unittest
 
 import fsspec
+from fsspec.implementations.local import LocalFileSystem
 
 import atomfs
 from atomfs.fsspec import AtomFileSystem
+
+
+def plain(info):
+    """What is of the tree alone."""
+    return {name: info[name] for name in ("name", "size", "type")}
 
 
 class Specs(unittest.TestCase):
@@ -31,6 +38,29 @@ class Specs(unittest.TestCase):
         self.assertFalse(self.files.exists("/hello.txt"))
         self.assertIsNot(shared.atom_tree, self.tree)
 
+    def test_kept(self):
+        """What a file system of the disk answers besides, and what `touch` and `rm` of a directory do there."""
+        files = self.files
+        with tempfile.TemporaryDirectory() as at:
+            of_disk = LocalFileSystem()
+            for system, path in ((of_disk, f"{at}/f"), (files, "/f")):
+                system.pipe(path, b"bytes")
+                system.touch(path, truncate=False)
+            self.assertLessEqual(set(of_disk.info(f"{at}/f")) - {"islink", "destination"}, set(files.info("/f")))
+            self.assertEqual(files.cat("/f"), of_disk.cat(f"{at}/f"))
+            self.assertLess(abs(files.modified("/f") - of_disk.modified(f"{at}/f")).total_seconds(), 60)
+            self.assertEqual(type(files.created("/f")), type(of_disk.created(f"{at}/f")))
+        before = files.modified("/f")
+        files.touch("/f", truncate=False)
+        self.assertLess(before, files.modified("/f"))
+        files.touch("/f")
+        files.touch("/new")
+        self.assertEqual((files.cat("/f"), files.cat("/new")), (b"", b""))
+        files.mkdir("/d")
+        self.assertRaises(IsADirectoryError, files.rm, "/d")
+        self.assertRaises(IsADirectoryError, files.touch, "/d", truncate=False)
+        self.assertEqual(pickle.loads(pickle.dumps(files)).info("/f")["ino"], files.info("/f")["ino"])
+
     def test_directories(self):
         files = self.files
         files.mkdir("/a/b/c")
@@ -43,13 +73,14 @@ class Specs(unittest.TestCase):
         self.assertRaises(NotADirectoryError, files.makedirs, "/a/f/g")
         self.assertEqual(files.ls("/", detail=False), ["/a"])
         self.assertEqual(
-            files.ls("a"), [{"name": "/a/b", "size": 0, "type": "directory"}, {"name": "/a/f", "size": 5, "type": "file"}]
+            [plain(one) for one in files.ls("a")],
+            [{"name": "/a/b", "size": 0, "type": "directory"}, {"name": "/a/f", "size": 5, "type": "file"}],
         )
         self.assertEqual(files.ls("/a/f", detail=False), ["/a/f"])
         self.assertRaises(FileNotFoundError, files.ls, "/x")
         self.assertRaises(OSError, files.rmdir, "/a")
         files.rmdir("/a/b/c")
-        self.assertEqual(files.info("/a/b"), {"name": "/a/b", "size": 0, "type": "directory"})
+        self.assertEqual(plain(files.info("/a/b")), {"name": "/a/b", "size": 0, "type": "directory"})
         self.assertEqual(files.info("/")["type"], "directory")
         self.assertTrue(files.isdir("/a") and files.isfile("/a/f") and not files.exists("/a/f/g"))
 
@@ -75,15 +106,21 @@ class Specs(unittest.TestCase):
         self.assertEqual(files.find("/"), ["/3.bin", "/a/2.txt", "/a/b/1.txt"])
         self.assertEqual(files.glob("/a/*.txt"), ["/a/2.txt"])
         self.assertEqual(files.glob("**/*.txt"), ["/a/2.txt", "/a/b/1.txt"])
-        self.assertEqual(list(files.walk("/")), [("/", ["a"], ["3.bin"]), ("/a", ["b"], ["2.txt"]), ("/a/b", [], ["1.txt"])])
+        self.assertEqual(
+            list(files.walk("/")), [("/", ["a"], ["3.bin"]), ("/a", ["b"], ["2.txt"]), ("/a/b", [], ["1.txt"])]
+        )
         self.assertEqual(files.du("/"), 6 + 8 + 10)
-        self.assertEqual(files.cat("/a", recursive=True, on_error="omit"), {"/a/2.txt": b"/a/2.txt", "/a/b/1.txt": b"/a/b/1.txt"})
+        self.assertEqual(
+            files.cat("/a", recursive=True, on_error="omit"), {"/a/2.txt": b"/a/2.txt", "/a/b/1.txt": b"/a/b/1.txt"}
+        )
 
     def test_files(self):
         files = self.files
         files.pipe("/f", b"0123456789")
-        self.assertEqual((files.cat("/f"), files.cat_file("/f", 2, -3), files.head("/f", 3), files.tail("/f", 2)),
-                         (b"0123456789", b"23456", b"012", b"89"))
+        self.assertEqual(
+            (files.cat("/f"), files.cat_file("/f", 2, -3), files.head("/f", 3), files.tail("/f", 2)),
+            (b"0123456789", b"23456", b"012", b"89"),
+        )
         self.assertEqual(files.read_block("/f", 3, 4), b"3456")
         with files.open("/f", "rb", 4) as file:
             self.assertEqual(file.read(), b"0123456789")

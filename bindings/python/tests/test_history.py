@@ -32,7 +32,10 @@ def replies(history):
 
 class Linearize(unittest.TestCase):
     def test_lawful(self):
-        for text in (BEGUN + "return 2 failed ?\nreturn 1 ok\n", (BEGUN + "return 2 stat dir ?\nreturn 1 ok\n").encode()):
+        for text in (
+            BEGUN + "return 2 failed ?\nreturn 1 ok\n",
+            (BEGUN + "return 2 stat dir ?\nreturn 1 ok\n").encode(),
+        ):
             found = atomfs.linearize(text)
             self.assertIsInstance(found, Lawful)
             self.assertEqual((found.verdict, atomfs.check(found.journal)), ("lawful", "lawful"))
@@ -62,7 +65,11 @@ class Linearize(unittest.TestCase):
             (Error, "line 1: TooLarge: ", lambda: atomfs.linearize("atomfs-journal 3\n" + "#" * 2**24)),
             (Error, "line 2: BadStart: ", lambda: atomfs.linearize("atomfs-journal 4\nend\n" + "#" * 2**24)),
             (ValueError, "a limit is 1 to 1,000,000,000 configurations, and not 0", lambda: atomfs.linearize(BEGUN, 0)),
-            (ValueError, "a limit is 1 to 1,000,000,000 configurations, and not 1,000,000,001", lambda: atomfs.linearize(BEGUN, 10**9 + 1)),
+            (
+                ValueError,
+                "a limit is 1 to 1,000,000,000 configurations, and not 1,000,000,001",
+                lambda: atomfs.linearize(BEGUN, 10**9 + 1),
+            ),
             (ValueError, "a negative limit", lambda: atomfs.linearize(BEGUN, -1)),
             (TypeError, "limit is a whole number, and this is str", lambda: atomfs.linearize(BEGUN, "1")),
             (TypeError, "memoryview: ", lambda: atomfs.linearize(7)),
@@ -78,12 +85,24 @@ class Linearize(unittest.TestCase):
         """What the entry says, which call it is, and what that could have replied; the rest of a long one is left out, and what is no text stands for itself."""
         could = "1 way explains all before it, and the call could have replied:"
         for text, wanted in (
-            (BEGUN + "return 2 stat dir 1\n", "line 4: return 2 stat dir 1; call 2 is stat /a on seat 1\n2 ways explain all before it, and the call could have replied: failed ENOENT (1 way), stat dir 0 (1 way)"),
+            (
+                BEGUN + "return 2 stat dir 1\n",
+                "line 4: return 2 stat dir 1; call 2 is stat /a on seat 1\n2 ways explain all before it, and the call could have replied: failed ENOENT (1 way), stat dir 0 (1 way)",
+            ),
             (BEGUN + "begin 3 1 stat /\n", "line 4: begin 3 1 stat /; call 3 is stat / on seat 1"),
             (HEADER + "return 7 ok\n", "line 2: return 7 ok; no call 7 has begun"),
-            (HEADER + "begin 1 0 stat /\nreturn 1 failed ?\n" + "# \n" * 50_000, f"line 3: return 1 failed ?; call 1 is stat / on seat 0\n{could} stat dir 0 (1 way)"),
-            (HEADER + f"begin 1 0 {LONG}\nreturn 1 ok\n", f"line 3: return 1 ok; call 1 is {LONG[:240]}.. on seat 0\n{could} failed ENOENT (1 way)"),
-            (HEADER.encode() + b"begin 1 0 stat /\xff\nreturn 1 ok\n", f"line 3: return 1 ok; call 1 is stat /\ufffd on seat 0\n{could} failed ENOENT (1 way)"),
+            (
+                HEADER + "begin 1 0 stat /\nreturn 1 failed ?\n" + "# \n" * 50_000,
+                f"line 3: return 1 failed ?; call 1 is stat / on seat 0\n{could} stat dir 0 (1 way)",
+            ),
+            (
+                HEADER + f"begin 1 0 {LONG}\nreturn 1 ok\n",
+                f"line 3: return 1 ok; call 1 is {LONG[:240]}.. on seat 0\n{could} failed ENOENT (1 way)",
+            ),
+            (
+                HEADER.encode() + b"begin 1 0 stat /\xff\nreturn 1 ok\n",
+                f"line 3: return 1 ok; call 1 is stat /\ufffd on seat 0\n{could} failed ENOENT (1 way)",
+            ),
         ):
             with self.subTest(wanted):
                 self.assertEqual(atomfs.linearize(text).words, wanted)
@@ -93,20 +112,28 @@ class Linearize(unittest.TestCase):
         told = atomfs.front(BEGUN + "return 2 stat dir 1\nreturn 1 ok\n")
         self.assertEqual((told, atomfs.check(told)), (BEGUN + "return 2 stat dir 1\n", "fault 3 ReturnUncommitted"))
         self.assertIn("fault 3 ReturnUncommitted", str(atomfs.draw(told)))
-        for text, limit in ((BEGUN + "return 2 stat dir 1\n", 1), (BEGUN + "return 1 ok\n", None), (BEGUN + "begin 3 1 stat /\n", None)):
+        for text, limit in (
+            (BEGUN + "return 2 stat dir 1\n", 1),
+            (BEGUN + "return 1 ok\n", None),
+            (BEGUN + "begin 3 1 stat /\n", None),
+        ):
             self.assertIsNone(atomfs.front(text, limit))
         with self.assertRaisesRegex(Error, "line 4: BadLine: "):
             atomfs.front(BEGUN + "commit 1\n")
 
     def test_room(self):
         """A journal that is longer than the room for it is asked for once more."""
-        text = "atomfs-journal 3\nstart\ndir /\nentries\n" + "".join(f"begin {at} {at} stat /{chr(233) * 30}\n" for at in range(1, 4_000))
+        text = "atomfs-journal 3\nstart\ndir /\nentries\n" + "".join(
+            f"begin {at} {at} stat /{chr(233) * 30}\n" for at in range(1, 4_000)
+        )
         found = atomfs.linearize(text)
         self.assertEqual(atomfs.check(found.journal), "lawful")
         self.assertGreater(len(found.journal), 2 * len(text.encode()) + 2**16)
 
     def test_no_memory(self):
-        with unittest.mock.patch.object(library(), "linearize", return_value=Status.NO_MEMORY), self.assertRaises(MemoryError):
+        with unittest.mock.patch.object(library(), "linearize", return_value=Status.NO_MEMORY), self.assertRaises(
+            MemoryError
+        ):
             History().linearize()
 
 
@@ -137,10 +164,26 @@ class Texts(unittest.TestCase):
         with self.history.call("rename /x /y") as answer:
             answer.failed()
         begun = [line.split(" ", 3)[3] for line in lines(self.history) if line.startswith("begin ")]
-        self.assertEqual(begun[:5], ["mkdir /a%20b", "write /a%20b/f 0 07", "read /a%20b/f 1 4", "read /a%20b/f 0 4", "readdir /a%20b"])
-        wanted = ["ok", "wrote 1", "bytes -", "bytes 07", "names %25 f g%C3%A9", "names", "stat dir ?", "stat dir 2", "stat file 5", "stat file 5"]
+        self.assertEqual(
+            begun[:5],
+            ["mkdir /a%20b", "write /a%20b/f 0 07", "read /a%20b/f 1 4", "read /a%20b/f 0 4", "readdir /a%20b"],
+        )
+        wanted = [
+            "ok",
+            "wrote 1",
+            "bytes -",
+            "bytes 07",
+            "names %25 f g%C3%A9",
+            "names",
+            "stat dir ?",
+            "stat dir 2",
+            "stat file 5",
+            "stat file 5",
+        ]
         self.assertEqual(replies(self.history), [*wanted, "failed ENOENT", "failed ?"])
-        self.assertEqual(lines(self.history)[:3], ["begin 1 0 mkdir /a%20b", "return 1 ok", "begin 2 0 write /a%20b/f 0 07"])
+        self.assertEqual(
+            lines(self.history)[:3], ["begin 1 0 mkdir /a%20b", "return 1 ok", "begin 2 0 write /a%20b/f 0 07"]
+        )
 
     def test_errors(self):
         """An error that is a reply ends the block, and is kept."""
@@ -162,20 +205,36 @@ class Texts(unittest.TestCase):
 
     def test_errors_of_others(self):
         """A library's own errors are named; the first class that fits decides."""
-        history = History(errors={KeyError: errno.ENOENT, LookupError: None, TimeoutError: None, FileExistsError: errno.EBUSY})
-        for error, word in ((KeyError("a"), "ENOENT"), (IndexError(), "?"), (TimeoutError(), "?"), (FileExistsError(), "EBUSY")):
+        history = History(
+            errors={KeyError: errno.ENOENT, LookupError: None, TimeoutError: None, FileExistsError: errno.EBUSY}
+        )
+        for error, word in (
+            (KeyError("a"), "ENOENT"),
+            (IndexError(), "?"),
+            (TimeoutError(), "?"),
+            (FileExistsError(), "EBUSY"),
+        ):
             with history.call("stat /a"):
                 raise error
             self.assertEqual(replies(history)[-1], f"failed {word}")
 
     def test_under_way(self):
         """Behind what is no reply the call stays under way, and what was raised goes on; the next call has another seat."""
-        for error in (RuntimeError(), KeyboardInterrupt(), TimeoutError(), ConnectionResetError(), OSError(errno.EIO, "broken")):
+        for error in (
+            RuntimeError(),
+            KeyboardInterrupt(),
+            TimeoutError(),
+            ConnectionResetError(),
+            OSError(errno.EIO, "broken"),
+        ):
             with self.assertRaises(type(error)), self.history.call("mkdir /a"):
                 raise error
         with self.history.call("stat /a") as answer:
             answer.stat(True)
-        self.assertEqual(lines(self.history), [*(f"begin {at + 1} {at} mkdir /a" for at in range(5)), "begin 6 5 stat /a", "return 6 stat dir ?"])
+        self.assertEqual(
+            lines(self.history),
+            [*(f"begin {at + 1} {at} mkdir /a" for at in range(5)), "begin 6 5 stat /a", "return 6 stat dir ?"],
+        )
         self.assertEqual(repr(self.history), "<atomfs.History of 6 calls, 5 of them under way>")
 
     def test_told_before_an_error(self):
@@ -188,7 +247,9 @@ class Texts(unittest.TestCase):
     def test_not_told(self):
         """A reply that is not told leaves the call under way; one that is none of the call's is refused."""
         for line in ("stat /", "readdir /", "read / 0 1", "write / 0 07"):
-            with self.subTest(line), self.assertRaisesRegex(TypeError, "has ended, and its reply is not told: "), self.history.call(line):
+            with self.subTest(line), self.assertRaisesRegex(
+                TypeError, "has ended, and its reply is not told: "
+            ), self.history.call(line):
                 pass
         self.assertEqual(replies(self.history), [])
         for line, tell, kind, words in (
@@ -199,12 +260,27 @@ class Texts(unittest.TestCase):
             ("readdir /", lambda answer: answer.names([".."]), ValueError, "b'..' is no name"),
             ("readdir /", lambda answer: answer.names([""]), ValueError, "b'' is no name"),
             ("readdir /", lambda answer: answer.names(["a" * 256]), ValueError, "b'aaa"),
-            ("readdir /", lambda answer: (answer.names([]), answer.names([])), TypeError, "the reply is told already: names"),
-            ("stat /", lambda answer: answer.stat(os.stat("/")), TypeError, "stat takes whether there is a directory, and this is stat_result"),
+            (
+                "readdir /",
+                lambda answer: (answer.names([]), answer.names([])),
+                TypeError,
+                "the reply is told already: names",
+            ),
+            (
+                "stat /",
+                lambda answer: answer.stat(os.stat("/")),
+                TypeError,
+                "stat takes whether there is a directory, and this is stat_result",
+            ),
             ("stat /", lambda answer: answer.stat(False), TypeError, "the size of a file is not told"),
             ("stat /", lambda answer: answer.stat(False, -1), ValueError, "a negative size"),
             ("read / 0 1", lambda answer: answer.data("a"), TypeError, "data takes bytes, and this is str: encode it"),
-            ("write / 0 07", lambda answer: answer.wrote(b"a"), TypeError, "count is a whole number, and this is bytes"),
+            (
+                "write / 0 07",
+                lambda answer: answer.wrote(b"a"),
+                TypeError,
+                "count is a whole number, and this is bytes",
+            ),
         ):
             with self.subTest(words), self.assertRaises(kind) as raised, self.history.call(line) as answer:
                 tell(answer)
@@ -223,7 +299,17 @@ class Texts(unittest.TestCase):
         self.assertIsInstance(history.linearize(), Lawful)
         with history.call("readdir /a"):
             raise OSError(errno.EOVERFLOW, "too many")
-        self.assertEqual(lines(history)[2:], ["begin 2 0 list / /x 2", "return 2 names", "begin 3 0 list / / 2", "return 3 names a", "begin 4 0 readdir /a", "return 4 failed EOVERFLOW"])
+        self.assertEqual(
+            lines(history)[2:],
+            [
+                "begin 2 0 list / /x 2",
+                "return 2 names",
+                "begin 3 0 list / / 2",
+                "return 3 names a",
+                "begin 4 0 readdir /a",
+                "return 4 failed EOVERFLOW",
+            ],
+        )
         self.assertEqual(history.linearize(), NoOrder(8, 4))
         history = History(limits=Limits.V2)
         with self.assertRaisesRegex(ValueError, "no tree by Limits.V2 has the call list"):
@@ -267,7 +353,10 @@ class Texts(unittest.TestCase):
             history, nodes = History(tree), "start\ndir /\ndir /a\nfile /a/f 07\ndir /b\nentries\n"
             tree.rmdir("/b")
             self.assertEqual((history.text(), history.limits), (f"atomfs-journal 2\n{nodes}", Limits.V1))
-            self.assertEqual(History(tree.snapshot(), limits=Limits.V1).text(), f"atomfs-journal 2\n{nodes.replace('dir /b' + chr(10), '')}")
+            self.assertEqual(
+                History(tree.snapshot(), limits=Limits.V1).text(),
+                f"atomfs-journal 2\n{nodes.replace('dir /b' + chr(10), '')}",
+            )
             with self.assertRaisesRegex(ValueError, "the start tree is by Limits.V1, and not by Limits.V2"):
                 History(tree, limits=Limits.V2)
         self.assertEqual(History(limits=Limits.V1).text(), HEADER)
@@ -377,7 +466,10 @@ class Others(unittest.TestCase):
                 ("mkdir /a", lambda answer: os.mkdir(f"{folder}/a")),
                 ("mkdir /a", lambda answer: os.mkdir(f"{folder}/a")),
                 ("mknod /a/f", lambda answer: os.mknod(f"{folder}/a/f")),
-                ("write /a/f 0 0707", lambda answer: answer.wrote(pathlib.Path(folder, "a", "f").write_bytes(b"\x07\x07"))),
+                (
+                    "write /a/f 0 0707",
+                    lambda answer: answer.wrote(pathlib.Path(folder, "a", "f").write_bytes(b"\x07\x07")),
+                ),
                 ("mkdir /a/f/b", lambda answer: os.mkdir(f"{folder}/a/f/b")),
                 ("unlink /a", lambda answer: os.unlink(f"{folder}/a")),
                 ("rmdir /a", lambda answer: os.rmdir(f"{folder}/a")),

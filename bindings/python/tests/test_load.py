@@ -39,7 +39,13 @@ class Dictionaries(OfLoads):
 
     def test_forms(self):
         """Paths with and without the first slash, texts as UTF-8, anything with bytes, and dictionaries in one another."""
-        given = {"a/t": "\N{SNOWMAN}", "a": {"/u": bytearray(b"u"), "v": {}}, "w/": None, "/x/y": memoryview(b"xy"), "m//n": b""}
+        given = {
+            "a/t": "\N{SNOWMAN}",
+            "a": {"/u": bytearray(b"u"), "v": {}},
+            "w/": None,
+            "/x/y": memoryview(b"xy"),
+            "m//n": b"",
+        }
         wanted = {"/a/t": "\N{SNOWMAN}".encode(), "/a/u": b"u", "/a/v": None, "/w": None, "/x/y": b"xy", "/m/n": b""}
         self.assertEqual(self.kept(Tree.from_dict(given)).to_dict(), wanted)
 
@@ -84,7 +90,9 @@ class Directories(OfLoads):
         self.fill()
         with self.assertRaises(OSError) as raised:
             Tree.from_directory(self.folder, limits=Limits.V2)
-        self.assertEqual((raised.exception.errno, raised.exception.filename), (errno.ENOTSUP, str(self.folder / "folder")))
+        self.assertEqual(
+            (raised.exception.errno, raised.exception.filename), (errno.ENOTSUP, str(self.folder / "folder"))
+        )
         told = []
         tree = self.kept(Tree.from_directory(self.folder, on_error=told.append, limits=Limits.V2))
         self.assertEqual(tree.to_dict(), {"/file": b"f", "/sub/f": b"f"})
@@ -101,7 +109,9 @@ class Directories(OfLoads):
         """Names of 255 bytes, which are the longest of the disk too, are there."""
         (self.folder / ("n" * 255)).touch()
         for limits, most in ((Limits.V1, 32), (Limits.V2, 64)):
-            with self.assertRaisesRegex(OSError, f"Path has a name of more than {most} bytes: '{self.folder}"):
+            with self.assertRaisesRegex(
+                OSError, rf"Path has a name of more than {most} bytes .on_error=.skip. leaves it out.: '{self.folder}"
+            ):
                 Tree.from_directory(self.folder, limits=limits)
         tree = self.kept(Tree.from_directory(self.folder))
         self.assertEqual(tree.to_dict(), {"/" + "n" * 255: b""})
@@ -176,7 +186,10 @@ class Texts(OfLoads):
         with self.assertRaisesRegex(OSError, "All 3 nodes of the tree are in use: '/'") as raised:
             Tree.from_text(text, 3)
         self.assertEqual(raised.exception.errno, errno.ENOSPC)
-        for line, words in ((f"dir /{'n' * 33}", "Path has a name of more than 32 bytes"), (f"file /f {'00' * 65_537}", "more than 65,536 bytes")):
+        for line, words in (
+            (f"dir /{'n' * 33}", "Path has a name of more than 32 bytes"),
+            (f"file /f {'00' * 65_537}", "more than 65,536 bytes"),
+        ):
             self.assertEqual(len(self.kept(Tree.from_text(f"tree\ndir /\n{line}\n"))), 2)
             with self.assertRaisesRegex(OSError, words):
                 Tree.from_text(f"tree\ndir /\n{line}\n", limits=Limits.V1)
@@ -272,7 +285,10 @@ class Copies(OfLoads):
             thread = threading.Thread(target=other.rmdir, args=("/c",))
             thread.start()
             thread.join()
-            self.assertEqual([line for line in other.journal().splitlines() if "begin" in line], ["begin 1 0 mkdir /c", "begin 2 1 rmdir /c"])
+            self.assertEqual(
+                [line for line in other.journal().splitlines() if "begin" in line],
+                ["begin 1 0 mkdir /c", "begin 2 1 rmdir /c"],
+            )
             self.assertFalse(tree.exists("/c"))
 
     def test_keep(self):
@@ -303,7 +319,9 @@ class Copies(OfLoads):
         tree.makedirs("/a" * 40)
         tree.makedirs("/b" * 40)
         tree.rename("/a", "/b" * 40 + "/a")
-        deep = self.kept(Tree.from_text("tree\ndir /\n" + "".join(f"dir {'/n' * depth}\n" for depth in range(1, 2_051))))
+        deep = self.kept(
+            Tree.from_text("tree\ndir /\n" + "".join(f"dir {'/n' * depth}\n" for depth in range(1, 2_051)))
+        )
         for one in (tree, deep):
             for copied in (*COPIES, lambda tree: Tree.from_text(tree.tree(), limits=tree.limits)):
                 self.assertEqual(self.kept(copied(one)).tree(), one.tree())
@@ -344,7 +362,9 @@ class Snapshots(OfLoads):
         """A tree is what it was, whatever became of it."""
         tree = self.kept(Tree.from_dict(FILES))
         snapshot = tree.snapshot()
-        self.assertEqual((repr(snapshot), len(snapshot), snapshot.to_dict()), ("<atomfs.Snapshot of 8 nodes, Limits.V3>", 8, FILES))
+        self.assertEqual(
+            (repr(snapshot), len(snapshot), snapshot.to_dict()), ("<atomfs.Snapshot of 8 nodes, Limits.V3>", 8, FILES)
+        )
         changes = (
             lambda: None,
             lambda: tree.rmtree("/"),
@@ -383,7 +403,9 @@ class Snapshots(OfLoads):
 
         self.assertEqual(len(tree), 1_001)
         self.assertEqual(calls_after((tree.rmtree, "/")), 20 + 2 * 980)
-        self.assertEqual(calls_after((tree.write_bytes, "/d0/0", b"other"), (tree.unlink, "/d1/1"), (tree.mknod, "/new")), 2 + 2 + 1)
+        self.assertEqual(
+            calls_after((tree.write_bytes, "/d0/0", b"other"), (tree.unlink, "/d1/1"), (tree.mknod, "/new")), 2 + 2 + 1
+        )
         self.assertEqual(calls_after(), 0)
 
     def test_a_full_tree(self):
@@ -423,7 +445,10 @@ class Snapshots(OfLoads):
         """Snapshots are compared, are keys, and are pickled; one restores another tree too."""
         tree = self.kept(Tree.from_dict(FILES))
         one, other = tree.snapshot(), pickle.loads(pickle.dumps(tree.snapshot()))
-        self.assertEqual((one == other, hash(one) == hash(other), one == Tree().snapshot(), one == "text"), (True, True, False, False))
+        self.assertEqual(
+            (one == other, hash(one) == hash(other), one == Tree().snapshot(), one == "text"),
+            (True, True, False, False),
+        )
         self.assertNotEqual(Tree(limits=Limits.V1).snapshot(), Tree().snapshot())
         another = self.kept(Tree())
         another.restore(other)
@@ -438,7 +463,14 @@ class Snapshots(OfLoads):
         tree.write_bytes("/a/g", b"x")
         tree.rmdir("/e")
         tree.mknod("/e")
-        differs = [("removed", "/a/b"), ("removed", "/a/b/f"), ("changed", "/a/g"), ("added", "/b"), ("added", "/b/f"), ("changed", "/e")]
+        differs = [
+            ("removed", "/a/b"),
+            ("removed", "/a/b/f"),
+            ("changed", "/a/g"),
+            ("added", "/b"),
+            ("added", "/b/f"),
+            ("changed", "/e"),
+        ]
         self.assertEqual(atomfs.diff(before, tree), differs)
         turned = {"added": "removed", "removed": "added", "changed": "changed"}
         self.assertEqual(atomfs.diff(tree, before), [(turned[what], path) for what, path in differs])

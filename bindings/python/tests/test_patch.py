@@ -2,11 +2,15 @@
 import bz2
 import codecs
 import contextlib
+import ctypes
+import dbm
 import errno
+import faulthandler
 import fcntl
 import fileinput
 import glob
 import gzip
+import importlib
 import inspect
 import io
 import linecache
@@ -15,16 +19,21 @@ import mmap
 import os
 import pathlib
 import re
+import shelve
 import shutil
+import signal
+import socket
 import sqlite3
 import stat
 import subprocess
 import sys
 import tarfile
 import tempfile
+import termios
 import threading
 import unittest
 import zipfile
+from multiprocessing.util import spawnv_passfds
 from os import listdir as captured
 
 import atomfs
@@ -150,7 +159,8 @@ def renamed(function):
 def scanned(at):
     with os.scandir(f"{at}/d") as entries:
         found = sorted(
-            (one.name, one.path, os.fspath(one), one.is_dir(), one.is_file(), one.is_symlink(), of_stat(one.stat())) for one in entries
+            (one.name, one.path, os.fspath(one), one.is_dir(), one.is_file(), one.is_symlink(), of_stat(one.stat()))
+            for one in entries
         )
     with descriptor(f"{at}/d", os.O_RDONLY) as number, os.scandir(number) as entries:
         return found, sorted(one.path for one in entries), sorted(one.name for one in os.scandir(os.fsencode(at)))
@@ -271,7 +281,9 @@ def opened(at):
         with open(f"{at}/o", mode) as file:
             found.append((file.write(text), file.tell(), file.name, file.mode, file.seekable(), file.isatty()))
         with open(f"{at}/o", "rb", 0) as file:
-            found.append((file.read(3), file.readall(), file.seek(-1, 2), file.tell(), file.read(), file.fileno() > 2, file.mode))
+            found.append(
+                (file.read(3), file.readall(), file.seek(-1, 2), file.tell(), file.read(), file.fileno() > 2, file.mode)
+            )
         with open(f"{at}/o", newline="", buffering=1) as file:
             found.append(list(file))
     with open(f"{at}/o", "rb+") as file:
@@ -309,6 +321,149 @@ def changed(function):
     return row
 
 
+def metadata_of(path):
+    """What is kept of a node: no times that nobody has set."""
+    found = os.lstat(path)
+    times = [one if one < 10**12 else "now" for one in (found.st_atime_ns, found.st_mtime_ns)]
+    return (
+        oct(found.st_mode),
+        found.st_uid,
+        found.st_gid,
+        found.st_nlink if stat.S_ISREG(found.st_mode) else None,
+        times,
+    )
+
+
+def changed_of(function):
+    """A row: what is kept of each node after a change."""
+
+    def row(at):
+        os.chmod(f"{at}/d/g", 0o600)
+        os.utime(f"{at}/d/g", (7, 8))
+        answered = function(at)
+        return answered, [metadata_of(f"{at}/{name}") for name in ("f", "d", "d/g")]
+
+    return row
+
+
+def masked(at):
+    was = os.umask(0o027)
+    try:
+        os.mkdir(f"{at}/n", 0o777)
+        written(f"{at}/n/f")
+        return os.umask(0o027), [metadata_of(f"{at}/{name}") for name in ("n", "n/f")]
+    finally:
+        os.umask(was)
+
+
+def linked(at):
+    os.symlink("f", f"{at}/l")
+    os.symlink("../d", f"{at}/d/up")
+    os.symlink(f"{at}/none", f"{at}/dangling")
+    return (
+        [os.readlink(f"{at}/{name}").replace(at, "AT") for name in ("l", "d/up", "dangling")],
+        text_of(f"{at}/l"),
+        sorted(os.listdir(f"{at}/d/up/up")),
+        sorted((one.name, one.is_dir(), one.is_symlink()) for one in os.scandir(at)),
+    )
+
+
+def number_of(call, *given):
+    """The number of the error that a call raises."""
+    try:
+        call(*given)
+    except OSError as error:
+        return error.errno
+    return None
+
+
+def attributes(at):
+    """Extended attributes, as a file system of the disk has them; one of memory may have none."""
+    path = f"{at}/f"
+    with contextlib.suppress(OSError):
+        os.setxattr(path, "user.a", b"one")
+        os.setxattr(path, b"user.b", b"two", os.XATTR_CREATE)
+        with descriptor(path) as number:
+            os.setxattr(number, "user.c", b"three")
+            found = sorted(os.listxattr(number)), os.getxattr(number, "user.a")
+        os.removexattr(path, "user.a")
+        return (
+            found,
+            sorted(os.listxattr(path)),
+            number_of(os.getxattr, path, "user.a"),
+            number_of(os.setxattr, path, "user.b", b"", os.XATTR_CREATE),
+            number_of(os.setxattr, path, "user.a", b"", os.XATTR_REPLACE),
+            number_of(os.getxattr, f"{at}/none", "user.a"),
+        )
+
+
+def traced(at):
+    with open(f"{at}/trace", "w+") as file:
+        faulthandler.dump_traceback(file, all_threads=False)
+        file.seek(0)
+        return "in traced" in file.read()
+
+
+def kept_words(at):
+    """A dictionary in a file, by whichever kind of database is there."""
+    with dbm.open(f"{at}/base", "c") as base:
+        base["a"] = "one"
+    with shelve.open(f"{at}/shelf") as shelf:
+        shelf["b"] = [1]
+    with dbm.open(f"{at}/base") as base, shelve.open(f"{at}/shelf", "r") as shelf:
+        return base["a"], list(base.keys()), dict(shelf)
+
+
+def locked(at):
+    """Two that are open are in each other's way, and a copy of a descriptor is not."""
+    both = fcntl.LOCK_EX | fcntl.LOCK_NB
+    with open(f"{at}/f") as file, open(f"{at}/f") as other:
+        found = [
+            fcntl.flock(file, both),
+            number_of(fcntl.flock, other, both),
+            number_of(fcntl.flock, other, fcntl.LOCK_SH | fcntl.LOCK_NB),
+        ]
+        found += [
+            fcntl.flock(file, fcntl.LOCK_SH),
+            fcntl.flock(other, fcntl.LOCK_SH | fcntl.LOCK_NB),
+            number_of(fcntl.flock, other, both),
+        ]
+        found += [fcntl.flock(file, fcntl.LOCK_UN), fcntl.flock(other, both)]
+    with open(f"{at}/f") as file:
+        return found, fcntl.flock(file, both), number_of(fcntl.flock, file, 64)
+
+
+def mapped(at):
+    with open(f"{at}/f", "r+b") as file:
+        with mmap.mmap(file.fileno(), 0) as area:
+            area[1:3] = b"EL"
+            area.flush()
+            found = [area[:], text_of(f"{at}/f"), area.size(), area.find(b"L")]
+            area.resize(7)
+            area[5:] = b"!?"
+        with mmap.mmap(file.fileno(), 3, access=mmap.ACCESS_COPY) as area:
+            area[0:1] = b"x"
+            found.append(area[:])
+        with mmap.mmap(file.fileno(), 0, access=mmap.ACCESS_READ) as area:
+            with contextlib.suppress(TypeError):
+                area[0:1] = b"x"
+            found += [area.read(3), isinstance(area, mmap.mmap)]
+    with open(f"{at}/f", "rb") as file:
+        found.append(number_of(mmap.mmap, file.fileno(), 0))
+        with contextlib.suppress(ValueError):
+            mmap.mmap(file.fileno(), 99, access=mmap.ACCESS_READ)
+    return found
+
+
+def spliced(at):
+    from_pipe, to_pipe = os.pipe()
+    with descriptor(f"{at}/f") as number:
+        found = os.splice(number, to_pipe, 3), os.read(from_pipe, 9), os.lseek(number, 0, os.SEEK_CUR)
+    os.close(from_pipe)
+    os.close(to_pipe)
+    return found
+
+
 def sizes(at):
     os.truncate(f"{at}/f", 2)
     with descriptor(f"{at}/d/g") as number:
@@ -317,7 +472,10 @@ def sizes(at):
 
 
 def there(function):
-    return lambda at: [function(f"{at}/{name}") for name in ("", "f", "d", "f/", "d/", "none", "f/x", "d/../f", "./d//g", "none/..", "f/..")]
+    return lambda at: [
+        function(f"{at}/{name}")
+        for name in ("", "f", "d", "f/", "d/", "none", "f/x", "d/../f", "./d//g", "none/..", "f/..")
+    ]
 
 
 def same(function):
@@ -329,14 +487,30 @@ ROWS = {
     "builtins.open": opened,
     "io.open": lambda at: io.open(f"{at}/f", "rb").read(),
     "io.open_code": open_code,
-    "io.FileIO": lambda at: [(file.read(), file.mode, file.close()) for file in (io.FileIO(f"{at}/f"), io.FileIO(file=f"{at}/n", mode="xb+"))],
-    "os.stat": lambda at: [of_stat(os.stat(one)) for one in (at, f"{at}/f", f"{at}/d/", os.fsencode(at), pathlib.Path(at, "f"))],
+    "io.FileIO": lambda at: [
+        (file.read(), file.mode, file.close()) for file in (io.FileIO(f"{at}/f"), io.FileIO(file=f"{at}/n", mode="xb+"))
+    ],
+    "os.stat": lambda at: [
+        of_stat(os.stat(one)) for one in (at, f"{at}/f", f"{at}/d/", os.fsencode(at), pathlib.Path(at, "f"))
+    ],
     "os.lstat": lambda at: of_stat(os.lstat(f"{at}/f")),
     "os.access": there(lambda path: os.access(path, os.R_OK | os.W_OK)),
-    "os.listdir": lambda at: (sorted(os.listdir(at)), sorted(os.listdir(os.fsencode(f"{at}/d"))), with_descriptor(lambda number: sorted(os.listdir(number)), 0, "d")(at)),
+    "os.listdir": lambda at: (
+        sorted(os.listdir(at)),
+        sorted(os.listdir(os.fsencode(f"{at}/d"))),
+        with_descriptor(lambda number: sorted(os.listdir(number)), 0, "d")(at),
+    ),
     "os.scandir": scanned,
     "os.readlink": no_links,
-    "os.chdir": in_folder(lambda at: (os.getcwd(), text_of("g"), sorted(os.listdir()), sorted(os.listdir("..")), os.path.exists("../../none"))),
+    "os.chdir": in_folder(
+        lambda at: (
+            os.getcwd(),
+            text_of("g"),
+            sorted(os.listdir()),
+            sorted(os.listdir("..")),
+            os.path.exists("../../none_of_atomfs"),
+        )
+    ),
     "os.getcwd": in_folder(lambda at: os.getcwd()),
     "os.getcwdb": in_folder(lambda at: os.getcwdb()),
     "os.fchdir": in_folder(lambda at: (with_descriptor(lambda number: os.fchdir(number), 0, "d/e")(at), os.getcwd())),
@@ -353,7 +527,11 @@ ROWS = {
     "os.close": closed,
     "os.closerange": closed_range,
     "os.read": with_descriptor(lambda number: (os.read(number, 2), os.read(number, 9), os.read(number, 9))),
-    "os.write": changed(with_descriptor(lambda number: (os.write(number, b"ab"), os.write(number, memoryview(b"cd"))), os.O_RDWR | os.O_APPEND)),
+    "os.write": changed(
+        with_descriptor(
+            lambda number: (os.write(number, b"ab"), os.write(number, memoryview(b"cd"))), os.O_RDWR | os.O_APPEND
+        )
+    ),
     "os.pread": with_descriptor(lambda number: os.pread(number, 2, 1)),
     "os.pwrite": changed(with_descriptor(lambda number: os.pwrite(number, b"ab", 7))),
     "os.readv": with_descriptor(lambda number: into_buffers(os.readv)(number)),
@@ -372,13 +550,19 @@ ROWS = {
     "os.get_blocking": with_descriptor(lambda number: os.get_blocking(number)),
     "os.set_blocking": with_descriptor(lambda number: os.set_blocking(number, True)),
     "os.dup": changed(with_descriptor(duplicate)),
-    "os.sendfile": sent(lambda source, target: (os.sendfile(target, source, 1, 3), os.sendfile(target, source, None, 9))),
-    "os.copy_file_range": sent(lambda source, target: (os.copy_file_range(source, target, 2), os.copy_file_range(source, target, 9, 1, 4))),
+    "os.sendfile": sent(
+        lambda source, target: (os.sendfile(target, source, 1, 3), os.sendfile(target, source, None, 9))
+    ),
+    "os.copy_file_range": sent(
+        lambda source, target: (os.copy_file_range(source, target, 2), os.copy_file_range(source, target, 9, 1, 4))
+    ),
     "os.fdopen": lambda at: os.fdopen(os.open(f"{at}/f", os.O_RDONLY)).read(),
     "os.makedirs": changed(lambda at: (os.makedirs(f"{at}/n/m/k"), os.makedirs(f"{at}/n/m", exist_ok=True))),
     "os.removedirs": changed(lambda at: (os.makedirs(f"{at}/n/m/k"), os.removedirs(f"{at}/n/m/k"))),
     "os.renames": changed(lambda at: os.renames(f"{at}/f", f"{at}/n/m/f")),
-    "os.walk": lambda at: sorted((path, sorted(folders), sorted(files)) for path, folders, files in os.walk(at, topdown=False)),
+    "os.walk": lambda at: sorted(
+        (path, sorted(folders), sorted(files)) for path, folders, files in os.walk(at, topdown=False)
+    ),
     "os.fwalk": lambda at: sorted((path, sorted(folders), sorted(files)) for path, folders, files, _ in os.fwalk(at)),
     "os.path.exists": there(os.path.exists),
     "os.path.lexists": there(os.path.lexists),
@@ -403,10 +587,14 @@ ROWS = {
     "pathlib.Path.iterdir": lambda at: sorted(map(str, pathlib.Path(at).iterdir())),
     "pathlib.Path.glob": lambda at: sorted(map(str, pathlib.Path(at).glob("*/[eg]"))),
     "pathlib.Path.rglob": lambda at: sorted(map(str, pathlib.Path(at).rglob("*"))),
-    "pathlib.Path.mkdir": changed(lambda at: (pathlib.Path(at, "n/m").mkdir(parents=True), pathlib.Path(at, "n").mkdir(exist_ok=True))),
+    "pathlib.Path.mkdir": changed(
+        lambda at: (pathlib.Path(at, "n/m").mkdir(parents=True), pathlib.Path(at, "n").mkdir(exist_ok=True))
+    ),
     "pathlib.Path.rmdir": changed(lambda at: pathlib.Path(at, "d/e").rmdir()),
     "pathlib.Path.touch": touched,
-    "pathlib.Path.unlink": changed(lambda at: (pathlib.Path(at, "f").unlink(), pathlib.Path(at, "f").unlink(missing_ok=True))),
+    "pathlib.Path.unlink": changed(
+        lambda at: (pathlib.Path(at, "f").unlink(), pathlib.Path(at, "f").unlink(missing_ok=True))
+    ),
     "pathlib.Path.rename": changed(lambda at: str(pathlib.Path(at, "f").rename(f"{at}/n"))),
     "pathlib.Path.replace": changed(lambda at: str(pathlib.Path(at, "f").replace(f"{at}/d/g"))),
     "pathlib.Path.open": lambda at: pathlib.Path(at, "f").open().read(),
@@ -415,15 +603,66 @@ ROWS = {
     "pathlib.Path.read_bytes": by_pathlib("read_bytes"),
     "pathlib.Path.write_bytes": changed(by_pathlib("write_bytes", b"other")),
     "pathlib.Path.samefile": same(lambda path, other: pathlib.Path(path).samefile(other)),
-    "pathlib.Path.resolve": in_folder(lambda at: (str(pathlib.Path("../f").resolve()), str(pathlib.Path(at, "f").resolve(strict=True)))),
+    "pathlib.Path.resolve": in_folder(
+        lambda at: (str(pathlib.Path("../f").resolve()), str(pathlib.Path(at, "f").resolve(strict=True)))
+    ),
     "pathlib.Path.absolute": in_folder(lambda at: str(pathlib.Path("g").absolute())),
     "pathlib.Path.cwd": in_folder(lambda at: str(pathlib.Path.cwd())),
     "shutil.copyfile": copied(shutil.copyfile),
     "shutil.copyfileobj": of_file_objects,
     "shutil.copy": copied(shutil.copy),
     "shutil.copy2": copied(shutil.copy2),
-    "shutil.copystat": changed(lambda at: shutil.copystat(f"{at}/f", f"{at}/d/g")),
-    "shutil.copymode": changed(lambda at: shutil.copymode(f"{at}/f", f"{at}/d/g")),
+    "os.chmod": changed_of(lambda at: os.chmod(f"{at}/f", 0o2640)),
+    "os.fchmod": changed_of(with_descriptor(lambda number: os.fchmod(number, 0o750))),
+    "os.chown": changed_of(lambda at: os.chown(f"{at}/f", -1, -1)),
+    "os.lchown": changed_of(lambda at: os.lchown(f"{at}/f", os.getuid(), -1)),
+    "os.fchown": changed_of(with_descriptor(lambda number: os.fchown(number, -1, os.getgid()))),
+    "os.utime": changed_of(
+        lambda at: (os.utime(f"{at}/f", (1.5, 2.000000123)), os.utime(f"{at}/d", ns=(3, 4_000_000_005)))
+    ),
+    "os.umask": masked,
+    "os.symlink": linked,
+    "os.splice": spliced,
+    "dbm.open": kept_words,
+    "faulthandler.dump_traceback": traced,
+    "os.DirEntry": lambda at: [isinstance(one, os.DirEntry) for one in os.scandir(at)],
+    "os.statvfs": lambda at: (
+        os.statvfs(f"{at}/f") == os.statvfs(at),
+        os.statvfs(at).f_namemax,
+        number_of(os.statvfs, f"{at}/none"),
+    ),
+    "os.fstatvfs": with_descriptor(lambda number: os.fstatvfs(number).f_bsize > 0),
+    "os.pathconf": lambda at: os.pathconf(at, "PC_NAME_MAX"),
+    "os.fpathconf": with_descriptor(lambda number: os.fpathconf(number, "PC_NAME_MAX")),
+    "os.getxattr": attributes,
+    "os.setxattr": attributes,
+    "os.listxattr": attributes,
+    "os.removexattr": attributes,
+    "os.lockf": with_descriptor(
+        lambda number: (os.lockf(number, os.F_LOCK, 0), os.lockf(number, os.F_TEST, 0), os.lockf(number, os.F_ULOCK, 0))
+    ),
+    "os.ttyname": with_descriptor(lambda number: number_of(os.ttyname, number)),
+    "fcntl.flock": locked,
+    "fcntl.lockf": lambda at: [
+        fcntl.lockf(file, kind)
+        for file in (open(f"{at}/f", "r+"),)
+        for kind in (fcntl.LOCK_EX, fcntl.LOCK_SH, fcntl.LOCK_UN)
+    ],
+    "fcntl.fcntl": changed(
+        with_descriptor(
+            lambda number: (
+                fcntl.fcntl(number, fcntl.F_GETFL) & (os.O_ACCMODE | os.O_APPEND),
+                fcntl.fcntl(number, fcntl.F_SETFL, os.O_APPEND),
+                os.write(number, b"!"),
+                fcntl.fcntl(number, fcntl.F_GETFD),
+                os.close(fcntl.fcntl(number, fcntl.F_DUPFD, 200)),
+            )
+        )
+    ),
+    "fcntl.ioctl": with_descriptor(lambda number: number_of(fcntl.ioctl, number, termios.TCGETS)),
+    "mmap.mmap": changed(mapped),
+    "shutil.copystat": changed_of(lambda at: (os.chmod(f"{at}/f", 0o604), shutil.copystat(f"{at}/f", f"{at}/d/g"))),
+    "shutil.copymode": changed_of(lambda at: (os.chmod(f"{at}/f", 0o604), shutil.copymode(f"{at}/f", f"{at}/d/g"))),
     "shutil.copytree": changed(lambda at: shutil.copytree(f"{at}/d", f"{at}/c/k")),
     "shutil.move": changed(lambda at: (shutil.move(f"{at}/f", f"{at}/d"), shutil.move(f"{at}/d", f"{at}/k"))),
     "shutil.rmtree": changed(lambda at: shutil.rmtree(f"{at}/d")),
@@ -451,42 +690,38 @@ ROWS = {
 
 # What is refused below the directory, and how it is called there.
 REFUSALS = {
-    "os.chmod": lambda at: os.chmod(f"{at}/f", 0o600),
-    "os.fchmod": with_descriptor(lambda number: os.fchmod(number, 0o600)),
-    "os.chown": lambda at: os.chown(f"{at}/f", 0, 0),
-    "os.lchown": lambda at: os.lchown(f"{at}/f", 0, 0),
-    "os.fchown": with_descriptor(lambda number: os.fchown(number, 0, 0)),
-    "os.utime": lambda at: os.utime(f"{at}/f"),
     "os.chroot": lambda at: os.chroot(f"{at}/d"),
     "os.link": lambda at: os.link(f"{at}/f", f"{at}/l"),
-    "os.symlink": lambda at: os.symlink("f", f"{at}/l"),
     "os.mkfifo": lambda at: os.mkfifo(f"{at}/p"),
-    "os.statvfs": lambda at: os.statvfs(f"{at}/f"),
-    "os.fstatvfs": with_descriptor(lambda number: os.fstatvfs(number)),
-    "os.pathconf": lambda at: os.pathconf(at, "PC_NAME_MAX"),
-    "os.fpathconf": with_descriptor(lambda number: os.fpathconf(number, "PC_NAME_MAX")),
-    "os.getxattr": lambda at: os.getxattr(f"{at}/f", "user.a"),
-    "os.setxattr": lambda at: os.setxattr(f"{at}/f", "user.a", b""),
-    "os.listxattr": lambda at: os.listxattr(f"{at}/f"),
-    "os.removexattr": lambda at: os.removexattr(f"{at}/f", "user.a"),
     "os.execv": lambda at: os.execv(f"{at}/f", ["f"]),
     "os.execve": lambda at: os.execve(f"{at}/f", ["f"], {}),
     "os.posix_spawn": lambda at: os.posix_spawn(f"{at}/f", ["f"], {}),
     "os.posix_spawnp": lambda at: os.posix_spawnp(f"{at}/f", ["f"], {}),
     "os.system": in_folder(lambda at: os.system("true")),
+    "os._spawnvef": in_folder(lambda at: os.spawnv(os.P_WAIT, shutil.which("true"), ["true"])),
+    "_posixsubprocess.fork_exec": in_folder(lambda at: spawnv_passfds(os.fsencode(shutil.which("true")), ["true"], [])),
     "subprocess.Popen": lambda at: subprocess.run(["true"], cwd=at),
-    "os.lockf": with_descriptor(lambda number: os.lockf(number, os.F_TEST, 0)),
-    "os.ttyname": with_descriptor(lambda number: os.ttyname(number)),
-    "os.splice": lambda at: with_descriptor(lambda number: os.splice(number, 1, 1))(at),
     "os.dup2": with_descriptor(lambda number: os.dup2(number, 1)),
-    "fcntl.flock": with_descriptor(lambda number: fcntl.flock(number, fcntl.LOCK_EX)),
-    "fcntl.lockf": lambda at: fcntl.lockf(open(f"{at}/f", "r+"), fcntl.LOCK_EX),
-    "fcntl.fcntl": with_descriptor(lambda number: fcntl.fcntl(number, fcntl.F_GETFL)),
-    "fcntl.ioctl": with_descriptor(lambda number: fcntl.ioctl(number, 1)),
-    "mmap.mmap": with_descriptor(lambda number: mmap.mmap(number, 0)),
     "sqlite3.connect": lambda at: sqlite3.connect(f"file://{at}/base?mode=rwc", uri=True),
     "sqlite3.Connection": lambda at: sqlite3.Connection(f"{at}/base"),
+    "faulthandler.enable": lambda at: with_file(at, faulthandler.enable),
+    "faulthandler.register": lambda at: with_file(at, lambda file: faulthandler.register(signal.SIGUSR1, file)),
+    "_gdbm.open": in_folder(lambda at: importlib.import_module("_gdbm").open("base", "c")),
+    "_dbm.open": lambda at: importlib.import_module("_dbm").open(f"{at}/base", "c"),
+    "socket.socket.bind": in_folder(lambda at: with_socket(lambda one: one.bind("s"))),
+    "socket.socket.connect": lambda at: with_socket(lambda one: one.connect(f"{at}/s")),
+    "socket.socket.connect_ex": lambda at: with_socket(lambda one: one.connect_ex(os.fsencode(f"{at}/s"))),
 }
+
+
+def with_file(at, work):
+    with open(f"{at}/f") as file:
+        return work(file)
+
+
+def with_socket(work):
+    with socket.socket(socket.AF_UNIX) as one:
+        return work(one)
 
 
 def filled(at):
@@ -535,9 +770,13 @@ def there_here(name):
 class Table(OfPatch):
     def test_rows(self):
         """Each name that is covered has a row here, and each that is refused."""
-        self.assertEqual({name for name in ROWS if there_here(name)}, {name for name in atomfs.patch.covered if there_here(name)})
+        self.assertEqual(
+            {name for name in ROWS if there_here(name)}, {name for name in atomfs.patch.covered if there_here(name)}
+        )
         self.assertEqual(len(set(atomfs.patch.covered)), len(atomfs.patch.covered))
-        self.assertEqual({name for name in REFUSALS if there_here(name)}, {name for name in atomfs.patch.refused if there_here(name)})
+        self.assertEqual(
+            {name for name in REFUSALS if there_here(name)}, {name for name in atomfs.patch.refused if there_here(name)}
+        )
         # What only some versions or systems have.
         self.assertLessEqual({*ROWS, *REFUSALS}, {*atomfs.patch.covered, *atomfs.patch.refused})
 
@@ -554,7 +793,8 @@ class Table(OfPatch):
                 before = self.tree.tree()
                 with self.assertRaises(OSError) as raised:
                     call(AT)
-                self.assertEqual((raised.exception.errno, self.tree.tree()), (errno.ENOTSUP, before))
+                number = errno.EPERM if name in ("os.link", "os.mkfifo", "socket.socket.bind") else errno.ENOTSUP
+                self.assertEqual((raised.exception.errno, self.tree.tree()), (number, before))
                 self.assertIn(f": a tree {atomfs.patch.refused[name]}", str(raised.exception))
 
     def test_refused_by_other_words(self):
@@ -567,20 +807,23 @@ class Table(OfPatch):
                 lambda: sqlite3.connect(f"file://localhost{AT}/base", uri=True),
                 lambda: sqlite3.connect(f"file:{AT.replace('/', '%2F')}/base", uri=True),
                 lambda: sqlite3.Connection(database=pathlib.Path(AT, "base")),
-                with_descriptor(lambda number: mmap.mmap(fileno=number, length=0)),
-                lambda: os.utime(path=f"{AT}/f"),
-                with_descriptor(lambda number: os.chmod(number, 0o600)),
-                lambda: os.chmod("f", 0o600, dir_fd=os.open(AT, os.O_RDONLY)),
-                lambda: os.link("/proc/version", f"{AT}/l"),
-                lambda: os.symlink(f"{AT}/f", "/proc/l"),
-                lambda: os.symlink(src="f", dst=f"{AT}/l"),
                 lambda: subprocess.Popen([f"{AT}/f"]),
                 lambda: subprocess.Popen(one for one in (f"{AT}/f",)),
                 lambda: subprocess.Popen(["true"], executable=f"{AT}/f"),
                 lambda: subprocess.Popen(["true"], stdout=open(f"{AT}/f")),
-                lambda: pathlib.Path(AT, "f").chmod(0o600),
-                lambda: pathlib.Path(AT, "l").symlink_to("f"),
                 in_folder(lambda at: subprocess.Popen(["true"])),
+                in_folder(lambda at: os.posix_spawn("/bin/true", ["true"], {})),
+                in_folder(lambda at: os.execv("/bin/true", ["true"])),
+                lambda: os.posix_spawn(
+                    "/bin/true", ["true"], {}, file_actions=[(os.POSIX_SPAWN_OPEN, 1, f"{AT}/f", os.O_WRONLY, 0)]
+                ),
+                with_descriptor(
+                    lambda number: os.posix_spawn(
+                        "/bin/true", ["true"], {}, file_actions=[(os.POSIX_SPAWN_DUP2, number, 1)]
+                    )
+                ),
+                with_descriptor(lambda number: subprocess.Popen(["true"], pass_fds=[number])),
+                with_descriptor(lambda number: os.dup2(number, 1)),
             ):
                 with self.subTest(call), self.assertRaises(OSError) as raised:
                     call(AT) if call.__code__.co_argcount else call()
@@ -588,9 +831,31 @@ class Table(OfPatch):
 
     def test_all_of_os(self):
         """Each function of `os` that takes a path or a descriptor is in the table, or is made of those that are."""
-        made = {"fdopen", "fwalk", "makedirs", "removedirs", "renames", "walk", "popen", "get_exec_path", "fspath", "fsencode", "fsdecode"}
+        made = {
+            "fdopen",
+            "fwalk",
+            "makedirs",
+            "removedirs",
+            "renames",
+            "walk",
+            "popen",
+            "get_exec_path",
+            "fspath",
+            "fsencode",
+            "fsdecode",
+        }
         # Of terminals, other processes, and numbers that no descriptor is.
-        others = {"get_terminal_size", "device_encoding", "openpty", "tcgetpgrp", "tcsetpgrp", "major", "minor", "makedev", "eventfd_read"}
+        others = {
+            "get_terminal_size",
+            "device_encoding",
+            "openpty",
+            "tcgetpgrp",
+            "tcsetpgrp",
+            "major",
+            "minor",
+            "makedev",
+            "eventfd_read",
+        }
         others |= {"eventfd_write", "waitid", "login_tty", "ptsname", "grantpt", "unlockpt", "setns", "pidfd_open"}
         others |= {f"timerfd_{name}{end}" for name in ("gettime", "settime") for end in ("", "_ns")}
         words = {"path", "src", "dst", "fd", "fd2", "fd_low", "in_fd", "out_fd", "source", "target"}
@@ -607,63 +872,65 @@ class Table(OfPatch):
 class Errors(OfPatch):
     def test_errors(self):
         """Each raises what it raises on the disk, with the paths as they were given."""
-        for at, row in enumerate((
-            lambda at: open(f"{at}/none"),
-            lambda at: open(f"{at}/d"),
-            lambda at: open(f"{at}/d", "w"),
-            lambda at: open(f"{at}/f/x", "w"),
-            lambda at: open(f"{at}/none/x", "w"),
-            lambda at: open(f"{at}/new/", "w"),
-            lambda at: open(f"{at}/f", "x"),
-            lambda at: os.open(f"{at}/d", os.O_WRONLY),
-            lambda at: os.open(f"{at}/f", os.O_DIRECTORY),
-            lambda at: os.open(f"{at}/f", os.O_CREAT | os.O_EXCL),
-            lambda at: os.stat(f"{at}/none"),
-            lambda at: os.stat(f"{at}/f/"),
-            lambda at: os.stat(f"{at}/f/."),
-            lambda at: os.stat(f"{at}/none/../f"),
-            lambda at: os.stat(f"{at}/f/../f"),
-            lambda at: os.listdir(f"{at}/f"),
-            lambda at: os.listdir(os.fsencode(f"{at}/none")),
-            lambda at: os.scandir(f"{at}/none"),
-            lambda at: os.mkdir(f"{at}/d"),
-            lambda at: os.mkdir(f"{at}/f"),
-            lambda at: os.mkdir(at),
-            lambda at: os.rmdir(f"{at}/d"),
-            lambda at: os.rmdir(f"{at}/f"),
-            lambda at: os.unlink(f"{at}/d"),
-            lambda at: os.unlink(f"{at}/none"),
-            lambda at: os.remove(pathlib.Path(at, "none")),
-            lambda at: os.rename(f"{at}/none", f"{at}/x"),
-            lambda at: os.rename(f"{at}/d", f"{at}/d/e/x"),
-            lambda at: os.rename(f"{at}/f", f"{at}/d"),
-            lambda at: os.rename(f"{at}/d", f"{at}/f"),
-            lambda at: os.rename(f"{at}/f", f"{at}/x/"),
-            lambda at: os.replace(f"{at}/d/e", f"{at}/d"),
-            lambda at: os.rename(f"{at}/f", "/proc/none"),
-            lambda at: os.rename("/proc/version", f"{at}/f"),
-            lambda at: os.truncate(f"{at}/d", 0),
-            lambda at: os.truncate(f"{at}/f", -1),
-            lambda at: os.chdir(f"{at}/f"),
-            lambda at: os.chdir(f"{at}/none"),
-            lambda at: os.makedirs(f"{at}/f/x"),
-            lambda at: os.makedirs(f"{at}/d"),
-            lambda at: shutil.rmtree(f"{at}/none"),
-            lambda at: shutil.copyfile(f"{at}/f", f"{at}/f"),
-            lambda at: shutil.copytree(f"{at}/d", f"{at}/d/e"),
-            lambda at: pathlib.Path(at, "none").read_text(),
-            lambda at: pathlib.Path(at, "x").resolve(strict=True),
-            lambda at: tempfile.TemporaryFile(dir=f"{at}/none"),
-            with_descriptor(lambda number: os.read(number, 1), os.O_WRONLY),
-            with_descriptor(lambda number: os.write(number, b"x"), os.O_RDONLY),
-            with_descriptor(lambda number: os.read(number, 1), os.O_RDONLY, "d"),
-            with_descriptor(lambda number: os.lseek(number, -1, os.SEEK_SET)),
-            with_descriptor(lambda number: os.ftruncate(number, -1)),
-            with_descriptor(lambda number: os.stat("x", dir_fd=number)),
-            with_descriptor(lambda number: os.pread(number, 1, -1)),
-            with_descriptor(lambda number: os.posix_fallocate(number, -1, 1)),
-            with_descriptor(lambda number: os.posix_fallocate(number, 0, 0)),
-        )):
+        for at, row in enumerate(
+            (
+                lambda at: open(f"{at}/none"),
+                lambda at: open(f"{at}/d"),
+                lambda at: open(f"{at}/d", "w"),
+                lambda at: open(f"{at}/f/x", "w"),
+                lambda at: open(f"{at}/none/x", "w"),
+                lambda at: open(f"{at}/new/", "w"),
+                lambda at: open(f"{at}/f", "x"),
+                lambda at: os.open(f"{at}/d", os.O_WRONLY),
+                lambda at: os.open(f"{at}/f", os.O_DIRECTORY),
+                lambda at: os.open(f"{at}/f", os.O_CREAT | os.O_EXCL),
+                lambda at: os.stat(f"{at}/none"),
+                lambda at: os.stat(f"{at}/f/"),
+                lambda at: os.stat(f"{at}/f/."),
+                lambda at: os.stat(f"{at}/none/../f"),
+                lambda at: os.stat(f"{at}/f/../f"),
+                lambda at: os.listdir(f"{at}/f"),
+                lambda at: os.listdir(os.fsencode(f"{at}/none")),
+                lambda at: os.scandir(f"{at}/none"),
+                lambda at: os.mkdir(f"{at}/d"),
+                lambda at: os.mkdir(f"{at}/f"),
+                lambda at: os.mkdir(at),
+                lambda at: os.rmdir(f"{at}/d"),
+                lambda at: os.rmdir(f"{at}/f"),
+                lambda at: os.unlink(f"{at}/d"),
+                lambda at: os.unlink(f"{at}/none"),
+                lambda at: os.remove(pathlib.Path(at, "none")),
+                lambda at: os.rename(f"{at}/none", f"{at}/x"),
+                lambda at: os.rename(f"{at}/d", f"{at}/d/e/x"),
+                lambda at: os.rename(f"{at}/f", f"{at}/d"),
+                lambda at: os.rename(f"{at}/d", f"{at}/f"),
+                lambda at: os.rename(f"{at}/f", f"{at}/x/"),
+                lambda at: os.replace(f"{at}/d/e", f"{at}/d"),
+                lambda at: os.rename(f"{at}/f", "/proc/none"),
+                lambda at: os.rename("/proc/version", f"{at}/f"),
+                lambda at: os.truncate(f"{at}/d", 0),
+                lambda at: os.truncate(f"{at}/f", -1),
+                lambda at: os.chdir(f"{at}/f"),
+                lambda at: os.chdir(f"{at}/none"),
+                lambda at: os.makedirs(f"{at}/f/x"),
+                lambda at: os.makedirs(f"{at}/d"),
+                lambda at: shutil.rmtree(f"{at}/none"),
+                lambda at: shutil.copyfile(f"{at}/f", f"{at}/f"),
+                lambda at: shutil.copytree(f"{at}/d", f"{at}/d/e"),
+                lambda at: pathlib.Path(at, "none").read_text(),
+                lambda at: pathlib.Path(at, "x").resolve(strict=True),
+                lambda at: tempfile.TemporaryFile(dir=f"{at}/none"),
+                with_descriptor(lambda number: os.read(number, 1), os.O_WRONLY),
+                with_descriptor(lambda number: os.write(number, b"x"), os.O_RDONLY),
+                with_descriptor(lambda number: os.read(number, 1), os.O_RDONLY, "d"),
+                with_descriptor(lambda number: os.lseek(number, -1, os.SEEK_SET)),
+                with_descriptor(lambda number: os.ftruncate(number, -1)),
+                with_descriptor(lambda number: os.stat("x", dir_fd=number)),
+                with_descriptor(lambda number: os.pread(number, 1, -1)),
+                with_descriptor(lambda number: os.posix_fallocate(number, -1, 1)),
+                with_descriptor(lambda number: os.posix_fallocate(number, 0, 0)),
+            )
+        ):
             with self.subTest(at):
                 self.compare(row)
 
@@ -742,6 +1009,12 @@ class Errors(OfPatch):
         with atomfs.patch(self.tree, at=AT) as patch:
             self.assertRaises(RuntimeError, patch.__enter__)
             self.assertTrue(os.path.isdir(AT))
+        with atomfs.patch() as patch:
+            written(f"{patch.at}/f")
+            self.assertEqual((os.fspath(patch), patch.tree.read("/f")), ("/sandbox", b"text"))
+            self.assertTrue(repr(patch).startswith("<atomfs.patch at '/sandbox': <atomfs.Tree open: 2 of "))
+        self.assertIn("', not there: ", repr(patch))
+        patch.tree.close()
         with atomfs.Tree() as closed:
             pass
         before = os.stat
@@ -768,8 +1041,13 @@ class Outside(OfPatch):
             self.assertEqual(subprocess.run(iter(["cat", "f"]), cwd=at, capture_output=True).stdout, b"hello")
             os.chdir("/")
             os.rmdir(f"{AT}/working")
-            self.assertEqual((os.readlink(f"{at}/l"), subprocess.run(["cat", "l"], cwd=at, capture_output=True).stdout), ("f", b"hello"))
-            with contextlib.closing(sqlite3.connect(f"{at}/base")) as base, contextlib.closing(sqlite3.connect(":memory:")):
+            self.assertEqual(
+                (os.readlink(f"{at}/l"), subprocess.run(["cat", "l"], cwd=at, capture_output=True).stdout),
+                ("f", b"hello"),
+            )
+            with contextlib.closing(sqlite3.connect(f"{at}/base")) as base, contextlib.closing(
+                sqlite3.connect(":memory:")
+            ):
                 base.execute("create table t (x)")
             self.assertEqual(os.path.exists(f"{AT}x/{AT}"), False)
             shutil.copytree(at, f"{AT}/copy")
@@ -787,21 +1065,32 @@ class Outside(OfPatch):
             with atomfs.patch(self.tree, at=place):
                 os.makedirs(f"{place}/d")
                 written(f"{at}/place/f", "tree")
-                self.assertEqual((text_of(f"{place}/../real"), text_of(f"{place}/d/../../real"), text_of(f"{at}/./place//d/../f")), ("real", "real", "tree"))
+                self.assertEqual(
+                    (text_of(f"{place}/../real"), text_of(f"{place}/d/../../real"), text_of(f"{at}/./place//d/../f")),
+                    ("real", "real", "tree"),
+                )
                 os.chdir(at)
-                self.assertEqual((text_of("place/f"), text_of("real"), sorted(os.listdir())), ("tree", "real", ["real"]))
+                self.assertEqual(
+                    (text_of("place/f"), text_of("real"), sorted(os.listdir())), ("tree", "real", ["real"])
+                )
                 os.chdir("place/d")
                 self.assertEqual((os.getcwd(), text_of("../f"), text_of("../../real")), (f"{place}/d", "tree", "real"))
                 os.rename(f"{place}/d", f"{place}/moved")
                 self.assertEqual(os.getcwd(), f"{place}/moved")
                 with self.assertRaises(OSError) as raised:
                     os.rename("../f", "../../f")
-                self.assertEqual((raised.exception.errno, raised.exception.filename, raised.exception.filename2), (errno.EXDEV, "../f", "../../f"))
+                self.assertEqual(
+                    (raised.exception.errno, raised.exception.filename, raised.exception.filename2),
+                    (errno.EXDEV, "../f", "../../f"),
+                )
                 os.rmdir(f"{place}/moved")
                 self.assertRaises(FileNotFoundError, os.getcwd)
                 self.assertRaises(FileNotFoundError, os.stat, "x")
                 os.chdir("/")
-                self.assertEqual((os.getcwd(), os.path.realpath("x"), os.path.exists("d"), os.path.exists("proc")), ("/", "/x", False, True))
+                self.assertEqual(
+                    (os.getcwd(), os.path.realpath("x"), os.path.exists("d"), os.path.exists("proc")),
+                    ("/", "/x", False, True),
+                )
                 os.chdir(place)
                 with descriptor(at, os.O_RDONLY) as number:
                     os.fchdir(number)
@@ -818,7 +1107,9 @@ class Outside(OfPatch):
             written(f"{at}/place/hidden")
             os.symlink("place", f"{at}/link")
             with atomfs.patch(self.tree, at=f"{at}/place"):
-                self.assertEqual((os.listdir(f"{at}/place"), os.listdir(f"{at}/link"), os.path.islink(f"{at}/link")), ([], [], True))
+                self.assertEqual(
+                    (os.listdir(f"{at}/place"), os.listdir(f"{at}/link"), os.path.islink(f"{at}/link")), ([], [], True)
+                )
                 written(f"{at}/link/f", "tree")
                 self.assertEqual((self.tree.read("/f"), text_of(f"{at}/link/../place/f")), (b"tree", "tree"))
                 os.unlink(f"{at}/link")
@@ -827,19 +1118,32 @@ class Outside(OfPatch):
     def test_restored(self):
         """All is as it was after the end, whatever happens, and what a module has taken meanwhile goes to the disk."""
         names = [name for name in _table.REPLACED if _table.found(name) is not None]
-        before = [_table.found(name) for name in names] + [io.open, os.supports_dir_fd, tempfile._TemporaryFileCloser.__dict__]
+        before = [_table.found(name) for name in names] + [
+            io.open,
+            os.supports_dir_fd,
+            tempfile._TemporaryFileCloser.__dict__,
+        ]
         taken = []
         with self.assertRaises(KeyError), atomfs.patch(self.tree, at=AT):
             taken += [os.stat, open, io.FileIO]
-            self.assertEqual([captured(AT), Kept.listed(AT), Kept().of_default(AT), of_default(AT)], [[], [], ([], open), []])
+            self.assertEqual(
+                [captured(AT), Kept.listed(AT), Kept().of_default(AT), of_default(AT)], [[], [], ([], open), []]
+            )
             self.assertIn(os.stat, os.supports_dir_fd)
 
             class Taken:
                 listed = os.listdir
 
-            self.assertEqual((Taken().listed(AT), os.listdir.__name__, inspect.signature(os.listdir).parameters.keys()), ([], "listdir", {"path"}))
+            self.assertEqual(
+                (Taken().listed(AT), os.listdir.__name__, inspect.signature(os.listdir).parameters.keys()),
+                ([], "listdir", {"path"}),
+            )
             raise KeyError
-        after = [_table.found(name) for name in names] + [io.open, os.supports_dir_fd, tempfile._TemporaryFileCloser.__dict__]
+        after = [_table.found(name) for name in names] + [
+            io.open,
+            os.supports_dir_fd,
+            tempfile._TemporaryFileCloser.__dict__,
+        ]
         self.assertEqual([name for name, one, other in zip(names, before, after) if one is not other], [])
         self.assertEqual(before[-3:], after[-3:])
         for call in (*taken, captured, Kept.listed, Kept().of_default, of_default):
@@ -865,12 +1169,44 @@ class Outside(OfPatch):
         self.assertEqual([work(), work(), self.tree.read("/f")], [f"{AT}/f", f"{AT}/f", b"text"])
 
 
+class NothingOnTheDisk(OfPatch):
+    """What knows nothing of a patch, and is made by relative paths, finds no directory of the disk while the tree has the working one."""
+
+    def test_relative(self):
+        libc, before = ctypes.CDLL(None, use_errno=True), os.getcwd()
+        with tempfile.TemporaryDirectory() as at:
+            os.chdir(at)
+            with atomfs.patch(self.tree, at=AT) as patch:
+                filled(AT)
+                os.chdir(f"{AT}/d")
+                self.assertEqual((libc.creat(b"leak", 0o600), ctypes.get_errno()), (-1, errno.ENOENT))
+                self.assertEqual(sorted(os.listdir()), ["e", "g"])
+                with self.assertRaises(FileNotFoundError):
+                    patch._real["os.mkdir"]("leak")
+                child = os.fork()
+                if not child:
+                    try:
+                        written("of_child")
+                        os.execv("/bin/sh", ["sh", "-c", "echo > leak"])
+                    finally:
+                        os._exit(7)
+                self.assertEqual(os.waitpid(child, 0)[1] >> 8, 7)
+                self.assertEqual(sorted(os.listdir()), ["e", "g"])
+                os.chdir(at)
+                self.assertEqual((os.getcwd(), patch._real["os.getcwd"]()), (os.path.realpath(at),) * 2)
+                os.chdir(AT)
+            self.assertEqual((os.getcwd(), os.listdir(), os.listdir(at)), (os.path.realpath(at), [], []))
+            os.chdir(before)
+
+
 class Open(OfPatch):
     def test_a_moved_and_a_removed_file(self):
         """A descriptor goes with its file, and has it after it was removed or replaced."""
 
         def row(at):
-            with open(f"{at}/f", "r+") as file, open(f"{at}/d/g", "rb+", 0) as other, descriptor(f"{at}/d", 0) as folder:
+            with open(f"{at}/f", "r+") as file, open(f"{at}/d/g", "rb+", 0) as other, descriptor(
+                f"{at}/d", 0
+            ) as folder:
                 os.rename(f"{at}/d", f"{at}/k")
                 os.rename(f"{at}/f", f"{at}/k/f")
                 file.write("J")
@@ -916,12 +1252,16 @@ class Open(OfPatch):
             shutil.copyfile(f"{AT}/f", f"{AT}/g")
             self.assertEqual(pathlib.Path(AT, "g").read_bytes(), data)
             with descriptor(f"{AT}/f") as number:
-                self.assertEqual((os.read(number, 2_000_000), os.read(number, 2**31)), (data[:2_000_000], data[2_000_000:]))
+                self.assertEqual(
+                    (os.read(number, 2_000_000), os.read(number, 2**31)), (data[:2_000_000], data[2_000_000:])
+                )
             shutil.rmtree(f"{AT}/d")
             os.rename(f"{AT}/g", f"{AT}/{'n' * 255}")
             with self.assertRaisesRegex(OSError, "a name of more than 255 bytes: '") as raised:
                 os.mkdir(f"{AT}/{'n' * 256}")
-            self.assertEqual((raised.exception.errno, raised.exception.filename), (errno.ENAMETOOLONG, f"{AT}/{'n' * 256}"))
+            self.assertEqual(
+                (raised.exception.errno, raised.exception.filename), (errno.ENAMETOOLONG, f"{AT}/{'n' * 256}")
+            )
             self.assertEqual((sorted(os.listdir(AT)), tree.check()), (["f", "n" * 255], "lawful"))
 
     def test_calls(self):

@@ -3,6 +3,7 @@ import os
 import pathlib
 import subprocess
 import sys
+import tempfile
 import unittest
 
 import atomfs
@@ -12,8 +13,74 @@ SCRIPT = "atomfs 1\nthread m\nmkdir /a\nmkdir /a/b\nthread r\nrename /a /b\nsche
 
 
 def ran(*words, text="", **more):
-    done = subprocess.run([sys.executable, "-m", "atomfs", *words], input=text, capture_output=True, text=True, env=os.environ | more)
+    done = subprocess.run(
+        [sys.executable, "-m", "atomfs", *words], input=text, capture_output=True, text=True, env=os.environ | more
+    )
     return done.returncode, done.stdout, done.stderr
+
+
+WORKS = """
+import os, pathlib, subprocess, sys, tempfile
+
+pathlib.Path("made").write_text("text")
+os.symlink("made", "link")
+os.chmod("made", 0o640)
+with tempfile.TemporaryDirectory() as folder:
+    print(sys.argv[1:], os.listdir(folder), __name__, os.path.exists("beside"))
+print(subprocess.run(["cat", "link"], capture_output=True, text=True).stdout)
+sys.exit(3)
+"""
+
+
+class Exec(unittest.TestCase):
+    def setUp(self):
+        folder = tempfile.TemporaryDirectory()
+        self.addCleanup(folder.cleanup)
+        self.folder = pathlib.Path(folder.name)
+        (self.folder / "works.py").write_text(WORKS)
+        (self.folder / "beside").write_text("")
+
+    def ran(self, *words):
+        words = [sys.executable, "-m", "atomfs", "exec", *words]
+        done = subprocess.run(words, capture_output=True, text=True, cwd=self.folder)
+        return done.returncode, done.stdout, done.stderr
+
+    def test_exec(self):
+        """A program works in memory, and what is asked for comes out: its status, its journal, and what it has made."""
+        told = "['a', '--to'] [] __main__ {}\ntext\n"
+        self.assertEqual(self.ran("works.py", "a", "--to"), (3, told.format(False), ""))
+        self.assertEqual(sorted(path.name for path in self.folder.iterdir()), ["beside", "works.py"])
+        found = self.ran("--journal", "journal", "--to", "out", "works.py", "a", "--to")
+        self.assertEqual(found, (3, told.format(False), ""))
+        self.assertEqual(atomfs.check((self.folder / "journal").read_text()), "lawful")
+        self.assertIn("mknod /work/made", (self.folder / "journal").read_text())
+        self.assertEqual((self.folder / "out" / "link").read_text(), "text")
+        self.assertEqual(os.readlink(self.folder / "out" / "link"), "made")
+        self.assertEqual((self.folder / "out" / "made").stat().st_mode & 0o777, 0o640)
+
+    def test_at(self):
+        """A directory of the disk begins as it is, and stays so; programs of the disk are refused where they would find the one of the disk."""
+        (self.folder / "reads.py").write_text(
+            "import os\nprint(sorted(os.listdir()))\nos.unlink('beside')\nopen('new', 'w').close()\n"
+        )
+        status, told, message = self.ran("--at", ".", "--to", "out", "reads.py")
+        self.assertEqual((status, told, message), (0, "['beside', 'reads.py', 'works.py']\n", ""))
+        self.assertEqual(sorted(path.name for path in self.folder.iterdir()), ["beside", "out", "reads.py", "works.py"])
+        self.assertEqual(sorted(os.listdir(self.folder / "out")), ["new", "reads.py", "works.py"])
+
+    def test_ends(self):
+        for text, status, told in (
+            ("raise KeyError('x')", 1, "KeyError: 'x'"),
+            ("import sys; sys.exit('words')", 1, "words\n"),
+            ("pass", 0, ""),
+        ):
+            (self.folder / "ends.py").write_text(text)
+            found = self.ran("ends.py")
+            self.assertEqual((found[0], found[1]), (status, ""))
+            self.assertIn(told, found[2])
+        self.assertEqual(self.ran("none.py")[0], 2)
+        self.assertIn("there is no program none.py", self.ran("none.py")[2])
+        self.assertEqual(self.ran()[0], 2)
 
 
 class Program(unittest.TestCase):
@@ -40,7 +107,32 @@ class Program(unittest.TestCase):
         missing = pathlib.Path(__file__).with_name("none")
         status, told, message = ran("--version", ATOMFS_PROGRAM=str(missing))
         self.assertEqual((status, told), (127, ""))
-        self.assertEqual(message, f"atomfs: there is no program: No such file or directory: {missing}; ATOMFS_PROGRAM names one that is elsewhere\n")
+        self.assertEqual(
+            message,
+            f"atomfs: there is no program: No such file or directory: {missing}; ATOMFS_PROGRAM names one that is elsewhere\n",
+        )
+
+
+class OfTheLibrary(unittest.TestCase):
+    def told(self, named):
+        """The last line of what is told where the library that a variable names, or the package's own, is not there."""
+        environment = {name: value for name, value in os.environ.items() if name != "ATOMFS_LIBRARY"} | named
+        words = [sys.executable, "-c", "import atomfs; atomfs.Tree()"]
+        done = subprocess.run(words, capture_output=True, text=True, env=environment)
+        self.assertEqual(done.returncode, 1)
+        return done.stderr.splitlines()[-1]
+
+    def test_named(self):
+        """A library that is named and not there: the message has its path and the variable."""
+        self.assertRegex(
+            self.told({"ATOMFS_LIBRARY": "/none/lib.so"}),
+            "^OSError: the library of atomfs cannot be loaded: /none/lib.so: .*; ATOMFS_LIBRARY names it$",
+        )
+
+    @unittest.skipIf(pathlib.Path(atomfs.__file__).with_name("libatomfs.so").exists(), "the package has a library")
+    def test_own(self):
+        """Without a library of its own the package says what makes one."""
+        self.assertRegex(self.told({}), "; embed/build makes one, and ATOMFS_LIBRARY names it$")
 
 
 if __name__ == "__main__":

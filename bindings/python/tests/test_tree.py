@@ -5,6 +5,7 @@ import os
 import pathlib
 import pickle
 import re
+import shutil
 import threading
 import time
 import unittest
@@ -126,7 +127,11 @@ class Calls(OfTree):
         self.assertEqual(self.tree.read("/f", 0, 2**64 - 1), every)
         self.fails(OSError, errno.EFBIG, lambda: self.tree.write("/f", 2**31, b"x"), "/f")
         self.assertEqual(self.tree.write("/f", 2**64 - 1, b""), 0)
-        for call in (lambda: self.tree.read("/f", -1), lambda: self.tree.write("/f", -1, b""), lambda: self.tree.truncate("/f", -1)):
+        for call in (
+            lambda: self.tree.read("/f", -1),
+            lambda: self.tree.write("/f", -1, b""),
+            lambda: self.tree.truncate("/f", -1),
+        ):
             self.assertRaises(ValueError, call)
         self.assertRaises(TypeError, lambda: self.tree.write("/f", 0, "text"))
 
@@ -189,8 +194,12 @@ class Lists(unittest.TestCase):
         tree, names = self.tree, self.names
         paths = [f"/d/{name}" for name in names]
         self.assertEqual(self.lists(lambda: self.assertEqual(tree.listdir("/d"), names)), 3)
-        self.assertEqual(self.lists(lambda: self.assertEqual(tree.listdir(b"/d"), [name.encode() for name in names])), 3)
-        self.assertEqual(self.lists(lambda: self.assertEqual([str(path) for path in tree.path("/d").iterdir()], paths)), 3)
+        self.assertEqual(
+            self.lists(lambda: self.assertEqual(tree.listdir(b"/d"), [name.encode() for name in names])), 3
+        )
+        self.assertEqual(
+            self.lists(lambda: self.assertEqual([str(path) for path in tree.path("/d").iterdir()], paths)), 3
+        )
         self.assertEqual(self.lists(lambda: self.assertEqual(list(tree.walk("/d")), [("/d", [], names)])), 3)
         self.assertEqual(self.lists(lambda: self.assertEqual(tree.glob("/d/*"), paths)), 3)
         for name in names[256:]:
@@ -316,8 +325,16 @@ class Words(OfTree):
                 self.says(OSError, words, lambda: tree.truncate("/f", limits.file_bytes + 1))
                 self.says(OSError, words, lambda: tree.write("/f", limits.file_bytes, b"x"))
                 name, deep = "/" + "n" * limits.name_bytes, "/n" * limits.path_names
-                self.says(OSError, f"[Errno 36] Path has a name of more than {of_name} bytes: {name + 'n'!r}", lambda: tree.stat(name + "n"))
-                self.says(OSError, f"[Errno 36] Path has more than {of_path} names: {deep + '/n'!r}", lambda: tree.stat(deep + "/n"))
+                self.says(
+                    OSError,
+                    f"[Errno 36] Path has a name of more than {of_name} bytes: {name + 'n'!r}",
+                    lambda: tree.stat(name + "n"),
+                )
+                self.says(
+                    OSError,
+                    f"[Errno 36] Path has more than {of_path} names: {deep + '/n'!r}",
+                    lambda: tree.stat(deep + "/n"),
+                )
                 self.assertRaises(FileNotFoundError, tree.stat, name)
                 self.assertRaises(FileNotFoundError, tree.stat, deep)
 
@@ -360,14 +377,26 @@ class Words(OfTree):
         """The error of a text names its line, and its kind as the program does."""
         header, line = "atomfs-journal 1\n", "a line has no form of its place, or a request no call"
         for kind, words, call in (
-            (atomfs.Status.BAD_LINE, f"line 3: BadLine: {line}", lambda: atomfs.run("atomfs 1\nthread t\nmkdr /a\nschedule\n")),
-            (atomfs.Status.BAD_PATH, "line 3: BadPath: no path", lambda: atomfs.run("atomfs 1\nthread t\nmkdir a\nschedule\n")),
+            (
+                atomfs.Status.BAD_LINE,
+                f"line 3: BadLine: {line}",
+                lambda: atomfs.run("atomfs 1\nthread t\nmkdr /a\nschedule\n"),
+            ),
+            (
+                atomfs.Status.BAD_PATH,
+                "line 3: BadPath: no path",
+                lambda: atomfs.run("atomfs 1\nthread t\nmkdir a\nschedule\n"),
+            ),
             (
                 atomfs.Status.THREAD_TWICE,
                 "line 3: ThreadTwice: a thread has two blocks",
                 lambda: atomfs.run("atomfs 1\nthread t\nthread t\nschedule\n"),
             ),
-            (atomfs.Status.BAD_HEADER, "line 1: BadHeader: the first line is another than it has to be", lambda: atomfs.check("no journal")),
+            (
+                atomfs.Status.BAD_HEADER,
+                "line 1: BadHeader: the first line is another than it has to be",
+                lambda: atomfs.check("no journal"),
+            ),
             (atomfs.Status.BAD_LINE, f"line 2: BadLine: {line}", lambda: atomfs.check(header + "mkdir /a\n")),
         ):
             self.assertEqual(self.says(atomfs.Error, words, call).status, kind)
@@ -490,7 +519,13 @@ class OpenAndClosed(OfTree):
         self.tree.close()
         self.tree.close()
         self.assertTrue(self.tree.closed)
-        for call in (lambda: self.tree.stat("/"), self.tree.journal, self.tree.checkpoint, self.tree.seat, self.tree.tree):
+        for call in (
+            lambda: self.tree.stat("/"),
+            self.tree.journal,
+            self.tree.checkpoint,
+            self.tree.seat,
+            self.tree.tree,
+        ):
             with self.assertRaises(atomfs.ClosedError) as raised:
                 call()
             self.assertEqual(raised.exception.status, atomfs.Status.CLOSED)
@@ -506,7 +541,11 @@ class OpenAndClosed(OfTree):
 
     def test_limits_of_names_and_files(self):
         """What each set of limits takes at most, and the version of the journal."""
-        headers = "atomfs-journal 1\n", "atomfs-journal 3\nstart\ndir /\nentries\n", "atomfs-journal 4\nstart\ndir /\nentries\n"
+        headers = (
+            "atomfs-journal 1\n",
+            "atomfs-journal 3\nstart\ndir /\nentries\n",
+            "atomfs-journal 4\nstart\ndir /\nentries\n",
+        )
         for limits, header in zip(atomfs.Limits, headers):
             name = "/" + "n" * limits.name_bytes
             with self.subTest(limits), atomfs.Tree(limits=limits) as tree:
@@ -531,7 +570,9 @@ class OpenAndClosed(OfTree):
         for one in copies:
             with one:
                 self.assertTrue(one.journal().endswith("entries\n"))
-                self.assertEqual((one.read("/a/f"), len(one), one.limit, one.limits), (bytes(range(256)), 3, 10, atomfs.Limits.V1))
+                self.assertEqual(
+                    (one.read("/a/f"), len(one), one.limit, one.limits), (bytes(range(256)), 3, 10, atomfs.Limits.V1)
+                )
                 one.unlink("/a/f")
                 self.assertEqual(one.check(), "lawful")
         self.assertEqual(list(tree), ["/", "/b"])
@@ -561,11 +602,15 @@ class Journals(OfTree):
         self.assertEqual((raised.exception.status, raised.exception.about), (atomfs.Status.BAD_HEADER, 1))
 
     def test_a_journal_that_is_not_lawful(self):
-        self.assertEqual(atomfs.check(b"atomfs-journal 1\nbegin 1 0 mkdir /a\ncommit 1\nreturn 1 failed ENOENT\n"), "fault 3 WrongReply")
+        self.assertEqual(
+            atomfs.check(b"atomfs-journal 1\nbegin 1 0 mkdir /a\ncommit 1\nreturn 1 failed ENOENT\n"),
+            "fault 3 WrongReply",
+        )
 
     def test_run(self):
         self.assertEqual(
-            atomfs.run("atomfs 1\nschedule\nfinish\n"), "atomfs-journal 1\ntree\ndir /\nbegun 0 committed 0 returned 0\n"
+            atomfs.run("atomfs 1\nschedule\nfinish\n"),
+            "atomfs-journal 1\ntree\ndir /\nbegun 0 committed 0 returned 0\n",
         )
 
     def test_checkpoint(self):
@@ -626,7 +671,11 @@ class Seats(OfTree):
         self.fails(OSError, errno.EFBIG, seat.finish, "/f")
         seat.begin.truncate("/f", 2**64 + 1)
         self.fails(OSError, errno.EFBIG, seat.finish, "/f")
-        for call in (lambda: seat.begin.read("/f", -1, 1), lambda: seat.begin.read("/f", 1, -1), lambda: seat.begin.truncate("/f", -1)):
+        for call in (
+            lambda: seat.begin.read("/f", -1, 1),
+            lambda: seat.begin.read("/f", 1, -1),
+            lambda: seat.begin.truncate("/f", -1),
+        ):
             self.assertRaises(ValueError, call)
         self.assertEqual(self.tree.read("/f", 2**64, 2**64), b"")
         self.assertEqual(self.tree.stat("/f").size, 0)
@@ -665,7 +714,10 @@ class Seats(OfTree):
         writer.finish()
         begins = "begin 1 1 mkdir /a\ncommit 1\nreturn 1 ok\n"
         self.assertEqual(self.tree.journal(), "atomfs-journal 4\n# seat 1 writer\nstart\ndir /\nentries\n" + begins)
-        self.assertEqual((self.tree.check(), self.tree.checkpoint()), ("lawful", self.tree.journal().replace("dir /a\n", "") + begins))
+        self.assertEqual(
+            (self.tree.check(), self.tree.checkpoint()),
+            ("lawful", self.tree.journal().replace("dir /a\n", "") + begins),
+        )
         for name in ("", "Writer", "a b", "a\n", "finish", "a" * 17, "writer"):
             with self.subTest(name):
                 self.assertRaises(ValueError, self.tree.seat, name)
@@ -759,7 +811,11 @@ class Threads(OfTree):
 
         def work(seat):
             for _ in range(100):
-                for begin in (lambda: seat.begin.mkdir("/d"), lambda: seat.begin.rename("/d", "/e"), lambda: seat.begin.rmdir("/e")):
+                for begin in (
+                    lambda: seat.begin.mkdir("/d"),
+                    lambda: seat.begin.rename("/d", "/e"),
+                    lambda: seat.begin.rmdir("/e"),
+                ):
                     begin()
                     try:
                         seat.finish(wait=True)
@@ -841,6 +897,67 @@ class Threads(OfTree):
         pieces.append(self.tree.checkpoint())
         self.assertEqual(sum(piece.count("\nreturn ") for piece in pieces), 1200)
         self.assertEqual({atomfs.check(piece) for piece in pieces}, {"lawful"})
+
+
+class Names(unittest.TestCase):
+    def test_words_of_os(self):
+        """The words of `os` and `shutil` do what those of the calls do."""
+        with atomfs.Tree() as tree:
+            tree.touch("/f")
+            tree.touch("/f")
+            self.assertRaises(FileExistsError, tree.touch, "/f", exist_ok=False)
+            tree.makedirs("/d/e")
+            self.assertRaises(FileExistsError, tree.touch, "/d")
+            tree.write("/f", 0, b"text")
+            self.assertEqual(
+                (tree.isdir("/d"), tree.isfile("/f"), tree.isdir("/f"), tree.isfile("/none")),
+                (True, True, False, False),
+            )
+            self.assertEqual((tree.getsize("/f"), tree.getsize("/d")), (4, 1))
+            self.assertRaises(FileNotFoundError, tree.getsize, "/none")
+            tree.copytree("/d", "/c")
+            self.assertRaises(NotADirectoryError, tree.copytree, "/f", "/c2")
+            self.assertRaises(FileExistsError, tree.copytree, "/d", "/c")
+            self.assertEqual(tree.move("/f", "/d"), "/d/f")
+            tree.touch("/f")
+            self.assertRaises(shutil.Error, tree.move, "/f", "/d")
+            self.assertEqual(
+                (tree.move("/f", "/g"), tree.last_calls(2)), ("/g", ["stat /g: failed ENOENT", "rename /f /g: ok"])
+            )
+            tree.replace("/g", "/d/f")
+            tree.remove("/d/f")
+            self.assertEqual((list(tree), tree.check()), (["/", "/c", "/c/e", "/d", "/d/e"], "lawful"))
+
+    def test_near_words(self):
+        with atomfs.Tree() as tree:
+            for name, near in (
+                ("is_fil", "is_file"),
+                ("ls", "listdir"),
+                ("makedir", "mkdir"),
+                ("chmod", "atomfs.patch"),
+            ):
+                with self.assertRaisesRegex(
+                    AttributeError, f"'Tree' object has no attribute '{name}': {near} is near to it"
+                ):
+                    getattr(tree, name)
+            with self.assertRaisesRegex(AttributeError, "has no attribute 'zzzz'$"):
+                tree.zzzz
+            self.assertFalse(hasattr(tree, "__fspath__"))
+
+    def test_errors_name_the_call(self):
+        with atomfs.Tree() as tree:
+            seat = tree.seat("writer")
+            self.assertEqual(repr(seat), f"<atomfs.Seat {seat.number} 'writer': no call yet>")
+            seat.begin.rename("/a", "/b")
+            self.assertEqual(repr(seat), f"<atomfs.Seat {seat.number} 'writer': rename /a /b>")
+            with self.assertRaisesRegex(atomfs.Error, "the seat has a call under way: rename /a /b$"):
+                seat.begin.mkdir("/c")
+            for call in (tree.checkpoint, tree.forget):
+                with self.assertRaisesRegex(atomfs.UnderWayError, "a call is under way: rename /a /b$") as raised:
+                    call()
+                self.assertEqual(raised.exception.about, 1)
+            self.assertRaises(FileNotFoundError, seat.finish)
+            self.assertIsInstance(tree.checkpoint(), str)
 
 
 if __name__ == "__main__":

@@ -106,8 +106,14 @@ class Looks(OfTree):
         self.fill()
         of_file, of_root = self.tree.stat("/a/b/f"), self.tree.stat("/")
         self.assertEqual((of_file, of_file.st_size), (Stat(False, 3), 3))
-        self.assertTrue(stat.S_ISREG(of_file.st_mode) and stat.S_ISDIR(of_root.st_mode) and not stat.S_ISDIR(of_file.st_mode))
-        for field, words in (("st_mtime", "times"), ("st_uid", "owners"), ("st_ino", "numbers of nodes, devices and links")):
+        self.assertTrue(
+            stat.S_ISREG(of_file.st_mode) and stat.S_ISDIR(of_root.st_mode) and not stat.S_ISDIR(of_file.st_mode)
+        )
+        for field, words in (
+            ("st_mtime", "times"),
+            ("st_uid", "owners"),
+            ("st_ino", "numbers of nodes, devices and links"),
+        ):
             with self.assertRaisesRegex(AttributeError, f"{field}: a tree keeps no {words}"):
                 getattr(of_file, field)
 
@@ -343,7 +349,17 @@ class Files(OfTree):
         self.fails(FileNotFoundError, errno.ENOENT, lambda: self.tree.open("/x"), "/x")
         self.fails(IsADirectoryError, errno.EISDIR, lambda: self.tree.open("/", "w"), "/")
         self.fails(NotADirectoryError, errno.ENOTDIR, lambda: self.tree.open("/f/x", "w"), "/f/x")
-        for given in (("rw",), ("",), ("rr",), ("rbt",), ("rU",), ("b",), ("w", 0), ("wb", -1, "utf-8"), ("w", -1, None, None, "x")):
+        for given in (
+            ("rw",),
+            ("",),
+            ("rr",),
+            ("rbt",),
+            ("rU",),
+            ("b",),
+            ("w", 0),
+            ("wb", -1, "utf-8"),
+            ("w", -1, None, None, "x"),
+        ):
             with self.subTest(given):
                 self.assertRaises(ValueError, self.tree.open, "/f", *given)
         self.assertRaises(LookupError, self.tree.open, "/f", "w", encoding="none")
@@ -374,8 +390,19 @@ class Paths(OfTree):
         """It is a pure path, and what pathlib makes of it is a path of the same tree."""
         path = Path("/a", "b/f", tree=self.tree)
         self.assertIsInstance(path, pathlib.PurePosixPath)
-        self.assertEqual((path, hash(path), str(path)), (pathlib.PurePosixPath("/a/b/f"), hash(pathlib.PurePosixPath("/a/b/f")), "/a/b/f"))
-        made = path.parent, *path.parents, path / "x", path.with_name("g"), path.with_suffix(".t"), self.root.joinpath("a"), path.relative_to("/a")
+        self.assertEqual(
+            (path, hash(path), str(path)),
+            (pathlib.PurePosixPath("/a/b/f"), hash(pathlib.PurePosixPath("/a/b/f")), "/a/b/f"),
+        )
+        made = (
+            path.parent,
+            *path.parents,
+            path / "x",
+            path.with_name("g"),
+            path.with_suffix(".t"),
+            self.root.joinpath("a"),
+            path.relative_to("/a"),
+        )
         for one in made:
             self.assertIsInstance(one, Path)
             self.assertIs(one.tree, self.tree)
@@ -395,12 +422,20 @@ class Paths(OfTree):
         self.assertEqual([str(path) for path in (self.root / "a").glob("*")], ["/a/b", "/a/g"])
         self.assertEqual([str(path) for path in self.root.rglob("f")], ["/a/b/f"])
         self.assertEqual([str(path) for path in self.root.glob(pathlib.PurePosixPath("a", "?"))], ["/a/b", "/a/g"])
-        self.assertEqual([(str(at), names, files) for at, names, files in (self.root / "a").walk()], [("/a", ["b"], ["g"]), ("/a/b", [], ["f"])])
+        self.assertEqual(
+            [(str(at), names, files) for at, names, files in (self.root / "a").walk()],
+            [("/a", ["b"], ["g"]), ("/a/b", [], ["f"])],
+        )
         file = self.root / "a" / "g"
-        self.assertEqual((file.stat(), file.lstat().st_size, file.exists(), file.is_file(), file.is_dir()), (Stat(False, 1), 1, True, True, False))
+        self.assertEqual(
+            (file.stat(), file.lstat().st_size, file.exists(), file.is_file(), file.is_dir()),
+            (Stat(False, 1), 1, True, True, False),
+        )
         self.assertEqual((file.is_symlink(), file.is_mount(), self.root.is_mount()), (False, False, True))
         self.assertTrue(file.samefile("/a/g") and not file.samefile(self.root / "a"))
-        self.assertTrue(file.samefile("//a//g") and self.tree.path("//a/g").samefile(file) and self.tree.path("//").is_mount())
+        self.assertTrue(
+            file.samefile("//a//g") and self.tree.path("//a/g").samefile(file) and self.tree.path("//").is_mount()
+        )
         self.assertRaises(FileNotFoundError, file.samefile, "/x")
         self.assertRaises(ValueError, self.root.glob, "")
         self.assertRaises(NotImplementedError, self.root.glob, "/a")

@@ -8,12 +8,30 @@
         tree.write("/a/f", 0, b"hello")
         print(tree.read("/a/f"), tree.check())
 
-`atomfs.patch` lets `open`, `os` and what is made of them go to a tree below a directory. `atomfs.explore` draws interleavings of
-calls, and `atomfs.draw` a picture of them. `atomfs.History` records the calls of any other tree, and judges them. `atomfs.fs` is the
-same as a file system of PyFilesystem2, `atomfs.fsspec` as one of fsspec.
+`atomfs.patch` lets `open`, `os` and what is made of them go to a tree below a directory. `atomfs.explore` runs your functions in
+interleavings that a seed draws, and `atomfs.draw` makes a picture of a run. `atomfs.History` records the calls of any other tree, and
+judges them. `atomfs.fs` is the same as a file system of PyFilesystem2, `atomfs.fsspec` as one of fsspec.
 """
+from ._calls import binding
 from ._errors import ClosedError, Error, UnderWayError, WaitsError
-from ._explore import ScheduleError, explore, simulate
+from ._explore import (
+    PCT,
+    BudgetError,
+    DeadlockError,
+    Event,
+    Line,
+    PatienceError,
+    RunError,
+    Schedule,
+    ScheduleError,
+    Seen,
+    ThreadError,
+    explore,
+    simulate,
+    turn,
+)
+from ._explore.outcomes import Outcome, Outcomes, outcomes
+from ._header import VERSION as _VERSION
 from ._history import Answer, History
 from ._journal import ALL, LAST, NONE, Journal
 from ._library import NODE_LIMIT, PATH_LIMIT, Did, Limits, Status
@@ -26,7 +44,11 @@ from ._texts import check, run
 from ._tools import Picture, SeedVerdict, draw, explain, schedule, seeds, trace
 from ._tree import Begin, Seat, Stat, Step, Tree
 
-__version__ = "0.3.0"
+__version__ = _VERSION
+
+# The names by which errors are shown.
+for _error in (ScheduleError, RunError, DeadlockError, BudgetError, PatienceError, ThreadError):
+    _error.__module__ = __name__
 
 
 def library_version() -> str:
@@ -38,33 +60,46 @@ __all__ = [
     "ALL",
     "Answer",
     "Begin",
+    "BudgetError",
     "ClosedError",
+    "DeadlockError",
     "Did",
     "Error",
+    "Event",
     "History",
     "Journal",
     "LAST",
     "Lawful",
     "Limits",
+    "Line",
     "Linearized",
     "NODE_LIMIT",
     "NONE",
     "NoHistory",
     "NoOrder",
+    "Outcome",
+    "Outcomes",
     "PATH_LIMIT",
+    "PCT",
     "Path",
+    "PatienceError",
     "Picture",
+    "RunError",
+    "Schedule",
     "ScheduleError",
     "Seat",
     "SeedVerdict",
+    "Seen",
     "Snapshot",
     "Stat",
     "Status",
     "Step",
+    "ThreadError",
     "Tree",
     "UnderWayError",
     "Unknown",
     "WaitsError",
+    "binding",
     "check",
     "diff",
     "draw",
@@ -73,10 +108,12 @@ __all__ = [
     "front",
     "library_version",
     "linearize",
+    "outcomes",
     "patch",
     "run",
     "schedule",
     "seeds",
     "simulate",
     "trace",
+    "turn",
 ]

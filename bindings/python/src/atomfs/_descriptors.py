@@ -6,15 +6,18 @@ from __future__ import annotations
 
 import contextlib
 import errno
+import fcntl
 import functools
 import io
-import itertools
 import operator
 import os
-from typing import TYPE_CHECKING, Any, Callable, ContextManager, Dict, NoReturn, Optional, TypeVar, cast
+import secrets
+import warnings
+from typing import TYPE_CHECKING, Any, Callable, ContextManager, Dict, NoReturn, Optional, Tuple, Type, TypeVar, cast
 
 from ._errors import file_too_large
-from ._file import RawFile
+from ._metadata import BLOCK, Inode, Metadata, metadata_of
+from ._values import room_of
 
 if TYPE_CHECKING:
     from ._tree import Tree
@@ -22,8 +25,54 @@ if TYPE_CHECKING:
 _Method = TypeVar("_Method", bound=Callable[..., Any])
 # How many bytes are read at once at least, where there are so many.
 READ = 65_536
-# No system gives a process so many, so none of these numbers is a descriptor of the disk.
-_NUMBERS = itertools.count(1 << 30)
+# What asks `lseek` for data and for holes.
+_OF_HOLES = getattr(os, "SEEK_DATA", 3), getattr(os, "SEEK_HOLE", 4)
+# What keeps the number of a descriptor from the system: C that writes to it by itself gets an error. It has a high number itself.
+_KEEPER, _AWAY = "/dev/null", 512
+_keeper = -1
+# Those of the disk: a patch puts others into the modules meanwhile.
+_FileIO, _dup, _open, _close, _fstat = io.FileIO, os.dup, os.open, os.close, os.fstat
+_mkdir, _chdir, _fchdir, _rmdir = os.mkdir, os.chdir, os.fchdir, os.rmdir
+# Where a directory may be made for a moment.
+_FOLDERS = "/tmp", "/var/tmp", "/dev/shm"
+
+
+def _kept_number() -> int:
+    """A number that the system gives to no file as long as it is not closed: the lowest one."""
+    global _keeper
+    with contextlib.suppress(OSError):
+        return _dup(_keeper)
+    _keeper = _away(_open(_KEEPER, os.O_RDONLY | os.O_CLOEXEC))
+    return _dup(_keeper)
+
+
+def _leave() -> Optional[int]:
+    """Lets the process work in no directory of the disk, so that what knows nothing of the tree makes no file there by a relative path.
+
+    It answers a descriptor of the one where it was, or none where it stays there.
+    """
+    for above in _FOLDERS:
+        path = f"{above}/atomfs-{os.getpid()}-{secrets.token_hex(4)}"
+        try:
+            _mkdir(path)
+        except OSError:
+            continue
+        number = _open(".", os.O_RDONLY | os.O_DIRECTORY | os.O_CLOEXEC)
+        left = _away(number)
+        _chdir(path)
+        _rmdir(path)
+        return left
+    return None
+
+
+def _away(number: int) -> int:
+    """A descriptor with a high number in the place of another, where a process may have so many."""
+    try:
+        high = fcntl.fcntl(number, fcntl.F_DUPFD_CLOEXEC, _AWAY)
+    except OSError:
+        return number
+    _close(number)
+    return high
 
 
 def failed(number: int, *paths: Any) -> NoReturn:
@@ -36,7 +85,7 @@ def together(method: _Method) -> _Method:
 
     @functools.wraps(method)
     def held(self: Any, *given: Any, **named: Any) -> Any:
-        with self.tree.lock:
+        with self.tree._door:
             return method(self, *given, **named)
 
     return cast(_Method, held)
@@ -61,8 +110,8 @@ class told(ContextManager[None]):
 class Node:
     """What a descriptor speaks of: where it stands, or once it is removed the bytes of a file."""
 
-    def __init__(self, path: Optional[str], is_dir: bool, data: bytes = b"") -> None:
-        self.path, self.is_dir, self.data = path, is_dir, bytearray(data)
+    def __init__(self, path: Optional[str], is_dir: bool, inode: Inode) -> None:
+        self.path, self.is_dir, self.data, self.inode = path, is_dir, bytearray(), inode
         # How many descriptors speak of it.
         self.opened = 0
 
@@ -72,7 +121,7 @@ class Description:
 
     def __init__(self, node: Node, flags: int) -> None:
         mode = flags & os.O_ACCMODE
-        self.node, self.at, self.opened = node, 0, 0
+        self.node, self.at, self.opened, self.flags = node, 0, 0, flags
         self.reads, self.writes = mode != os.O_WRONLY, mode != os.O_RDONLY
         self.appends = bool(flags & os.O_APPEND)
 
@@ -86,6 +135,12 @@ class Descriptors:
         self._nodes: Dict[str, Node] = {}
         #: The working directory, where it is one of the tree.
         self.working: Optional[Node] = None
+        # The one of the disk meanwhile.
+        self._left: Optional[int] = None
+
+    @property
+    def _metadata(self) -> Metadata:
+        return metadata_of(self.tree)
 
     def __contains__(self, descriptor: object) -> bool:
         return descriptor in self._of
@@ -113,7 +168,7 @@ class Descriptors:
         """The node at a path."""
         node = self._nodes.get(path)
         if node is None or node.is_dir != is_dir:
-            node = self._nodes[path] = Node(path, is_dir)
+            node = self._nodes[path] = Node(path, is_dir, self._metadata.of(path, is_dir))
         return node
 
     def kept(self, path: str) -> Optional[bytes]:
@@ -140,10 +195,17 @@ class Descriptors:
             self._nodes[node.path] = node
 
     @together
-    def work_in(self, node: Optional[Node]) -> None:
-        """Makes a directory the working one."""
+    def work_in(self, node: Optional[Node], back: bool = False) -> None:
+        """Makes a directory the working one. By none it is one of the disk: that in which the process is, or with `back` the one before."""
         if node is not None:
             node.opened += 1
+            if self.working is None:
+                self._left = _leave()
+        elif self.working is not None and self._left is not None:
+            if back:
+                _fchdir(self._left)
+            _close(self._left)
+            self._left = None
         self._let_go(self.working)
         self.working = node
 
@@ -159,7 +221,10 @@ class Descriptors:
     @together
     def add(self, description: Description) -> int:
         """A new descriptor."""
-        number = next(_NUMBERS)
+        return self.put(_kept_number(), description)
+
+    def put(self, number: int, description: Description) -> int:
+        """Lets a number that the system has given away be a descriptor."""
         if not description.opened:
             description.node.opened += 1
         description.opened += 1
@@ -170,9 +235,21 @@ class Descriptors:
     def close(self, descriptor: int) -> None:
         description = self.of(descriptor)
         del self._of[descriptor]
+        with contextlib.suppress(OSError):
+            _close(descriptor)
         description.opened -= 1
         if not description.opened:
             self._let_go(description.node)
+
+    def holds(self, descriptor: int) -> bool:
+        """Whether a number is a descriptor still: one that was closed past all that is replaced is none."""
+        if descriptor not in self._of:
+            return False
+        with contextlib.suppress(OSError):
+            if os.path.samestat(_fstat(descriptor), _fstat(_keeper)):
+                return True
+        del self._of[descriptor]
+        return False
 
     @together
     def close_range(self, low: int, high: int) -> None:
@@ -187,16 +264,39 @@ class Descriptors:
             failed(errno.EISDIR)
         return description
 
+    def check_copied(self, source: int, target: int) -> None:
+        """Raises where one of two is a directory, or not open so: what appends is no target."""
+        those = [(self._of[one], one == target) for one in (source, target) if one in self._of]
+        if any(description.node.is_dir for description, _ in those):
+            failed(errno.EISDIR)
+        for description, is_target in those:
+            if not (description.writes and not description.appends if is_target else description.reads):
+                failed(errno.EBADF)
+
     def size(self, node: Node) -> int:
         """How many bytes a file has, or how many entries a directory."""
         return len(node.data) if node.path is None else self.tree.stat(node.path).size
+
+    @together
+    def all_of(self, description: Description) -> bytes:
+        """The bytes of a file."""
+        node = description.node
+        return bytes(node.data) if node.path is None else self.tree.read(node.path)
+
+    @together
+    def pwrite_all(self, descriptor: int, data: bytes, offset: int) -> None:
+        """Writes bytes of a file that has them already."""
+        size = self.size(self.of(descriptor).node)
+        self.pwrite(descriptor, data[: max(0, size - offset)], offset)
 
     @together
     def pread(self, descriptor: int, count: int, offset: int) -> bytes:
         node = self._file(descriptor, reads=True).node
         if count < 0 or offset < 0:
             failed(errno.EINVAL)
-        return bytes(node.data[offset : offset + count]) if node.path is None else self.tree.read(node.path, offset, count)
+        return (
+            bytes(node.data[offset : offset + count]) if node.path is None else self.tree.read(node.path, offset, count)
+        )
 
     @together
     def read(self, descriptor: int, count: int) -> bytes:
@@ -215,11 +315,16 @@ class Descriptors:
             return self.tree.write(node.path, offset, given)
         self._sized(node, max(len(node.data), offset + len(given) if given else 0))
         node.data[offset : offset + len(given)] = given
+        if given:
+            node.inode.wrote(self._metadata.clock())
         return len(given)
 
     @together
     def write(self, descriptor: int, data: Any) -> int:
         description = self._file(descriptor, writes=True)
+        if not memoryview(data).nbytes:
+            # Not even the position of one that appends moves.
+            return 0
         at = self.size(description.node) if description.appends else description.at
         count = self.pwrite(descriptor, data, at)
         description.at = at + count
@@ -232,6 +337,7 @@ class Descriptors:
             failed(errno.EINVAL)
         if description.node.path is None:
             self._sized(description.node, size)
+            description.node.inode.wrote(self._metadata.clock())
         else:
             self.tree.truncate(description.node.path, size)
 
@@ -246,6 +352,13 @@ class Descriptors:
     def seek(self, descriptor: int, offset: int, whence: int) -> int:
         description = self.of(descriptor)
         starts = {os.SEEK_SET: 0, os.SEEK_CUR: description.at}
+        if whence in _OF_HOLES:
+            # There are none: all is data up to the end.
+            size = self.size(description.node)
+            if not 0 <= offset < size:
+                failed(errno.ENXIO)
+            description.at = offset if whence == _OF_HOLES[0] else size
+            return description.at
         if whence not in (*starts, os.SEEK_END):
             failed(errno.EINVAL)
         at = operator.index(offset) + (starts[whence] if whence in starts else self.size(description.node))
@@ -255,75 +368,153 @@ class Descriptors:
         return at
 
 
-class DescribedFile(RawFile):
-    """A file object without a buffer over a descriptor."""
+class DescribedFile(io.FileIO):
+    """A file object without a buffer over a descriptor of a tree. Of the class of the disk it has what speaks of no file."""
 
-    def __init__(self, files: Descriptors, descriptor: int, name: Any, mode: str, closefd: bool) -> None:
-        super().__init__(name, mode)
-        self.closefd = closefd
-        self._files, self._descriptor = files, descriptor
+    _files: Descriptors
+    # What is opened where such an object is made by the words of `io.FileIO`, and the class of those that turn out to be of the disk.
+    _opened: Callable[..., Tuple[bool, Tuple[Any, ...]]]
+    _of_disk: Type[io.FileIO]
+    _disk: Type[io.FileIO]
+
+    def __init__(self, *given: Any, **named: Any) -> None:
+        kind = type(self)
+        in_tree, words = kind._opened(*given, **named)
+        if in_tree:
+            self._begin(*words)
+        else:
+            self.__class__ = kind._of_disk  # type: ignore[assignment]
+            kind._disk.__init__(self, *words)
+
+    def _begin(self, files: Descriptors, descriptor: int, name: Any, mode: str, closefd: bool) -> None:
+        _FileIO.__init__(self, descriptor, mode, False)
+        self._files, self._closefd = files, closefd
+        self.name = name
         if "a" in mode:
             self.seek(0, os.SEEK_END)
 
+    @classmethod
+    def of(cls, files: Descriptors, descriptor: int, name: Any, mode: str, closefd: bool) -> DescribedFile:
+        """The file object of a descriptor."""
+        made = cls.__new__(cls)
+        made._begin(files, descriptor, name, mode, closefd)
+        return made
+
+    @property
+    def closefd(self) -> bool:
+        return self._closefd
+
+    def __repr__(self) -> str:
+        if self.closed:
+            return "<_io.FileIO [closed]>"
+        name = f"name={self.name!r}" if hasattr(self, "name") else f"fd={self.fileno()}"
+        return f"<_io.FileIO {name} mode={self.mode!r} closefd={self._closefd}>"
+
     def _told(self) -> ContextManager[None]:
         """An error tells the name with which the file was opened, where it is a path."""
-        return told(self.name) if isinstance(self.name, (str, bytes)) else contextlib.nullcontext()
+        name = getattr(self, "name", None)
+        return told(name) if isinstance(name, (str, bytes)) else contextlib.nullcontext()
 
-    def fileno(self) -> int:
-        self._check()
-        return self._descriptor
+    def _check(self, may: bool = True, what: str = "") -> int:
+        number = self.fileno()
+        if not may:
+            raise io.UnsupportedOperation(f"File not open for {what}")
+        return number
 
-    def isatty(self) -> bool:
-        self._check()
-        return False
-
-    def _next(self, count: int) -> bytes:
+    def read(self, size: Optional[int] = -1) -> bytes:
+        number = self._check(self.readable(), "reading")
+        if size is None or size < 0:
+            return self.readall()
         with self._told():
-            return self._files.read(self._descriptor, count)
+            return self._files.read(number, size)
+
+    def readinto(self, buffer: Any) -> int:
+        number = self._check(self.readable(), "reading")
+        room = room_of(buffer)
+        with self._told():
+            data = self._files.read(number, len(room))
+        room[: len(data)] = data
+        return len(data)
 
     def readall(self) -> bytes:
-        self._check(self._reads, "reading")
-        data = self._next(READ)
-        return data + self._next(self._files.tree.limits.file_bytes) if len(data) == READ else data
+        number = self._check(self.readable(), "reading")
+        with self._told():
+            data = self._files.read(number, READ)
+            return data + self._files.read(number, self._files.tree.limits.file_bytes) if len(data) == READ else data
 
     def write(self, data: Any) -> int:
-        self._check(self._writes, "writing")
+        number = self._check(self.writable(), "writing")
         with self._told():
-            return self._files.write(self._descriptor, data)
+            return self._files.write(number, data)
 
     def seek(self, offset: int, whence: int = os.SEEK_SET) -> int:
-        self._check()
-        return self._files.seek(self._descriptor, offset, whence)
+        return self._files.seek(self.fileno(), offset, whence)
 
     def tell(self) -> int:
-        return self.seek(0, os.SEEK_CUR)
+        return self._files.seek(self.fileno(), 0, os.SEEK_CUR)
 
     def truncate(self, size: Optional[int] = None) -> int:
-        self._check(self._writes, "writing")
+        number = self._check(self.writable(), "writing")
         size = self.tell() if size is None else size
         with self._told():
-            self._files.truncate(self._descriptor, size)
+            self._files.truncate(number, size)
         return size
 
     def close(self) -> None:
-        if self.closed:
+        if self.closed or not hasattr(self, "_closefd"):
+            super().close()
             return
-        super().close()
-        if self.closefd and self._descriptor in self._files:
-            self._files.close(self._descriptor)
+        number = _FileIO.fileno(self)
+        if getattr(self, "_finalizing", False):
+            self._dealloc_warn(self)
+        try:
+            super().close()
+        finally:
+            if self._closefd:
+                self._files.close(number)
+
+    def _dealloc_warn(self, source: object) -> None:
+        """Says that nobody has closed it."""
+        if not self.closed and self._closefd:
+            warnings.warn(f"unclosed file {source!r}", ResourceWarning, 2, source)
+
+
+def twin_of(kind: type, opened: Callable[..., Any], disk: Any) -> type:
+    """A class of file objects as another, made of `io.FileIO`, whose files may be of a tree."""
+    words: Dict[str, Any] = {"__module__": kind.__module__, "__qualname__": kind.__qualname__, "__doc__": kind.__doc__}
+    words = {**words, "_opened": staticmethod(opened), "_of_disk": kind, "_disk": disk}
+    made: type = type(kind)(kind.__name__, (kind, DescribedFile), words)
+    return made
+
+
+def _unbuffered() -> NoReturn:
+    raise ValueError("can't have unbuffered text I/O")
 
 
 def file_object(
-    raw: DescribedFile, mode: str, buffering: int, size: int, encoding: Optional[str], errors: Optional[str], newline: Optional[str]
+    raw: DescribedFile,
+    mode: str,
+    buffering: int,
+    encoding: Optional[str],
+    errors: Optional[str],
+    newline: Optional[str],
 ) -> Any:
-    """The file object of the builtin `open` over a raw one, with a buffer of so many bytes where no number is given."""
+    """The file object of the builtin `open` over a raw one."""
+    if buffering < -1:
+        raise ValueError("invalid buffering size")
     if buffering == 0:
-        return raw
-    line, room = buffering == 1 and "b" not in mode, buffering if buffering > 1 else size
+        return raw if "b" in mode else _unbuffered()
+    if buffering == 1 and "b" in mode:
+        words = "line buffering (buffering=1) isn't supported in binary mode, the default buffer size will be used"
+        warnings.warn(words, RuntimeWarning, 6)
+    line = buffering == 1 and "b" not in mode
     if "+" in mode:
-        buffer: Any = io.BufferedRandom(raw, room)
+        buffer: Any = io.BufferedRandom(raw, buffering if buffering > 1 else BLOCK)
+    elif raw.readable():
+        # What is read ahead is seen by nobody.
+        buffer = io.BufferedReader(raw, buffering if buffering > 1 else READ)
     else:
-        buffer = io.BufferedReader(raw, min(room, READ)) if raw.readable() else io.BufferedWriter(raw, room)
+        buffer = io.BufferedWriter(raw, buffering if buffering > 1 else BLOCK)
     if "b" in mode:
         return buffer
     made = io.TextIOWrapper(buffer, encoding, errors, newline, line_buffering=line)

@@ -65,7 +65,11 @@ def path_error(library: Library, limits: Limits, *paths: AnyPath) -> Exception:
         if status == Status.NO_MEMORY:
             return error_of(library, status)
         if status:
-            number = errno.ENAMETOOLONG if status in (Status.PATH_NAME_TOO_LONG, Status.PATH_TOO_MANY_NAMES) else errno.EINVAL
+            number = (
+                errno.ENAMETOOLONG
+                if status in (Status.PATH_NAME_TOO_LONG, Status.PATH_TOO_MANY_NAMES)
+                else errno.EINVAL
+            )
             return OSError(number, _words_of_path(library, limits, status), path)
     return OSError(errno.EINVAL, os.strerror(errno.EINVAL), paths[0])
 

@@ -108,7 +108,9 @@ class Answer:
     def _told(self) -> str:
         """The reply of a call whose block has ended."""
         if self._reply is None and self._call in _TELLS:
-            raise TypeError(f"{self._call.name.lower()} has ended, and its reply is not told: {_TELLS[self._call]} tells it")
+            raise TypeError(
+                f"{self._call.name.lower()} has ended, and its reply is not told: {_TELLS[self._call]} tells it"
+            )
         return self._reply or "ok"
 
 
@@ -163,7 +165,11 @@ class _Recorded:
         at, answer = self._history._count(), self._answer
         assert answer is not None
         reply = answer._told() if error is None else answer._reply
-        if error is not None and reply is None and (word := _failure(error, self._call, self._history._errors, self._history.limits)):
+        if (
+            error is not None
+            and reply is None
+            and (word := _failure(error, self._call, self._history._errors, self._history.limits))
+        ):
             answer.error, reply = error, f"failed {word}"
         if reply is not None:
             self._history._return(at, self._number, self._seat, reply)
@@ -193,7 +199,11 @@ class History:
     """
 
     def __init__(
-        self, start: Union[Tree, Snapshot, None] = None, *, limits: Optional[Limits] = None, errors: Optional[Errors] = None
+        self,
+        start: Union[Tree, Snapshot, None] = None,
+        *,
+        limits: Optional[Limits] = None,
+        errors: Optional[Errors] = None,
     ) -> None:
         if start is not None and limits not in (None, start.limits):
             raise ValueError(f"the start tree is by {start.limits}, and not by {limits}")
@@ -227,7 +237,7 @@ class History:
         return "".join(f"{line}\n" for line in (*self._opening, *(line for _, line in entries)))
 
     def linearize(self, limit: Optional[int] = None) -> Linearized:
-        """An order in which the calls so far took effect, or the first return that no order explains, as the function `linearize`."""
+        """An order in which the calls so far took effect, or the first return up to which no order explains them, as the function `linearize`."""
         return linearize(self.text(), limit)
 
     def _read(self, call: str, words: Tuple[Any, ...]) -> Tuple[Call, str]:

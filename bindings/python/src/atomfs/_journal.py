@@ -36,8 +36,19 @@ class Standing:
     """Which calls stand in a journal."""
 
     def __init__(self) -> None:
-        # How often it has begun again, how many calls there were before, and the number of its last call, where that is noted.
-        self.begun_again, self.before, self.last = 0, 0, 0
+        # How often it has begun again, and how many calls there were before.
+        self.begun_again, self.before = 0, 0
+        # The number of its last call, where that is noted.
+        self.noted = ctypes.c_uint64()
+
+    @property
+    def last(self) -> int:
+        """The number of the last call, where that is noted."""
+        return self.noted.value
+
+    @last.setter
+    def last(self, number: int) -> None:
+        self.noted.value = number
 
     def begin_again(self, calls: int) -> None:
         """Notes that so many calls have gone."""
@@ -59,16 +70,13 @@ _BEGIN = (
 )  # fmt: skip
 
 
-class Noting:
+class Noting(Library):
     """The library, as a tree that forgets by itself calls it: each call that begins is noted, with its number told at the last address."""
 
     def __init__(self, library: Library, standing: Standing) -> None:
-        self._library = library
+        vars(self).update(vars(library))
         for name in _BEGIN:
             setattr(self, name, _noting(getattr(library, name), standing))
-
-    def __getattr__(self, name: str) -> Any:
-        return getattr(self._library, name)
 
 
 def _noting(function: Callable[..., int], standing: Standing) -> Callable[..., int]:

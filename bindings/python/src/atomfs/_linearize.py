@@ -1,9 +1,10 @@
-"""What the library finds of histories: an order of their calls, or the first return that none explains."""
+"""What the library finds of histories: an order of their calls, or the first return up to which none explains them."""
 from __future__ import annotations
 
 import ctypes
 import dataclasses
-from typing import Optional, Tuple, Union
+import threading
+from typing import Callable, List, Optional, Tuple, Union
 
 from ._errors import error_of
 from ._library import Found, Status, Tell, library
@@ -12,6 +13,12 @@ from ._values import bytes_of, number_of
 
 # So many configurations are made where no limit is given, and there are so many limits.
 _CONFIGURATIONS, _LIMITS = 10_000_000, range(1, 1_000_000_001)
+# A search goes by slices: the first makes at most so many configurations, or this many for each line where that is more, and each of
+# the others so many times what the one before has made, from the begin on. So all of them together make at most a third more.
+_FIRST, _OF_LINE, _TIMES = 1_000, 4, 4
+
+#: What is called behind each slice of a search: with how many configurations it made, and the place of the entry to which it had come.
+Progress = Callable[[int, int], object]
 
 
 @dataclasses.dataclass(frozen=True)
@@ -72,15 +79,22 @@ class Unknown:
 Linearized = Union[Lawful, NoOrder, NoHistory, Unknown]
 
 
-def linearize(history: Union[str, bytes], limit: Optional[int] = None) -> Linearized:
-    """An order in which the calls of a history took effect, or the first return that no order explains.
+def linearize(
+    history: Union[str, bytes], limit: Optional[int] = None, *, progress: Optional[Progress] = None
+) -> Linearized:
+    """An order in which the calls of a history took effect, or the first return up to which no order explains the entries, together with
+    the replies that calls under way there return later.
 
     A history is a journal without its lines `commit`, in which `return 3 failed ?` fits any error of call 3, and `return 3 stat dir ?`
     any number of entries; `History` records one. The search makes at most `limit` configurations, 1 to 1,000,000,000, or else
-    10,000,000; other threads run meanwhile, and no signal ends it. `Error` tells the line of what is no history, `ValueError` that there
+    10,000,000; other threads run meanwhile. `Error` tells the line of what is no history, `ValueError` that there
     is no such limit, and `MemoryError` that there is no memory left.
+
+    The search goes by slices, each four times as long as the one before. `progress(configurations, place)` is called behind each that
+    found nothing yet, and ends the search by an error. A signal whose handler raises, as `KeyboardInterrupt`, ends it at once; a slice
+    that is under way ends by itself, on a thread of its own.
     """
-    found, told = _found(history, limit, Tell.WORDS)
+    found, told = _found(history, limit, Tell.WORDS, progress)
     if found == Found.LAWFUL:
         return Lawful(told.decode())
     # The entry is in the words as it was given, and may be cut.
@@ -92,7 +106,7 @@ def linearize(history: Union[str, bytes], limit: Optional[int] = None) -> Linear
 
 
 def front(history: Union[str, bytes], limit: Optional[int] = None) -> Optional[str]:
-    """The journal up to the first return that no order explains, for `draw`: one of those that explain all before it.
+    """The journal up to the return that `linearize` names, for `draw`: one of those that explain all before it.
 
     There is none where `linearize` finds something else, or the limit is reached. What is refused is refused as there.
     """
@@ -100,17 +114,59 @@ def front(history: Union[str, bytes], limit: Optional[int] = None) -> Optional[s
     return None if found != Found.NO_ORDER or told.startswith(b"none ") else told.decode()
 
 
-def _found(history: Union[str, bytes], limit: Optional[int], tell: Tell) -> Tuple[Found, bytes]:
+def _found(
+    history: Union[str, bytes], limit: Optional[int], tell: Tell, progress: Optional[Progress] = None
+) -> Tuple[Found, bytes]:
     """What came of a history, and what the library tells of it."""
     most = _CONFIGURATIONS if limit is None else number_of(limit, "limit")
     if most not in _LIMITS:
         raise ValueError(f"a limit is {_LIMITS.start} to {_LIMITS.stop - 1:,} configurations, and not {limit:,}")
     given = history.encode("utf-8", "surrogateescape") if isinstance(history, str) else bytes_of(history, "linearize")
     # A journal that explains a history is hardly ever twice as long, so no search is made once more for want of room.
-    of, room, found = library(), Room(ROOM + 2 * len(given)), ctypes.c_uint8()
+    room, count = Room(ROOM + 2 * len(given)), min(most, max(_FIRST, _OF_LINE * given.count(b"\n")))
+    while True:
+        # Who calls waits for a short search here, which takes less time than a thread.
+        searched = _slice if count <= _FIRST else _slice_aside
+        found, told = searched(given, count, tell, room)
+        if found != Found.UNKNOWN or count == most:
+            return found, told
+        if progress is not None:
+            progress(count, int(told.split()[1]))
+        count = min(most, _TIMES * count)
+
+
+def _slice(given: bytes, count: int, tell: Tell, room: Room) -> Tuple[Found, bytes]:
+    """What a search of at most so many configurations finds."""
+    of, found = library(), ctypes.c_uint8()
     at = ctypes.addressof(found)
-    while status := of.linearize(given, len(given), most, tell, room.at, room.size, room.at_count, at):
+    while status := of.linearize(given, len(given), count, tell, room.at, room.size, room.at_count, at):
         if status != Status.TOO_SMALL:
             raise error_of(of, status, room.count.value)
         room.make(room.count.value)
     return Found(found.value), room.told()
+
+
+def _slice_aside(given: bytes, count: int, tell: Tell, room: Room) -> Tuple[Found, bytes]:
+    """The same on another thread. Who waits for it can be interrupted."""
+    answers: List[Tuple[Found, bytes]] = []
+    errors: List[BaseException] = []
+    done = threading.Event()
+
+    def search() -> None:
+        try:
+            answers.append(_slice(given, count, tell, room))
+        except BaseException as error:
+            errors.append(error)
+        finally:
+            done.set()
+
+    thread = threading.Thread(target=search, name="atomfs.linearize", daemon=True)
+    try:
+        thread.start()
+    except RuntimeError:
+        # There is no thread more: it is searched here.
+        search()
+    done.wait()
+    if errors:
+        raise errors[0]
+    return answers[0]

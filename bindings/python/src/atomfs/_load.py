@@ -8,7 +8,22 @@ import os
 import re
 import stat
 import zipfile
-from typing import IO, TYPE_CHECKING, Any, Callable, Dict, Iterator, List, Mapping, Optional, Tuple, Type, TypeVar, Union
+from typing import (
+    IO,
+    TYPE_CHECKING,
+    AbstractSet,
+    Any,
+    Callable,
+    Dict,
+    Iterator,
+    List,
+    Mapping,
+    Optional,
+    Tuple,
+    Type,
+    TypeVar,
+    Union,
+)
 
 from . import _rows
 from ._errors import StrPath, error_at
@@ -17,6 +32,7 @@ from ._library import Limits, Status, library
 from ._walk import parent_of
 
 if TYPE_CHECKING:
+    from ._metadata import Metadata
     from ._tree import Tree
 
 _Tree = TypeVar("_Tree", bound="Tree")
@@ -28,13 +44,21 @@ Node = Optional[bytes]
 
 
 class Snapshot:
-    """A tree as it was at a moment, by its text: two bytes are kept for each byte of a file. It is never changed, and pickled."""
+    """A tree as it was at a moment, by its text: two bytes are kept for each byte of a file. It is never changed, and pickled.
 
-    def __init__(self, limits: Limits, text: str) -> None:
+    Two are equal if their limits and texts are. `metadata` is what `atomfs.patch` kept besides, as permissions and times.
+    """
+
+    def __init__(self, limits: Limits, text: str, metadata: Optional[Metadata] = None) -> None:
         #: The limits of its names and files.
         self.limits = limits
         #: The text of the tree.
         self.text = text
+        self._metadata = metadata
+
+    def __setstate__(self, state: Dict[str, Any]) -> None:
+        # One that was pickled by an older package has no metadata.
+        self.__dict__.update({"_metadata": None, **state})
 
     def __repr__(self) -> str:
         return f"<atomfs.Snapshot of {len(self):,} nodes, {self.limits}>"
@@ -78,6 +102,16 @@ def restore(tree: Tree, snapshot: Snapshot) -> None:
         tree._none_under_way()
         if now != snapshot.text:
             _change(tree, now.splitlines(), snapshot.text.splitlines())
+        _take_metadata(tree, snapshot._metadata)
+
+
+def _take_metadata(tree: Tree, metadata: Optional[Metadata]) -> None:
+    """Lets the nodes of a tree have what a snapshot or another tree has kept of them."""
+    if metadata is not None:
+        was, kept = tree._metadata, metadata.copied()
+        tree._keep_beside(kept)
+        if was is not None:
+            kept.begin(was.clock, was.mask)
 
 
 def _change(tree: Tree, now: List[str], wanted: List[str]) -> None:
@@ -122,8 +156,12 @@ class Now:
     def __deepcopy__(self, memo: object) -> Now:
         return self
 
-    def __reduce__(self) -> Tuple[Type[Snapshot], Tuple[Limits, str]]:
-        return Snapshot, (self.limits, self.tree.tree())
+    @property
+    def _metadata(self) -> Optional[Metadata]:
+        return self.tree._metadata
+
+    def __reduce__(self) -> Tuple[Type[Snapshot], Tuple[Limits, str, Optional[Metadata]]]:
+        return Snapshot, (self.limits, self.tree.tree(), self._metadata)
 
 
 def of_snapshot(kind: Type[_Tree], limit: Optional[int], start: Union[Snapshot, Now], journal: Journal = ALL) -> _Tree:
@@ -131,6 +169,7 @@ def of_snapshot(kind: Type[_Tree], limit: Optional[int], start: Union[Snapshot, 
     with into(kind(limit, limits=start.limits, journal=journal)) as tree:
         if not _begun(tree, start):
             restore(tree, _formed(start if isinstance(start, Snapshot) else start.tree.snapshot()))
+        _take_metadata(tree, start._metadata)
     return tree
 
 
@@ -164,7 +203,13 @@ def _begun_from(tree: Tree, text: str) -> int:
 
 def _is_told(text: str) -> bool:
     """Whether a text may be one that a tree tells: the library reads journals, comments, empty lines and a line without its end too."""
-    return text.isascii() and text.startswith("tree\n") and text.endswith("\n") and "\n\n" not in text and "\n#" not in text
+    return (
+        text.isascii()
+        and text.startswith("tree\n")
+        and text.endswith("\n")
+        and "\n\n" not in text
+        and "\n#" not in text
+    )
 
 
 def _formed(snapshot: Snapshot) -> Snapshot:
@@ -204,8 +249,8 @@ def from_dict(tree: Tree, files: Mapping[str, Any], above: str = "") -> None:
             put(tree, path, value.encode() if isinstance(value, str) else memoryview(value).tobytes())
 
 
-def from_directory(tree: Tree, top: StrPath, on_error: OnError) -> None:
-    """Makes what is below a directory of the disk."""
+def from_directory(tree: Tree, top: StrPath, on_error: OnError, left_out: AbstractSet[str] = frozenset()) -> None:
+    """Makes what is below a directory of the disk, but for what has one of the names that are left out."""
     if isinstance(on_error, str) and on_error not in ("raise", "skip"):
         raise ValueError(f"on_error is raise, skip or a function, and this is {on_error!r}")
     waiting = [(os.fsencode(top), b"")]
@@ -215,7 +260,7 @@ def from_directory(tree: Tree, top: StrPath, on_error: OnError) -> None:
         # The folder that is asked for is there, or nothing is.
         with _told(on_error if above else "raise", folder), os.scandir(folder) as entries:
             found = sorted(entries, key=lambda entry: entry.name)
-        for entry in found:
+        for entry in (entry for entry in found if os.fsdecode(entry.name) not in left_out):
             with _told(on_error, entry.path):
                 waiting += _put_entry(tree, above + b"/" + entry.name, entry)
 
@@ -237,6 +282,8 @@ def _told(on_error: OnError, path: bytes) -> Iterator[None]:
     except OSError as error:
         error.filename = os.fsdecode(path)
         if on_error == "raise":
+            if error.errno != errno.ENOSPC:
+                error.strerror = f'{error.strerror} (on_error="skip" leaves it out)'
             raise
         if callable(on_error):
             on_error(error)
@@ -259,16 +306,27 @@ def _bytes_up_to(file: IO[bytes], most: int) -> bytes:
     return b"".join(pieces)
 
 
-def to_directory(tree: Tree, top: StrPath, exist_ok: bool) -> None:
-    """Makes the tree below a directory of the disk."""
-    rows, below = _rows.rows_of(tree.tree()), os.fsencode(top)
+def to_directory(tree: Tree, top: StrPath, exist_ok: bool, above: str = "") -> None:
+    """Makes what is below a path of the tree below a directory of the disk, with the permissions, times and links that are kept of it."""
+    with tree.lock:
+        rows, below, metadata = _rows.rows_of(tree.tree()), os.fsencode(top), tree._metadata and tree._metadata.copied()
     os.makedirs(below, exist_ok=exist_ok)
-    for path, data in rows[1:]:
+    start = os.fsencode(above) + b"/"
+    rows = [(path[len(start) - 1 :], data) for path, data in rows[1:] if path.startswith(start)]
+    known = {path: metadata.found(above + _rows.told(path)) for path, _ in rows} if metadata else {}
+    for path, data in rows:
+        inode = known.get(path)
         if data is None:
             os.makedirs(below + path, exist_ok=exist_ok)
+        elif inode is not None and inode.target is not None:
+            os.symlink(os.fsencode(inode.target), below + path)
         else:
             with open(below + path, "wb" if exist_ok else "xb") as file:
                 file.write(data)
+    for path, inode in reversed(list(known.items())):
+        if inode is not None and inode.target is None:
+            os.utime(below + path, ns=(inode.accessed, inode.modified))
+            os.chmod(below + path, stat.S_IMODE(inode.mode))
 
 
 def from_zip(tree: Tree, file: Union[StrPath, IO[bytes]]) -> None:
@@ -292,5 +350,7 @@ def to_zip(tree: Tree, file: Union[StrPath, IO[bytes]]) -> None:
         for path, data in nodes:
             info = zipfile.ZipInfo(path if data is not None else f"{path}/")
             info.compress_type = zipfile.ZIP_DEFLATED
-            info.external_attr = (stat.S_IFREG | 0o644) << 16 if data is not None else (stat.S_IFDIR | 0o755) << 16 | 0x10
+            info.external_attr = (
+                (stat.S_IFREG | 0o644) << 16 if data is not None else (stat.S_IFDIR | 0o755) << 16 | 0x10
+            )
             archive.writestr(info, data or b"")

@@ -81,7 +81,10 @@ class Path(pathlib.PurePosixPath):
     def samefile(self, other: Any) -> bool:
         """Whether both are one path of one tree, at which something stands: a node has one path."""
         self.stat()
-        same = _walk.plain(self._of(os.fspath(other))) == _walk.plain(self) and getattr(other, "tree", self.tree) is self.tree
+        same = (
+            _walk.plain(self._of(os.fspath(other))) == _walk.plain(self)
+            and getattr(other, "tree", self.tree) is self.tree
+        )
         if not same:
             self.tree.stat(other)
         return same
@@ -109,7 +112,10 @@ class Path(pathlib.PurePosixPath):
         return iter([self._of(path) for path in _walk.glob(self.tree, before + os.fspath(pattern), str(self))])
 
     def walk(
-        self: _Self, top_down: bool = True, on_error: Optional[Callable[[OSError], object]] = None, follow_symlinks: bool = False
+        self: _Self,
+        top_down: bool = True,
+        on_error: Optional[Callable[[OSError], object]] = None,
+        follow_symlinks: bool = False,
     ) -> Iterator[Tuple[_Self, List[str], List[str]]]:
         """Each directory from here down, with the names of the directories and of the files in it: several calls."""
         for at, directories, files in self.tree.walk(self, top_down, on_error):
@@ -163,7 +169,9 @@ class Path(pathlib.PurePosixPath):
         """The bytes of a file, as `Tree.read_bytes`."""
         return self.tree.read(self)
 
-    def read_text(self, encoding: Optional[str] = None, errors: Optional[str] = None, newline: Optional[str] = None) -> str:
+    def read_text(
+        self, encoding: Optional[str] = None, errors: Optional[str] = None, newline: Optional[str] = None
+    ) -> str:
         """The text of a file, as `Tree.read_text`."""
         return self.tree.read_text(self, encoding or "utf-8", errors or "strict", newline)
 

@@ -4,9 +4,10 @@ from __future__ import annotations
 import errno
 import os
 import posixpath
-from typing import Any, Callable, Dict, List, NamedTuple, Optional, Tuple
+from typing import Any, Callable, Dict, List, NamedTuple, Optional, Set, Tuple
 
 from ._descriptors import Descriptors
+from ._metadata import Metadata
 
 Real = Dict[str, Callable[..., Any]]
 # How many links Linux follows in a path.
@@ -22,16 +23,24 @@ class Place(NamedTuple):
     of_directory: bool = False
     #: Whether the disk is asked for another path than was given, an absolute one.
     moved: bool = False
+    #: The last name of the path as it was given, where it is `.` or `..`.
+    dots: str = ""
 
 
 class Places:
     """The paths below `at`, an absolute path of the disk, which need not be there. `real` has the functions of the disk."""
 
-    def __init__(self, at: str, real: Real, files: Descriptors) -> None:
-        self.at, self._real, self._files = at, real, files
+    def __init__(self, at: str, real: Real, files: Descriptors, metadata: Callable[[], Metadata]) -> None:
+        self.at, self._real, self._files, self._metadata = at, real, files, metadata
         above, self._name = posixpath.split(at)
         self._roots = {at}
-        self._roots.add(posixpath.join(self.walked(above)[0], self._name))
+        # Directories of the disk that are no links, on the way to the tree.
+        self._above: Set[str] = set()
+        real_above = self.walked(above)[0]
+        self._roots.add(posixpath.join(real_above, self._name))
+        while real_above != "/":
+            self._above.add(real_above)
+            real_above = posixpath.dirname(real_above)
         # A link of the disk may lead below `at` where a directory of the disk stands there.
         self._shadows = self._there(at)
 
@@ -55,29 +64,31 @@ class Places:
         """The absolute path of one in the tree."""
         return self.at if path == "/" else self.at + path
 
-    def of(self, path: Any, directory: Optional[int] = None, follow: bool = True) -> Place:
-        """Where a path leads, from the working directory on or from that of a descriptor. Of what is no path, a `TypeError`."""
-        if isinstance(path, (bytearray, memoryview)):
-            # Some functions take these still.
-            path = bytes(path)
+    def of(self, path: Any, directory: Optional[int] = None, follow: Optional[bool] = True) -> Place:
+        """Where a path leads, from the working directory on or from that of a descriptor. Of what is no path, a `TypeError`.
+
+        A link at its end is followed, or not; by `None` only where a slash is behind it.
+        """
         text = os.fsdecode(path)
         if directory is not None and not isinstance(directory, int):
             raise TypeError("a descriptor is a whole number")
         base, moved = ("", False) if text[:1] == "/" or not text else self._base(directory)
         if base is None or not text or not (self._shadows or moved or self._name in text or self._name in base):
             return Place(None, path)
-        whole = f"{base}/{text}"
-        if self._shadows or ".." in text:
-            normal, through = self.walked(whole, follow)
+        whole, asked = f"{base}/{text}", False
+        if self._shadows or ".." in text or self._metadata().links:
+            to_end = text.endswith("/.") or (text.endswith("/") if follow is None else follow)
+            normal, through, asked = self.walked(whole, to_end)
             moved = moved or through
         else:
             normal = "/" + "/".join(part for part in whole.split("/") if part not in ("", "."))
         inside = self.inside(normal)
-        ends = text.endswith(("/", "/."))
+        ends = text.endswith(("/", "/.")) or asked
         if inside is not None:
             if "\0" in inside:
                 raise ValueError("embedded null byte")
-            return Place(inside, path, ends)
+            last = text.rstrip("/").rpartition("/")[2] if ends or text[-1] == "." else ""
+            return Place(inside, path, ends, dots=last if last in (".", "..") else "")
         if not moved:
             return Place(None, path)
         normal += "/" if ends else ""
@@ -97,31 +108,51 @@ class Places:
         except OSError:
             return None, False
 
-    def walked(self, whole: str, follow: bool = True) -> Tuple[str, bool]:
+    def walked(self, whole: str, follow: bool = True) -> Tuple[str, bool, bool]:
         """An absolute path without dots, as the system goes it: `..` behind a link is above where that leads.
 
-        And whether the way leads through the tree.
+        And whether the way leads through the tree, and whether a link at the end asks for a directory. A link of the tree that leads to
+        itself is an `OSError` with `ELOOP`.
         """
-        waiting, at, links, through = _parts(whole), "", 0, False
+        waiting, at, links, through, asked = _parts(whole), "", 0, False, False
         while waiting:
             part = waiting.pop()
-            inside = self.inside(at)
             if part == "..":
+                inside = self.inside(at)
                 if inside is not None:
                     self._files.directory(inside)
                     through = True
                 at = at.rpartition("/")[0]
                 continue
             at = f"{at}/{part}"
-            if self.inside(at) is None and (waiting or follow) and links < _LINKS:
-                try:
-                    link = self._real["os.readlink"](at)
-                except OSError:
-                    continue
-                links += 1
-                at = "" if link.startswith("/") else at.rpartition("/")[0]
-                waiting += _parts(link)
-        return at or "/", through
+            link = self._link(at) if waiting or follow else None
+            if link is None:
+                continue
+            in_tree, links = self.inside(at) is not None, links + 1
+            if links > _LINKS:
+                if in_tree or through:
+                    raise OSError(errno.ELOOP, os.strerror(errno.ELOOP))
+                continue
+            through = through or in_tree
+            asked = asked or (not waiting and link.endswith(("/", "/.")))
+            at = "" if link.startswith("/") else at.rpartition("/")[0]
+            waiting += _parts(link)
+        return at or "/", through, asked
+
+    def _link(self, at: str) -> Optional[str]:
+        """Where the link at an absolute path without dots leads: none where no link is there."""
+        inside = self.inside(at)
+        if inside is not None:
+            inode = self._metadata().found(inside)
+            return inode.target if inode is not None else None
+        if at in self._above:
+            # Of these it is known.
+            return None
+        try:
+            link: str = self._real["os.readlink"](at)
+            return link
+        except OSError:
+            return None
 
 
 def _parts(path: str) -> List[str]:

@@ -65,5 +65,8 @@ def _shown(line: str) -> Tuple[str, str]:
 
 def differences(old: Dict[bytes, Optional[bytes]], new: Dict[bytes, Optional[bytes]]) -> List[Tuple[str, str]]:
     """What became of each path from one tree to the other, in byte order: `added`, `removed` or `changed`."""
-    kinds = {path: "added" if path not in old else "removed" if path not in new else "changed" for path in old.keys() | new.keys()}
+    kinds = {
+        path: "added" if path not in old else "removed" if path not in new else "changed"
+        for path in old.keys() | new.keys()
+    }
     return [(what, told(path)) for path, what in sorted(kinds.items()) if what != "changed" or old[path] != new[path]]

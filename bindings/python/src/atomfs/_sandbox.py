@@ -1,50 +1,48 @@
 """The functions of `os`, and `open`, over a tree: each under the name that it has there.
 
-Those of paths take the `Place` of each path, those of descriptors a descriptor of the tree; what else they are given has no meaning in a
-tree, as permissions. They raise what Linux raises.
+Those of paths take the `Place` of each path, those of descriptors a descriptor of the tree. They raise what Linux raises.
 """
 from __future__ import annotations
 
 import errno
-import hashlib
 import io
 import itertools
+import operator
 import os
 import posixpath
 import stat
-from typing import Any, Callable, Dict, Iterable, Iterator, List, Optional, Union
+import types
+import warnings
+from typing import Any, Callable, Dict, Iterable, Iterator, List, NoReturn, Optional, Tuple, Union
 
-from . import _walk
+from . import _table, _walk
+from ._attributes import Attributes
 from ._descriptors import DescribedFile, Description, Descriptors, Node, failed, file_object, together, told
-from ._errors import encoded
+from ._locks import Locks
+from ._metadata import LINK, Inode, Metadata
 from ._places import Place, Places
 from ._tree import Stat, Tree
 
-# A tree keeps no times: all are this one, at which a zip can be made in every zone.
-TIME = 315_619_200
-_FIELDS = {f"st_{one}time{end}": TIME * by for one in "amc" for end, by in (("", 1), ("_ns", 10**9))} | {"st_blksize": 4096, "st_rdev": 0}
 # The flag that asks for a file without an entry.
 _NO_ENTRY = getattr(os, "O_TMPFILE", 0)
+# The flag that asks for what is no link.
+_NOT_FOLLOWED = os.O_NOFOLLOW
+# What a descriptor of each kind asks for.
+_ASKED = {os.O_RDONLY: os.R_OK, os.O_WRONLY: os.W_OK, os.O_RDWR: os.R_OK | os.W_OK, 3: 0}
 # Numbers of devices that no system has.
 _DEVICES = itertools.count(1 << 48)
 
 
-def number_of_node(key: bytes) -> int:
-    """The number of a node is of its path."""
-    return int.from_bytes(hashlib.blake2b(key, digest_size=7).digest(), "big")
-
-
-def result_of(found: Stat, device: int, key: bytes) -> os.stat_result:
-    """What `os.stat` answers."""
-    words = (found.st_mode, number_of_node(key), device, 1, os.getuid(), os.getgid(), found.size, TIME, TIME, TIME)
-    return os.stat_result(words, {**_FIELDS, "st_blocks": -(-found.size // 512)})
-
-
 class Entry:
-    """As `os.DirEntry`."""
+    """As `os.DirEntry`: what it says of the kind is of the moment of the list, and `stat` of that of its first call."""
 
-    def __init__(self, sandbox: Sandbox, inside: str, name: Union[str, bytes], path: Union[str, bytes]) -> None:
+    def __init__(
+        self, sandbox: Sandbox, inside: str, name: Union[str, bytes], path: Union[str, bytes], known: Optional[Inode]
+    ) -> None:
         self._sandbox, self._inside, self.name, self.path = sandbox, inside, name, path
+        self._mode = 0 if known is None else known.mode
+        self._number = 0 if known is None else known.number
+        self._stats: Dict[bool, os.stat_result] = {}
 
     def __repr__(self) -> str:
         return f"<DirEntry {self.name!r}>"
@@ -52,41 +50,81 @@ class Entry:
     def __fspath__(self) -> Union[str, bytes]:
         return self.path
 
+    def _kind(self, follow: bool) -> int:
+        if not self._mode:
+            self._mode = self._sandbox.kind(self._inside, False)
+        kind = stat.S_IFMT(self._mode)
+        if not follow or kind != stat.S_IFLNK:
+            return kind
+        with told(self.path):
+            return self._sandbox.kind(self._inside, True)
+
     def is_dir(self, *, follow_symlinks: bool = True) -> bool:
-        """Whether it is a directory."""
-        return self._sandbox.tree.is_dir(self._inside)
+        """Whether it is a directory, or a link to one."""
+        return self._kind(follow_symlinks) == stat.S_IFDIR
 
     def is_file(self, *, follow_symlinks: bool = True) -> bool:
-        """Whether it is a file."""
-        return self._sandbox.tree.is_file(self._inside)
+        """Whether it is a file, or a link to one."""
+        return self._kind(follow_symlinks) == stat.S_IFREG
 
     def is_symlink(self) -> bool:
+        """Whether it is a link."""
+        return self._kind(False) == stat.S_IFLNK
+
+    def is_junction(self) -> bool:
         """It is none."""
         return False
 
-    is_junction = is_symlink
-
     def inode(self) -> int:
-        """The number of its path."""
-        return number_of_node(encoded(self._inside))
+        """The number of the node."""
+        return self._number or self.stat(follow_symlinks=False).st_ino
 
     def stat(self, *, follow_symlinks: bool = True) -> os.stat_result:
         """What stands there."""
-        with told(self.path):
-            return self._sandbox.stat(Place(self._inside, self.path))
+        if follow_symlinks not in self._stats:
+            with told(self.path):
+                self._stats[follow_symlinks] = self._sandbox.stat_inside(self._inside, follow_symlinks)
+        return self._stats[follow_symlinks]
+
+    def __reduce__(self) -> NoReturn:
+        raise TypeError("cannot pickle 'posix.DirEntry' object")
+
+    @classmethod
+    def __class_getitem__(cls, item: object) -> object:
+        return types.GenericAlias(cls, item)
+
+
+def entries_as(real: type) -> type:
+    """The class of what `os.scandir` answers, of the disk and of a tree: nobody makes objects of it."""
+
+    class OfEntries(type):
+        def __instancecheck__(cls, one: object) -> bool:
+            return isinstance(one, (real, Entry))
+
+        def __subclasscheck__(cls, one: type) -> bool:
+            return issubclass(one, (real, Entry))
+
+        def __call__(cls, *given: object) -> object:
+            return real(*given)
+
+    words = {"__doc__": real.__doc__, "__module__": real.__module__, "__class_getitem__": Entry.__class_getitem__}
+    return OfEntries(real.__name__, (), words)
 
 
 class Entries:
     """What `os.scandir` answers: an iterator, which `with` closes."""
 
     def __init__(self, entries: List[Entry]) -> None:
-        self._entries = iter(entries)
+        self._entries, self._open = iter(entries), True
 
     def __iter__(self) -> Iterator[Entry]:
         return self
 
     def __next__(self) -> Entry:
-        return next(self._entries)
+        for entry in self._entries:
+            return entry
+        self._open = False
+        raise StopIteration
 
     def __enter__(self) -> Entries:
         return self
@@ -96,7 +134,11 @@ class Entries:
 
     def close(self) -> None:
         """Ends it."""
-        self._entries = iter(())
+        self._entries, self._open = iter(()), False
+
+    def __del__(self) -> None:
+        if getattr(self, "_open", False):
+            warnings.warn(f"unclosed scandir iterator {self!r}", ResourceWarning, 1, self)
 
 
 def _at(place: Place) -> str:
@@ -105,11 +147,19 @@ def _at(place: Place) -> str:
     return place.inside
 
 
-class Sandbox:
+class Sandbox(Attributes):
     """A tree that stands at a directory of the disk."""
 
-    def __init__(self, tree: Tree, files: Descriptors, places: Places, real: Dict[str, Callable[..., Any]]) -> None:
+    def __init__(
+        self,
+        tree: Tree,
+        files: Descriptors,
+        places: Places,
+        real: Dict[str, Callable[..., Any]],
+        metadata: Callable[[], Metadata],
+    ) -> None:
         self.tree, self._files, self._places, self._real = tree, files, places, real
+        self._metadata, self._locks = metadata, Locks()
         self._device = next(_DEVICES)
 
     def _looked(self, place: Place) -> Stat:
@@ -119,57 +169,203 @@ class Sandbox:
             failed(errno.ENOTDIR, place.path)
         return found
 
+    @together
+    def inode(self, place: Place) -> Inode:
+        """What is kept of what stands there."""
+        return self._metadata().of(_at(place), self._looked(place).is_dir)
+
     # ---- Looks
 
+    @together
     def stat(self, place: Place, *given: Any, **named: Any) -> os.stat_result:
-        return result_of(self._looked(place), self._device, encoded(_at(place)))
+        found = self._looked(place)
+        return self._metadata().of(_at(place), found.is_dir).result(self._device, found.size)
 
     lstat = stat
 
-    def access(self, place: Place, *given: Any, **named: Any) -> bool:
-        """Whether something stands there: then all is permitted."""
+    def stat_inside(self, inside: str, follow: bool) -> os.stat_result:
+        """What stands at a path of the tree, or where a link there leads."""
+        if follow and self._is_link(inside):
+            path = self._places.outside(inside)
+            place = self._places.of(path)
+            return self._real["os.stat"](place.path) if place.inside is None else self.stat(place)  # type: ignore[no-any-return]
+        return self.stat(Place(inside, inside))
+
+    def _is_link(self, inside: str) -> bool:
+        if not self._metadata().links:
+            return False
+        inode = self._metadata().found(inside)
+        return inode is not None and inode.target is not None
+
+    def kind(self, inside: str, follow: bool) -> int:
+        """The kind of what stands at a path of the tree, as in `st_mode`: 0 where nothing does."""
+        if self._is_link(inside):
+            if not follow:
+                return stat.S_IFLNK
+            try:
+                return stat.S_IFMT(self.stat_inside(inside, True).st_mode)
+            except FileNotFoundError:
+                return 0
+        is_dir = _walk.kind(self.tree, inside)
+        return 0 if is_dir is None else stat.S_IFDIR if is_dir else stat.S_IFREG
+
+    def access(self, place: Place, mode: int = os.F_OK, **named: Any) -> bool:
+        """Whether something stands there that the permissions let be read, written or run: all but the last is permitted anyway, if they are
+        not enforced."""
         try:
-            self._looked(place)
+            inode = self.inode(place)
         except OSError:
             return False
-        return True
+        if not isinstance(mode, int):
+            raise TypeError("an integer is required")
+        return self.may(inode, mode)
+
+    def may(self, inode: Inode, mode: int) -> bool:
+        """Whether a user may do with a node what a mode of `os.access` asks for."""
+        bits = inode.mode
+        if not self.enforce:
+            return not mode & os.X_OK or bool(inode.entries is not None or bits & 0o111)
+        who = 6 if inode.uid == os.geteuid() else 3 if inode.gid in (os.getegid(), *os.getgroups()) else 0
+        return (bits >> who) & mode & 7 == mode & 7
+
+    #: Whether permissions are asked.
+    enforce = False
+
+    def check(self, place: Place, mode: int) -> None:
+        """Raises where permissions are enforced and do not let a node be used so, or a directory on the way to it be gone through."""
+        if self.enforce:
+            self._check_way(_walk.parent_of(_at(place)))
+            if not self.may(self.inode(place), mode):
+                failed(errno.EACCES, place.path)
+
+    def check_above(self, place: Place) -> None:
+        """The same of a change of entries."""
+        if self.enforce:
+            above = _walk.parent_of(_at(place))
+            self._check_way(above)
+            found = self._metadata().found(above)
+            if found is not None and not self.may(found, os.W_OK | os.X_OK):
+                failed(errno.EACCES, place.path)
+
+    def _check_way(self, folder: str) -> None:
+        """Each directory on the way has to let one through."""
+        at = ""
+        for name in ["", *filter(None, folder.split("/"))]:
+            at = f"{at}/{name}" if name else at
+            found = self._metadata().found(at or "/")
+            if found is not None and found.entries is not None and not self.may(found, os.X_OK):
+                failed(errno.EACCES)
 
     def listdir(self, place: Place) -> Union[List[str], List[bytes]]:
+        self.check(place, os.R_OK)
         names = self.tree.listdir(_at(place))
         return [os.fsencode(name) for name in names] if isinstance(place.path, bytes) else names
 
+    @together
     def scandir(self, place: Place) -> Entries:
+        self.check(place, os.R_OK)
         above = "" if isinstance(place.path, int) else os.fspath(place.path)
+        names, known = self.tree.listdir(_at(place)), self._metadata().of(_at(place), True).entries or {}
         entries = []
-        for name in self.tree.listdir(_at(place)):
+        for name in names:
             its: Any = os.fsencode(name) if isinstance(above, bytes) else name
-            entries.append(Entry(self, _walk.joined(_at(place), name), its, posixpath.join(above, its) if above else its))
+            path = posixpath.join(above, its) if above else its
+            entries.append(Entry(self, _walk.joined(_at(place), name), its, path, known.get(name)))
         return Entries(entries)
 
+    def no_entries(self, descriptor: int, scans: bool) -> Any:
+        """What a directory that was removed has."""
+        if not self._files.of(descriptor).node.is_dir:
+            failed(errno.ENOTDIR)
+        return Entries([]) if scans else []
+
     def readlink(self, place: Place, **named: Any) -> Any:
-        """A tree has no links."""
-        self._looked(place)
-        return failed(errno.EINVAL, place.path)
+        """Where a link leads."""
+        target = self.inode(place).target
+        if target is None:
+            failed(errno.EINVAL, place.path)
+        return os.fsencode(target) if isinstance(os.fspath(place.path), bytes) else target
 
     @together
     def chdir(self, place: Place) -> None:
         self._files.directory(_at(place))
+        self.check(place, os.X_OK)
         self._files.work_in(self._files.named(_at(place), True))
 
     # ---- Changes
 
-    def mkdir(self, place: Place, *given: Any, **named: Any) -> None:
+    @together
+    def mkdir(self, place: Place, mode: int = 0o777, **named: Any) -> None:
+        mode = _whole(mode)
+        if place.dots:
+            self.go_to(place)
+        self.check_above(place)
         self.tree.mkdir(_at(place))
+        self._made(place, stat.S_IFDIR | mode & 0o1777)
 
-    def mknod(self, place: Place, mode: int = 0o600, *given: Any, **named: Any) -> None:
-        if stat.S_IFMT(mode) not in (0, stat.S_IFREG):
-            raise OSError(errno.ENOTSUP, "os.mknod: a tree has files and directories alone", place.path)
+    @together
+    def mknod(self, place: Place, mode: int = 0o600, device: int = 0, **named: Any) -> None:
+        if stat.S_IFMT(_whole(mode)) not in (0, stat.S_IFREG):
+            self._refused_entry("os.mkfifo", place)
+        if place.of_directory:
+            self.go_to(place)
+            failed(errno.EEXIST if self.tree.exists(_at(place)) else errno.ENOENT)
+        self.check_above(place)
         self.tree.mknod(_at(place))
+        self._made(place, stat.S_IFREG | mode & 0o7777)
+
+    def _made(self, place: Place, mode: int) -> None:
+        """A node was made with these permissions."""
+        metadata = self._metadata()
+        inode = metadata.of(_at(place), stat.S_ISDIR(mode))
+        above = metadata.found(_walk.parent_of(_at(place)))
+        inode.mode = mode & ~metadata.mask
+        if above is not None and above.mode & stat.S_ISGID:
+            # A directory gives its group on.
+            inode.gid = above.gid
+            inode.mode |= stat.S_ISGID if inode.entries is not None else 0
+
+    @together
+    def symlink(self, place: Place, target: Union[str, bytes]) -> None:
+        """Makes a link: a file of the tree without bytes, of which its target is kept beside the tree."""
+        text = os.fsdecode(target)
+        if not text:
+            failed(errno.ENOENT)
+        if "\0" in text:
+            raise ValueError("embedded null byte")
+        if place.of_directory:
+            self.go_to(place)
+            failed(errno.EEXIST if self.tree.exists(_at(place)) else errno.ENOENT)
+        self.check_above(place)
+        self.tree.mknod(_at(place))
+        metadata = self._metadata()
+        inode = metadata.of(_at(place), False)
+        inode.mode, inode.target = LINK, text
+        metadata.links += 1
+
+    def link(self, old: Place, new: Place) -> None:
+        """There are no hard links, as on a file system that has none."""
+        self._looked(old)
+        self._refused_entry("os.link", new)
+
+    @together
+    def mkfifo(self, place: Place, *given: Any, **named: Any) -> None:
+        self._refused_entry("os.mkfifo", place)
+
+    def _refused_entry(self, name: str, place: Place) -> NoReturn:
+        """Says that there is something already, or that a tree has nothing of the kind."""
+        if self.tree.exists(_at(place)):
+            failed(errno.EEXIST)
+        self.tree.stat(_walk.parent_of(_at(place)))
+        raise _table.refusal(name)
 
     @together
     def unlink(self, place: Place, **named: Any) -> None:
         if place.of_directory:
             self._looked(place)
+            if place.dots:
+                failed(errno.EISDIR)
+        self.check_above(place)
         data = self._files.kept(_at(place))
         try:
             self.tree.unlink(_at(place))
@@ -182,13 +378,25 @@ class Sandbox:
 
     @together
     def rmdir(self, place: Place, **named: Any) -> None:
+        if place.dots:
+            self.go_to(place)
+            failed(errno.EINVAL if place.dots == "." else errno.ENOTEMPTY)
+        self.check_above(place)
         self.tree.rmdir(_at(place))
         self._files.removed(_at(place), None)
 
     @together
     def rename(self, old: Place, new: Place, **named: Any) -> None:
-        if (old.of_directory or new.of_directory) and not self._looked(old).is_dir:
-            failed(errno.ENOTDIR, old.path, None, new.path)
+        if old.of_directory or new.of_directory or old.dots or new.dots:
+            self.go_to(old)
+            self.go_to(new)
+            if old.dots or new.dots:
+                failed(errno.EBUSY)
+            if not self.tree.stat(_at(old)).is_dir:
+                failed(errno.ENOTDIR)
+        self.check_above(old)
+        self.check_above(new)
+        self._check_moved(_at(old), _at(new))
         data = self._files.kept(_at(new))
         self.tree.rename(_at(old), _at(new))
         if _at(old) != _at(new):
@@ -197,41 +405,145 @@ class Sandbox:
 
     replace = rename
 
+    def go_to(self, place: Place) -> None:
+        """Goes the way to the last name of a path, as Linux does before it looks at that: behind a dot the way is the whole path."""
+        self._files.directory(_at(place) if place.dots else _walk.parent_of(_at(place)))
+
+    def _check_moved(self, old: str, new: str) -> None:
+        """Of a path below the other Linux looks at the way first, and the tree at how they lie."""
+        if new.startswith(f"{old}/"):
+            self._files.directory(_walk.parent_of(new))
+        elif old.startswith(f"{new}/") and self.tree.exists(old):
+            failed(errno.ENOTEMPTY)
+
+    @together
     def truncate(self, place: Place, length: int) -> None:
         if place.of_directory:
             self._looked(place)
         if length < 0:
             failed(errno.EINVAL, place.path)
+        self.check(place, os.W_OK)
         self.tree.truncate(_at(place), length)
+
+    # ---- Permissions, owners and times
+
+    @together
+    def chmod(self, place: Place, mode: int, **named: Any) -> None:
+        self._set_mode(self.inode(place), mode)
+
+    lchmod = chmod
+
+    @together
+    def fchmod(self, fd: int, mode: int) -> None:
+        self._set_mode(self._files.of(fd).node.inode, mode)
+
+    def _set_mode(self, inode: Inode, mode: int) -> None:
+        mode = _whole(mode)
+        if inode.target is not None:
+            # As of Linux, where links have no permissions.
+            raise NotImplementedError("chmod: follow_symlinks unavailable on this platform")
+        self._check_owner(inode)
+        inode.mode = stat.S_IFMT(inode.mode) | mode & 0o7777
+        inode.changed = self._metadata().clock()
+
+    def _check_owner(self, inode: Inode) -> None:
+        if self.enforce and inode.uid != os.geteuid():
+            failed(errno.EPERM)
+
+    @together
+    def chown(self, place: Place, uid: int, gid: int, **named: Any) -> None:
+        self._set_owner(self.inode(place), uid, gid)
+
+    lchown = chown
+
+    @together
+    def fchown(self, fd: int, uid: int, gid: int) -> None:
+        self._set_owner(self._files.of(fd).node.inode, uid, gid)
+
+    def _set_owner(self, inode: Inode, uid: int, gid: int) -> None:
+        uid, gid = _whole(uid), _whole(gid)
+        for number, what in ((uid, "uid"), (gid, "gid")):
+            if not -1 <= number < 2**32:
+                raise OverflowError(f"{what} is {'less than minimum' if number < 0 else 'greater than maximum'}")
+        self._check_owner(inode)
+        inode.uid, inode.gid = inode.uid if uid == -1 else uid, inode.gid if gid == -1 else gid
+        if inode.entries is None and inode.target is None:
+            # Who owns it now is not who has let it run so.
+            inode.mode &= ~(stat.S_ISUID | (stat.S_ISGID if inode.mode & stat.S_IXGRP else 0))
+        inode.changed = self._metadata().clock()
+
+    @together
+    def utime(self, place: Place, *given: Any, **named: Any) -> None:
+        named.pop("follow_symlinks", None)
+        self._set_times(self.inode(place), *given, **named)
+
+    @together
+    def futime(self, fd: int, *given: Any, **named: Any) -> None:
+        """`os.utime` of a descriptor."""
+        self._set_times(self._files.of(fd).node.inode, *given, **named)
+
+    def _set_times(self, inode: Inode, *given: Any, **named: Any) -> None:
+        times, now = self._times_of(*given, **named), self._metadata().clock()
+        self._check_owner(inode)
+        inode.accessed, inode.modified = (now, now) if times is None else times
+        inode.changed = now
+
+    def _times_of(self, *given: Any, **named: Any) -> Optional[Tuple[int, int]]:
+        """The two times that are asked for, as the system rounds them; none of now."""
+        # This file is nobody's: what is wrong in the words is raised by it.
+        number = os.memfd_create("atomfs")
+        try:
+            self._real["os.utime"](number, *given, **named)
+            found = self._real["os.fstat"](number)
+        finally:
+            self._real["os.close"](number)
+        if (given[0] if given else named.get("times")) is None and named.get("ns") is None:
+            return None
+        return found.st_atime_ns, found.st_mtime_ns
 
     # ---- Descriptors
 
     @together
-    def open(self, place: Place, flags: int, *given: Any, **named: Any) -> int:
-        return self._files.add(self._opened(place, flags))
+    def open(self, place: Place, flags: int, mode: int = 0o777, **named: Any) -> int:
+        return self._files.add(self._opened(place, flags, _whole(mode)))
 
-    def _opened(self, place: Place, flags: int) -> Description:
+    def _opened(self, place: Place, flags: int, mode: int) -> Description:
         """What a descriptor is to stand for: made, emptied or looked for, as the flags ask."""
         at, writes = _at(place), flags & os.O_ACCMODE != os.O_RDONLY
         if _NO_ENTRY and flags & _NO_ENTRY == _NO_ENTRY:
             self._files.directory(at)
-            return Description(Node(None, False), flags)
+            if not writes:
+                failed(errno.EINVAL)
+            metadata = self._metadata()
+            inode = metadata.new(stat.S_IFREG | mode & 0o7777 & ~metadata.mask)
+            inode.links = 0
+            return Description(Node(None, False, inode), flags)
         made = False
         if flags & os.O_CREAT:
             if place.of_directory:
-                failed(errno.EISDIR, place.path)
+                self.go_to(place)
+                if not os.fsdecode(place.path).endswith("/") and not self.tree.exists(at):
+                    failed(errno.ENOENT)
+                failed(errno.EEXIST if place.dots and flags & os.O_EXCL else errno.EISDIR)
             try:
+                if self.enforce and not self.tree.exists(at):
+                    self.check_above(place)
                 self.tree.mknod(at)
                 made = True
+                self._made(place, stat.S_IFREG | mode & 0o7777)
             except FileExistsError:
                 if flags & os.O_EXCL:
                     raise
         is_dir = not made and self._looked(place).is_dir
-        if is_dir and (writes or flags & os.O_CREAT):
+        if not made and flags & _NOT_FOLLOWED and self._is_link(at):
+            failed(errno.ELOOP, place.path)
+        if not made:
+            self.check(place, _ASKED[flags & os.O_ACCMODE])
+        if is_dir and (writes or flags & (os.O_CREAT | os.O_TRUNC)):
             failed(errno.EISDIR, place.path)
         if not is_dir and flags & os.O_DIRECTORY:
             failed(errno.ENOTDIR, place.path)
-        if flags & os.O_TRUNC and writes and not made:
+        if flags & os.O_TRUNC and not made:
             self.tree.truncate(at, 0)
         return Description(self._files.named(at, is_dir), flags)
 
@@ -243,9 +555,7 @@ class Sandbox:
     @together
     def fstat(self, fd: int) -> os.stat_result:
         node = self._files.of(fd).node
-        if node.path is not None:
-            return self.stat(Place(node.path, fd))
-        return result_of(Stat(node.is_dir, len(node.data)), self._device, b"%d" % id(node))
+        return node.inode.result(self._device, self._files.size(node))
 
     def close(self, fd: int) -> None:
         self._files.close(fd)
@@ -284,12 +594,16 @@ class Sandbox:
     def posix_fallocate(self, fd: int, offset: int, length: int) -> None:
         if offset < 0 or length <= 0:
             failed(errno.EINVAL)
+        if not self._files.of(fd).writes:
+            failed(errno.EBADF)
         if offset + length > self.fstat(fd).st_size:
             self._files.truncate(fd, offset + length)
+        else:
+            self._files.of(fd).node.inode.wrote(self._metadata().clock())
 
-    def fsync(self, fd: int, *given: int) -> None:
+    def fsync(self, fd: Any, *given: int) -> None:
         """What was written is in the tree."""
-        self._files.of(fd)
+        self._files.of(fd if isinstance(fd, int) else fd.fileno())
 
     fdatasync = posix_fadvise = set_inheritable = set_blocking = fsync
 
@@ -308,6 +622,24 @@ class Sandbox:
         return self._files.add(self._files.of(fd))
 
     @together
+    def dup2(self, fd: int, fd2: int, inheritable: bool) -> int:
+        """Lets a number be a descriptor of what another is of, of the tree or of the disk."""
+        if fd2 in self._files and fd2 != fd:
+            self._files.close(fd2)
+        if fd not in self._files:
+            return self._real["os.dup2"](fd, fd2, inheritable)  # type: ignore[no-any-return]
+        if fd2 != fd:
+            self._real["os.dup2"](fd, fd2, inheritable)
+            self._files.put(fd2, self._files.of(fd))
+        return fd2
+
+    @together
+    def splice(
+        self, src: int, dst: int, count: int, offset_src: Optional[int] = None, offset_dst: Optional[int] = None
+    ) -> int:
+        return self._sent(src, dst, count, offset_src, offset_dst)
+
+    @together
     def fchdir(self, fd: int) -> None:
         node = self._files.node(fd)
         self._files.work_in(node)
@@ -324,17 +656,29 @@ class Sandbox:
     def copy_file_range(
         self, src: int, dst: int, count: int, offset_src: Optional[int] = None, offset_dst: Optional[int] = None
     ) -> int:
+        self._files.check_copied(src, dst)
         return self._sent(src, dst, count, offset_src, offset_dst)
 
     def _sent(self, source: int, target: int, count: int, of_source: Optional[int], of_target: Optional[int]) -> int:
         count = min(count, self.tree.limits.read_bytes)
-        data = self.either("read", source, count) if of_source is None else self.either("pread", source, count, of_source)
+        data = (
+            self.either("read", source, count) if of_source is None else self.either("pread", source, count, of_source)
+        )
         if not data:
             return 0
-        sent: int = self.either("write", target, data) if of_target is None else self.either("pwrite", target, data, of_target)
+        sent: int = (
+            self.either("write", target, data) if of_target is None else self.either("pwrite", target, data, of_target)
+        )
         return sent
 
     # ---- Files
+
+    def check_file(self, descriptor: int, name: Any, closefd: bool) -> None:
+        """Raises where a descriptor is of a directory, and closes it if it was opened for that."""
+        if self._files.of(descriptor).node.is_dir:
+            if closefd and not isinstance(name, int):
+                self._files.close(descriptor)
+            failed(errno.EISDIR, name)
 
     def file(
         self,
@@ -348,16 +692,14 @@ class Sandbox:
         closefd: bool = True,
     ) -> Any:
         """The file object of a descriptor. Where it cannot be made, the descriptor is closed if it was to be."""
+        self.check_file(descriptor, name, closefd)
+        kind = next(one for one in mode if one in "rwxa")
+        kind = f"{kind}b+" if "+" in mode else f"{kind}b"
+        raw = DescribedFile.of(self._files, descriptor, name, kind, closefd)
         try:
-            if self._files.of(descriptor).node.is_dir:
-                failed(errno.EISDIR, name)
-            kind = next(one for one in mode if one in "rwxa")
-            kind = f"{kind}b" if "+" not in mode else "rb+" if kind == "w" else f"{kind}b+"
-            raw = DescribedFile(self._files, descriptor, name, kind, closefd)
-            return file_object(raw, mode, buffering, self.tree.limits.read_bytes, encoding, errors, newline)
+            return file_object(raw, mode, buffering, encoding, errors, newline)
         except BaseException:
-            if closefd and descriptor in self._files:
-                self._files.close(descriptor)
+            raw.close()
             raise
 
 
@@ -366,6 +708,14 @@ def flags_of(mode: str) -> int:
     both = os.O_RDWR if "+" in mode else os.O_RDONLY if "r" in mode else os.O_WRONLY
     made = {"r": 0, "w": os.O_CREAT | os.O_TRUNC, "x": os.O_CREAT | os.O_EXCL, "a": os.O_CREAT | os.O_APPEND}
     return both | os.O_CLOEXEC | next(made[one] for one in mode if one in made)
+
+
+def _whole(number: Any) -> int:
+    """A number that has to be whole, as the functions of `os` take it."""
+    try:
+        return operator.index(number)
+    except TypeError:
+        raise TypeError(f"'{type(number).__name__}' object cannot be interpreted as an integer") from None
 
 
 def _room(buffers: Iterable[Any]) -> int:

@@ -22,7 +22,11 @@ _CALLS, _THREADS = {Limits.V1: 65_536, Limits.V2: 65_536, Limits.V3: 4_194_304},
 _TAKES: Dict[Call, Tuple[str, ...]] = {
     **{call: ("path",) for call in (Call.MKDIR, Call.MKNOD, Call.UNLINK, Call.RMDIR, Call.STAT, Call.READDIR)},
     **{call: ("path", "path") for call in (Call.RENAME, Call.EXCHANGE)},
-    **{Call.READ: ("path", "offset", "count"), Call.WRITE: ("path", "offset", "bytes"), Call.TRUNCATE: ("path", "size")},
+    **{
+        Call.READ: ("path", "offset", "count"),
+        Call.WRITE: ("path", "offset", "bytes"),
+        Call.TRUNCATE: ("path", "size"),
+    },
     Call.LIST: ("path", "path", "count"),
 }
 
@@ -93,7 +97,9 @@ def planned_threads(calls: Mapping[str, Iterable[AnyCall]], limits: Limits) -> D
     made = {}
     for name, given in calls.items():
         if not isinstance(name, str) or not re.fullmatch(NAME, name, re.A):
-            raise ValueError(f"a thread has a name as in a script, a letter and at most 15 of a to z, 0 to 9 and _, and this is {name!r}")
+            raise ValueError(
+                f"a thread has a name as in a script, a letter and at most 15 of a to z, 0 to 9 and _, and this is {name!r}"
+            )
         if isinstance(given, str):
             raise TypeError(f"the calls of thread {name} are a list, and this is str")
         made[name] = [planned(call, limits) for call in given]
@@ -109,4 +115,7 @@ def script(threads: Mapping[str, List[Planned]], events: Iterable[str], limits: 
         lines += [f"thread {name}", *(call.line for call in calls)]
     turns = [(name, len(list(those))) for name, those in itertools.groupby(events)]
     words = " ".join(name if count == 1 else f"{name}*{count}" for name, count in turns)
-    return "\n".join([*lines, "schedule", *textwrap.wrap(words, 72, break_long_words=False, break_on_hyphens=False)]) + "\n"
+    return (
+        "\n".join([*lines, "schedule", *textwrap.wrap(words, 72, break_long_words=False, break_on_hyphens=False)])
+        + "\n"
+    )

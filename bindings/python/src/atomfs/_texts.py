@@ -30,11 +30,16 @@ class Room:
 
 def told_text(library: Library, room: Room, function: Any, *given: Any, more: Tuple[Any, ...] = ()) -> str:
     """A text of the library, all of which is ASCII, with as much room as it wants."""
+    return told(library, room, function, *given, more=more).decode("ascii")
+
+
+def told(library: Library, room: Room, function: Any, *given: Any, more: Tuple[Any, ...] = ()) -> bytes:
+    """The same as bytes."""
     while status := function(*given, room.at, room.size, room.at_count, *more):
         if status != Status.TOO_SMALL:
             raise error_of(library, status, about=room.count.value)
         room.make(room.count.value)
-    return room.told().decode("ascii")
+    return room.told()
 
 
 def check(journal: Union[str, bytes]) -> str:

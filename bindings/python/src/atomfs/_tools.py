@@ -36,7 +36,9 @@ def _told(name: str, text: bytes, *given: int) -> str:
 def _refusal(status: int, about: int) -> Exception:
     """The exception of a status that is not OK."""
     if status == Status.TOO_LARGE and not about:
-        return Error(status, "the run takes more events than a script gives, or the script would have more bytes than a text has")
+        return Error(
+            status, "the run takes more events than a script gives, or the script would have more bytes than a text has"
+        )
     return error_of(library(), status, about)
 
 
@@ -158,5 +160,9 @@ def _explained(word: str) -> str:
 
 def _words() -> List[str]:
     """The words of all faults, and those of histories."""
-    texts = [status.kind.removeprefix("Path") for status in Status if Status.BAD_HEADER <= status <= Status.PATH_TRAILING_SLASH]
+    texts = [
+        status.kind.removeprefix("Path")
+        for status in Status
+        if Status.BAD_HEADER <= status <= Status.PATH_TRAILING_SLASH
+    ]
     return [*texts, "OutOfMemory", *(fault.kind for fault in Fault if fault), "ReturnUnbegun", "none", "unknown"]

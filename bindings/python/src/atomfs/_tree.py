@@ -9,18 +9,41 @@ import stat
 import threading
 import time
 import weakref
-from typing import IO, Any, Callable, Dict, Iterator, List, Mapping, NamedTuple, NoReturn, Optional, Tuple, Type, TypeVar, Union, overload
+from typing import (
+    IO,
+    TYPE_CHECKING,
+    Any,
+    Callable,
+    Dict,
+    Iterator,
+    List,
+    Mapping,
+    NamedTuple,
+    NoReturn,
+    Optional,
+    Tuple,
+    Type,
+    TypeVar,
+    Union,
+    overload,
+)
 
 from . import _last, _load, _rows, _seats, _tools, _walk
+from ._calls import Noted, calls_of, named
 from ._errors import AnyPath, Error, StrPath, WaitsError, encoded, error_at, error_of
 from ._file import open_file
 from ._journal import ALL, Journal, Noting, Standing
-from ._library import LISTED, Call, CStat, Did, Fault, Handle, Limits, Request, Status, library
+from ._library import LISTED, Call, CStat, Did, Fault, Handle, Library, Limits, Status, library
 from ._load import Snapshot
+from ._metadata import Metadata
+from ._names import Names
 from ._path import Path, class_of
-from ._texts import ROOM, Room, told_text
+from ._texts import ROOM, Room, told, told_text
 from ._tools import Picture
 from ._values import NAME, Data, bytes_of, names_asked, number_of
+
+if TYPE_CHECKING:
+    from ._calls import AnyCalls
 
 _Self = TypeVar("_Self", bound="Tree")
 Reply = Union[None, "Stat", List[str], bytes, int]
@@ -82,11 +105,7 @@ def _names(told: bytes) -> List[bytes]:
     return told.split(b"\0")[:-1]
 
 
-def _decoded(names: List[bytes]) -> List[str]:
-    return [name.decode("utf-8", "surrogateescape") for name in names]
-
-
-class Tree:
+class Tree(Names):
     """A tree of at most `limit` nodes, its root included, with the journal of its calls. `limits` bounds its names, paths, directories and
     files, and `limit` is its most nodes where none is given.
 
@@ -101,8 +120,10 @@ class Tree:
         self, limit: Optional[int] = None, *, limits: Limits = Limits.V3, room: int = ROOM, journal: Journal = ALL
     ) -> None:
         self.lock = threading.RLock()
+        # What keeps other threads off while a file or an entry and what is noted of it change together.
+        self._door = self.lock
         self._handle = Handle()
-        self._library: Any = library()
+        self._library: Library = library()
         self._stat, self._number, self._wrote = CStat(), ctypes.c_uint64(), ctypes.c_uint64()
         self._at, self._at_stat = ctypes.addressof(self._handle), ctypes.addressof(self._stat)
         self._at_number, self._at_wrote = ctypes.addressof(self._number), ctypes.addressof(self._wrote)
@@ -123,8 +144,16 @@ class Tree:
             raise error_of(self._library, status)
         # The seat of each thread's calls: the first is of the thread that has made the tree.
         self._mine = _seats.Mine(self._library, self._at, [])
+        # How many nodes there are, or -1 where that is not known: no call has told it.
+        self._nodes = ctypes.c_int64(1)
+        # Whether a call was begun on a seat, of which any step may have made a node or taken one away.
+        self._stepped = False
+        self._calls: AnyCalls = calls_of(self, Stat, Step)
+        self._calls.on(self._handle, self._mine, self._standing, None, self._nodes)
         # The names of seats that have one.
         self._names: Dict[int, str] = {}
+        # What a directory of the disk has besides, once the tree has stood at one.
+        self._metadata: Optional[Metadata] = None
         if journal != ALL:
             self.keep(journal)
 
@@ -161,6 +190,18 @@ class Tree:
             status = self._library.step(self._at, 1, ctypes.addressof(did), ctypes.addressof(about))
             return status == Status.NO_SEAT and not self.calls and not self.calls_before
 
+    def _called(self) -> None:
+        """Lets calls go to the handle as it is now, and be noted where the tree forgets by itself."""
+        noted = None if self.keeps == ALL else self._standing.noted
+        self._calls.on(self._handle, self._mine, self._standing, noted, self._nodes)
+
+    def _keep_beside(self, metadata: Optional[Metadata]) -> None:
+        """Lets each change of the tree be told to what is kept of its nodes besides, or to nothing."""
+        self._metadata = metadata
+        calls = calls_of(self, Stat, Step)
+        self._calls = calls if metadata is None else Noted(calls, metadata)
+        self._called()
+
     def _opened_again(self, opens: Callable[[int], int]) -> int:
         """Opens another handle, which comes in the place of that of a new tree. Where it stays closed, the tree is as before."""
         handle = Handle()
@@ -169,15 +210,18 @@ class Tree:
             return status
         with self.lock:
             self._library.close(self._at)
-            self._handle, self._at = handle, at
+            self._handle, self._at, self._nodes.value = handle, at, -1
             self._mine = _seats.Mine(self._library, at, [])
+            self._called()
             kept: int = self._library.keep(at, self.keeps.most)
         return kept
 
     # ---- In and out: a new tree begins its journal behind what it is filled with, and is closed where that fails
 
     @classmethod
-    def from_dict(cls: Type[_Self], files: Mapping[str, Any], limit: Optional[int] = None, *, limits: Limits = Limits.V3) -> _Self:
+    def from_dict(
+        cls: Type[_Self], files: Mapping[str, Any], limit: Optional[int] = None, *, limits: Limits = Limits.V3
+    ) -> _Self:
         """A tree of these files: by paths, with or without the first slash, `bytes` or `str`, as UTF-8.
 
         None is an empty directory, and a dictionary what is in one.
@@ -231,8 +275,12 @@ class Tree:
         _load.to_zip(self, file)
 
     def snapshot(self) -> Snapshot:
-        """The tree as it is now, of one moment and by no call: as much work and memory as its text."""
-        return Snapshot(self.limits, self.tree())
+        """The tree as it is now, of one moment and by no call: as much work and memory as its text.
+
+        Permissions, times and so on, which `atomfs.patch` keeps, are in it too.
+        """
+        with self.lock:
+            return Snapshot(self.limits, self.tree(), self._metadata and self._metadata.copied())
 
     def restore(self, snapshot: Snapshot) -> None:
         """Lets the tree be as it was, by the calls that this takes: for what has changed one, two or three a node.
@@ -262,8 +310,15 @@ class Tree:
         return repr(self) if self.closed else _rows.drawn(self.tree())
 
     def __len__(self) -> int:
-        """How many nodes there are, the root included."""
-        return self.tree().count("\n") - 1
+        """How many nodes there are, the root included. They are counted with the calls; behind a rename, which may have replaced one, and
+        where calls were made step by step, this takes as long as the text of the tree."""
+        with self.lock:
+            if self._stepped or self._nodes.value < 0 or self.closed:
+                self._nodes.value = self._told_tree().count(b"\n") - 1
+            return self._nodes.value
+
+    def _told_tree(self) -> bytes:
+        return told(self._library, self._room, self._library.tree, self._at)
 
     def __bool__(self) -> bool:
         """A tree is true, open or closed: nothing is looked at."""
@@ -280,68 +335,74 @@ class Tree:
     # ---- Calls
 
     def mkdir(self, path: AnyPath) -> None:
-        """Makes an empty directory."""
-        self._on_path(self._library.mkdir, Call.MKDIR, path)
+        """Makes an empty directory.
+
+        `FileExistsError` if something is there. This and each other call raises `FileNotFoundError` or `NotADirectoryError` where a path
+        leads through what is missing or a file, and `OSError` with `ENOSPC` if a directory or the tree is full."""
+        self._calls.mkdir(self, path)
 
     def mknod(self, path: AnyPath) -> None:
-        """Makes an empty file."""
-        self._on_path(self._library.mknod, Call.MKNOD, path)
+        """Makes an empty file. `FileExistsError` if something is there."""
+        self._calls.mknod(self, path)
 
     def unlink(self, path: AnyPath) -> None:
-        """Removes the entry of a file."""
-        self._on_path(self._library.unlink, Call.UNLINK, path)
+        """Removes the entry of a file. `FileNotFoundError` if nothing is there, `PermissionError` if a directory is."""
+        self._calls.unlink(self, path)
 
     def rmdir(self, path: AnyPath) -> None:
-        """Removes the entry of an empty directory."""
-        self._on_path(self._library.rmdir, Call.RMDIR, path)
+        """Removes the entry of an empty directory. `OSError` with `ENOTEMPTY` if it has entries, `NotADirectoryError` if it is a file."""
+        self._calls.rmdir(self, path)
 
     def rename(self, path: AnyPath, other: AnyPath) -> None:
-        """Moves what stands at `path`, with all below it, to `other`; a file or an empty directory there is replaced."""
-        self._on_paths(self._library.rename, Call.RENAME, path, other)
+        """Moves what stands at `path`, with all below it, to `other`; a file or an empty directory there is replaced.
+
+        `OSError` with `ENOTEMPTY` if the directory there has entries, with `EINVAL` if `other` is below `path`. `IsADirectoryError` and
+        `NotADirectoryError` if one of them is a file and the other a directory."""
+        self._calls.rename(self, path, other)
 
     def exchange(self, path: AnyPath, other: AnyPath) -> None:
-        """Lets what stands at two paths change places, each with all below it."""
-        self._on_paths(self._library.exchange, Call.EXCHANGE, path, other)
+        """Lets what stands at two paths change places, each with all below it. `OSError` with `EINVAL` if one is below the other."""
+        self._calls.exchange(self, path, other)
 
     def stat(self, path: AnyPath) -> Stat:
-        """What stands at a path."""
-        raw = encoded(path)
-        with self.lock:
-            status = self._library.stat(self._at, self._mine.number, raw, len(raw), self._at_stat, self._at_number)
-            if status:
-                raise self._error(status, Call.STAT, path)
-            return _stat_of(self._stat)
+        """What stands at a path. `FileNotFoundError` if nothing does."""
+        return self._calls.stat(self, path)
 
     @overload
-    def readdir(self, path: StrPath) -> List[str]: ...
+    def readdir(self, path: StrPath) -> List[str]:
+        ...
 
     @overload
-    def readdir(self, path: Union[bytes, os.PathLike[bytes]]) -> List[bytes]: ...
+    def readdir(self, path: Union[bytes, os.PathLike[bytes]]) -> List[bytes]:
+        ...
 
     def readdir(self, path: AnyPath) -> Union[List[str], List[bytes]]:
         """The names of a directory, in byte order: of `bytes` where the path is.
 
         `OSError` with `EOVERFLOW` is raised where they are more than 256, as they may be by `Limits.V3`: `listdir` tells these.
         """
-        return self._names_by(self._library.readdir, Call.READDIR, path)
+        return self._calls.readdir(self, path)
 
     @overload
-    def list(self, path: StrPath, after: AnyPath = "/", count: int = LISTED) -> List[str]: ...
+    def list(self, path: StrPath, after: AnyPath = "/", count: int = LISTED) -> List[str]:
+        ...
 
     @overload
-    def list(self, path: Union[bytes, os.PathLike[bytes]], after: AnyPath = "/", count: int = LISTED) -> List[bytes]: ...
+    def list(self, path: Union[bytes, os.PathLike[bytes]], after: AnyPath = "/", count: int = LISTED) -> List[bytes]:
+        ...
 
     def list(self, path: AnyPath, after: AnyPath = "/", count: int = LISTED) -> Union[List[str], List[bytes]]:
         """The names of a directory above the last name of the path `after`, or from the first on, in byte order: at most `count`, and at
         most 256. A tree by `Limits.V3` alone has it."""
-        raw, count = encoded(after), names_asked(count)
-        return self._names_by(self._library.list, Call.LIST, path, raw, len(raw), count)
+        return self._calls.list(self, path, after, count)
 
     @overload
-    def listdir(self, path: StrPath) -> List[str]: ...
+    def listdir(self, path: StrPath) -> List[str]:
+        ...
 
     @overload
-    def listdir(self, path: Union[bytes, os.PathLike[bytes]]) -> List[bytes]: ...
+    def listdir(self, path: Union[bytes, os.PathLike[bytes]]) -> List[bytes]:
+        ...
 
     def listdir(self, path: AnyPath) -> Union[List[str], List[bytes]]:
         """All names of a directory, in byte order, by one `readdir`; by `Limits.V3` by a `list` for each 256, each a call of its own, between
@@ -349,92 +410,70 @@ class Tree:
         names: Union[List[str], List[bytes]] = _walk.names(self, path)
         return names
 
-    def _names_by(self, function: Any, call: Call, path: AnyPath, *more: Any) -> Union[List[str], List[bytes]]:
-        """The names that a call replies."""
-        raw, room = encoded(path), self._room
-        with self.lock:
-            status = function(
-                self._at, self._mine.number, raw, len(raw), *more, room.at, room.size, room.at_count, self._at_number
-            )
-            if status in (Status.TOO_SMALL, Status.UNTOLD):
-                names = self._told_names(self._number.value, (path,))
-            elif status:
-                raise self._error(status, call, path)
-            else:
-                names = _names(room.told())
-        return names if isinstance(os.fspath(path), bytes) else _decoded(names)
-
     def read(self, path: AnyPath, offset: int = 0, count: Optional[int] = None) -> bytes:
         """At most `count` bytes of a file from an offset on, or all from there on: what one call reads, and where that are more than
         `limits.read_bytes`, as they may be by `Limits.V3`, what several do."""
-        raw, offset = encoded(path), number_of(offset, "offset")
+        return self._calls.read(self, path, offset, count)
+
+    def _read_pieces(self, path: AnyPath, offset: int, count: Optional[int], known: Optional[bytes] = None) -> bytes:
+        """As `read`, by as many calls as it takes. `known` is what a first read of a whole file has told, as many bytes as it asked for."""
+        # What is none is refused in the order of the arguments.
+        encoded(path)
+        offset = number_of(offset, "offset")
         most, left = self.limits.read_bytes, self.limits.file_bytes if count is None else number_of(count, "count")
         with self.lock:
-            pieces = [self._first(path, raw, offset) if count is None else self._read(path, raw, offset, left)]
+            pieces = [self._first(path, offset, known) if count is None else self._read(path, offset, left)]
             while len(pieces[-1]) == most and offset + most < self.limits.file_bytes and left > most:
                 offset, left = offset + most, left - most
-                pieces.append(self._read(path, raw, offset, left))
+                pieces.append(self._read(path, offset, left))
         return pieces[0] if len(pieces) == 1 else b"".join(pieces)
 
-    def _first(self, path: AnyPath, raw: bytes, offset: int) -> bytes:
+    def _first(self, path: AnyPath, offset: int, known: Optional[bytes]) -> bytes:
         """All bytes from an offset on, as many as one call reads."""
         size, most = ROOM, self.limits.read_bytes
-        while len(data := self._read(path, raw, offset, size)) == size < most:
+        data = self._read(path, offset, size) if known is None else known
+        while len(data) == size < most:
             size = min(most, 2 * max(size, self.stat(path).size))
+            data = self._read(path, offset, size)
         return data
 
-    def _read(self, path: AnyPath, raw: bytes, offset: int, count: int) -> bytes:
+    def _read(self, path: AnyPath, offset: int, count: int) -> bytes:
         room = self._room
         if count > room.size:
             # A file may be shorter than what is asked for by far.
             count = min(count, max(room.size, min(self.stat(path).size, self.limits.read_bytes)))
             room.make(max(room.size, count))
-        status = self._library.read(
-            self._at, self._mine.number, raw, len(raw), offset, room.at, count, room.at_count, self._at_number
-        )
-        if status == Status.UNTOLD:
-            status = self._library.reply_bytes(self._at, self._number.value, room.at, room.size, room.at_count)
-        if status:
-            raise self._error(status, Call.READ, path)
-        return room.told()
+        return self._calls.piece(self, path, offset, count)
 
     def write(self, path: AnyPath, offset: int, data: Data) -> int:
         """Writes bytes into a file at an offset: all of them or none. A gap before them reads as zeros."""
-        raw, offset, data = encoded(path), number_of(offset, "offset"), bytes_of(data)
-        with self.lock:
-            status = self._library.write(
-                self._at, self._mine.number, raw, len(raw), offset, data, len(data), self._at_wrote, self._at_number
-            )
-            if status:
-                raise self._error(status, Call.WRITE, path)
-            return self._wrote.value
+        return self._calls.write(self, path, offset, data)
 
     def truncate(self, path: AnyPath, size: int) -> None:
         """Cuts a file to a size, or adds zeros up to it."""
-        raw, size = encoded(path), number_of(size, "size")
-        with self.lock:
-            if status := self._library.truncate(self._at, self._mine.number, raw, len(raw), size, self._at_number):
-                raise self._error(status, Call.TRUNCATE, path)
+        self._calls.truncate(self, path, size)
 
-    def _on_path(self, function: Any, call: Call, path: AnyPath) -> None:
-        raw = encoded(path)
-        with self.lock:
-            if status := function(self._at, self._mine.number, raw, len(raw), self._at_number):
-                raise self._error(status, call, path)
+    def _refusal(self, status: int) -> Exception:
+        """The exception of what is refused, as while a call is under way, which it names."""
+        error = error_of(self._library, status, about=self._number.value if status == Status.UNDER_WAY else 0)
+        if status == Status.UNDER_WAY:
+            self._entries(2**63 - 1)
+            lines = self._entries(max(0, self._room.entries.value - _NEAR))
+            begun = re.search(rf"(?m)^begin {self._number.value} \S+ (.*)$", lines)
+            error.args = (f"{error}: {_cut(begun[1]) if begun else f'number {self._number.value}'}",)
+        return error
 
-    def _on_paths(self, function: Any, call: Call, path: AnyPath, other: AnyPath) -> None:
-        raw, raw_other = encoded(path), encoded(other)
-        with self.lock:
-            if status := function(self._at, self._mine.number, raw, len(raw), raw_other, len(raw_other), self._at_number):
-                raise self._error(status, call, path, other)
-
-    def _error(self, status: int, call: Call, *paths: AnyPath) -> Exception:
+    def _error(self, status: int, call: int, *paths: AnyPath) -> Exception:
         """The exception of a call that did not come to its reply. One that waits keeps its seat, and the thread takes another."""
         if status != Status.WAITS:
             return error_at(self, status, paths)
         seat = Seat(self, self._mine.leave())
-        seat._began(call, self._number.value, paths)
-        return WaitsError(self._library.words(status), self._number.value, seat)
+        seat._began(Call(call), self._number.value, paths)
+        return WaitsError(f"{self._library.words(status)}: {seat._words()}", self._number.value, seat)
+
+    def _names_behind(self, number: int, path: AnyPath) -> Union[List[str], List[bytes]]:
+        """The names that a call replied which had no room for all, as they are answered."""
+        return named(self._told_names(number, (path,)), path)
 
     def _told_names(self, number: int, paths: Tuple[AnyPath, ...]) -> List[bytes]:
         """The names that a call replied, in pieces for which there is room."""
@@ -453,6 +492,16 @@ class Tree:
             names += _names(room.told())
 
     # ---- What is made of these calls
+
+    def _kind(self, path: AnyPath) -> Optional[bool]:
+        """Whether a directory stands at a path, and none of both where nothing does, by a `stat`."""
+        if type(self).stat is Tree.stat:
+            return self._calls.kind(self, path)
+        # A subclass has a `stat` of its own.
+        try:
+            return self.stat(path).is_dir
+        except _walk.GONE:
+            return None
 
     def exists(self, path: AnyPath) -> bool:
         """Whether something stands at a path, by a `stat`."""
@@ -521,7 +570,9 @@ class Tree:
         """The bytes of a file, by one `read`, and of more than `limits.read_bytes` by several."""
         return self.read(path)
 
-    def read_text(self, path: AnyPath, encoding: str = "utf-8", errors: str = "strict", newline: Optional[str] = None) -> str:
+    def read_text(
+        self, path: AnyPath, encoding: str = "utf-8", errors: str = "strict", newline: Optional[str] = None
+    ) -> str:
         """The text of a file, read as by `read_bytes`; the ends of lines are as of `open`."""
         return io.TextIOWrapper(io.BytesIO(self.read(path)), encoding, errors, newline).read()
 
@@ -557,7 +608,9 @@ class Tree:
         with self.lock:
             self._entries(2**63 - 1)
             count, size = self._room.entries.value, 3
-            while not (numbers := re.findall(r"(?m)^begin (\d+) ", self._entries(max(0, count - size)))) and size < count:
+            while (
+                not (numbers := re.findall(r"(?m)^begin (\d+) ", self._entries(max(0, count - size)))) and size < count
+            ):
                 size *= 4
         return int(numbers[-1]) if numbers else 0
 
@@ -577,7 +630,9 @@ class Tree:
 
     def _entries(self, first: int) -> str:
         """The lines of the journal from an entry on."""
-        return told_text(self._library, self._room, self._library.journal, self._at, first, more=(self._room.at_entries,))
+        return told_text(
+            self._library, self._room, self._library.journal, self._at, first, more=(self._room.at_entries,)
+        )
 
     @property
     def calls_before(self) -> int:
@@ -593,6 +648,7 @@ class Tree:
                 raise error_of(self._library, status)
             of = library()
             self.keeps, self._library = journal, of if journal == ALL else Noting(of, self._standing)
+            self._called()
 
     def forget(self) -> int:
         """Lets the journal begin again at the tree as it stands, and answers how many calls are forgotten.
@@ -601,7 +657,7 @@ class Tree:
         """
         with self.lock:
             if status := self._library.forget(self._at, self._at_number):
-                raise error_of(self._library, status, about=self._number.value if status == Status.UNDER_WAY else 0)
+                raise self._refusal(status)
             self._standing.begin_again(self._number.value)
             return self._number.value
 
@@ -654,7 +710,7 @@ class Tree:
             room = self._room
             while status := self._library.checkpoint(self._at, room.at, room.size, room.at_count, self._at_number):
                 if status != Status.TOO_SMALL:
-                    raise error_of(self._library, status, about=self._number.value if status == Status.UNDER_WAY else 0)
+                    raise self._refusal(status)
                 room.make(room.count.value)
             self._standing.begin_again(self._number.value)
             return self._named(room.told().decode("ascii"))
@@ -662,14 +718,16 @@ class Tree:
     def tree(self) -> str:
         """The text of the tree: a line for each node."""
         with self.lock:
-            return told_text(self._library, self._room, self._library.tree, self._at)
+            return self._told_tree().decode("ascii")
 
     # ---- Schedules
 
     def seat(self, name: Optional[str] = None) -> Seat:
         """A new seat, on which calls are made step by step. Its name, as of a thread of a script, stands in the journal, in a comment."""
         if name is not None and not re.fullmatch(NAME, name, re.A):
-            raise ValueError(f"a name is a letter, then at most 15 of a to z, 0 to 9 and _, and not finish; this is {name!r}")
+            raise ValueError(
+                f"a name is a letter, then at most 15 of a to z, 0 to 9 and _, and not finish; this is {name!r}"
+            )
         with self.lock:
             if name in self._names.values():
                 raise ValueError(f"another seat has the name {name!r}")
@@ -696,6 +754,12 @@ def _cut(words: str) -> str:
     return words if len(words) <= 100 else f"{words[:100]}.."
 
 
+# In so many last entries the call is looked for that an error names.
+_NEAR = 1_000
+# The calls that change a tree, but for `write`, whose reply is another.
+_CHANGES = (Call.MKDIR, Call.MKNOD, Call.UNLINK, Call.RMDIR, Call.RENAME, Call.EXCHANGE, Call.TRUNCATE)
+
+
 class Seat:
     """A place for one call under way. `begin` begins a call, `step` makes one step of it, `finish` makes the rest."""
 
@@ -705,35 +769,48 @@ class Seat:
         self._call_number, self._begun_again = 0, 0
         self._paths: Tuple[AnyPath, ...] = ()
 
+    def __repr__(self) -> str:
+        name = f" {self.name!r}" if self.name is not None else ""
+        return f"<atomfs.Seat {self.number}{name}: {self._words() if self._call is not None else 'no call yet'}>"
+
+    def _words(self) -> str:
+        """The call that was begun last, as the journal has it, without its bytes."""
+        assert self._call is not None
+        return _cut(" ".join([self._call.name.lower(), *(_walk.text_of(path) for path in self._paths)]))
+
     @property
     def begin(self) -> Begin:
         """Begins a call, as `seat.begin.rename("/a", "/b")`, and answers its number."""
         return Begin(self)
 
     def _began(self, call: Call, number: int, paths: Tuple[AnyPath, ...]) -> None:
-        self._call, self._call_number, self._paths = call, number, paths
+        self._call, self._call_number, self._paths, self.tree._stepped = call, number, paths, True
         self._begun_again = self.tree._standing.begun_again
 
     def _begin(self, call: Call, *paths: AnyPath, offset: int = 0, size: int = 0, data: bytes = b"") -> int:
-        tree, raw = self.tree, [encoded(path) for path in paths]
-        other = raw[1] if raw[1:] else b""
-        request = Request(call, raw[0], len(raw[0]), other, len(other), offset, size, data, len(data))
-        number = ctypes.c_uint64()
+        tree = self.tree
         with tree.lock:
-            at = ctypes.addressof(request), ctypes.addressof(number)
-            if status := tree._library.begin_call(tree._at, self.number, *at):
-                raise error_at(tree, status, paths)
-            self._began(call, number.value, paths)
-        return number.value
+            other = paths[1] if paths[1:] else None
+            try:
+                number = tree._calls.begin(tree, self.number, call, paths[0], other, offset, size, data)
+            except Error as error:
+                if error.status == Status.SEAT_BUSY and self._call is not None:
+                    error.args = (f"{error}: {self._words()}",)
+                raise
+            self._began(call, number, paths)
+        return number
 
     def step(self) -> Step:
         """Makes one step of the call on the seat."""
-        did, about = ctypes.c_uint8(), ctypes.c_uint64()
         tree = self.tree
+        if tree._metadata is None:
+            return tree._calls.step(tree, self.number)
         with tree.lock:
-            if status := tree._library.step(tree._at, self.number, ctypes.addressof(did), ctypes.addressof(about)):
-                raise error_of(tree._library, status)
-        return Step(Did(did.value), about.value)
+            made = tree._calls.step(tree, self.number)
+            if made.did == Did.RETURN and self._call in _CHANGES:
+                if not tree._library.reply_done(tree._at, self._call_number):
+                    tree._metadata.did(self._call, *self._paths)
+            return made
 
     def finish(self, wait: bool = False) -> Reply:
         """Makes the steps of the call up to its return, and answers its reply, or raises its error.
@@ -749,28 +826,32 @@ class Seat:
                     return self.reply()
             if did == Did.WAIT:
                 if not wait:
-                    raise WaitsError(self.tree._library.words(Status.WAITS), self._call_number, self)
+                    words = f"{self.tree._library.words(Status.WAITS)}: {self._words()}"
+                    raise WaitsError(words, self._call_number, self)
                 time.sleep(0)
 
     def reply(self) -> Reply:
         """The reply of the last call that was begun on the seat, once it has returned, or its error raised."""
+        with self.tree.lock:
+            return self._reply()
+
+    def _reply(self) -> Reply:
+        """The same, where nothing else comes in between."""
         tree = self.tree
-        with tree.lock:
-            if self._call is None or self._begun_again != tree._standing.begun_again:
-                raise error_of(tree._library, Status.NO_REPLY)
-            if self._call == Call.STAT:
-                self._done(tree._library.reply_stat, tree._at_stat)
-                return _stat_of(tree._stat)
-            if self._call in (Call.READDIR, Call.LIST):
-                names = tree._told_names(self._call_number, self._paths)
-                return names if isinstance(os.fspath(self._paths[0]), bytes) else _decoded(names)  # type: ignore[return-value]
-            if self._call == Call.READ:
-                return self._told_bytes()
-            if self._call == Call.WRITE:
-                self._done(tree._library.reply_wrote, tree._at_wrote)
-                return tree._wrote.value
-            self._done(tree._library.reply_done)
-            return None
+        if self._call is None or self._begun_again != tree._standing.begun_again:
+            raise error_of(tree._library, Status.NO_REPLY)
+        if self._call == Call.STAT:
+            self._done(tree._library.reply_stat, tree._at_stat)
+            return _stat_of(tree._stat)
+        if self._call in (Call.READDIR, Call.LIST):
+            return named(tree._told_names(self._call_number, self._paths), self._paths[0])  # type: ignore[return-value]
+        if self._call == Call.READ:
+            return self._told_bytes()
+        if self._call == Call.WRITE:
+            self._done(tree._library.reply_wrote, tree._at_wrote)
+            return tree._wrote.value
+        self._done(tree._library.reply_done)
+        return None
 
     def _done(self, function: Any, *rest: Any) -> None:
         tree = self.tree

@@ -46,10 +46,7 @@ def plain(path: AnyPath) -> str:
 
 def kind(tree: Tree, path: AnyPath) -> Optional[bool]:
     """Whether a directory stands at a path, and none of both where nothing does."""
-    try:
-        return tree.stat(path).is_dir
-    except GONE:
-        return None
+    return tree._kind(path)
 
 
 def makedirs(tree: Tree, path: AnyPath, exist_ok: bool) -> None:
@@ -219,17 +216,35 @@ def copy(tree: Tree, source: AnyPath, target: AnyPath) -> None:
         raise
 
 
-def check_mode(mode: str, buffering: int, encoding: Optional[str], errors: Optional[str], newline: Optional[str]) -> None:
-    """Raises for what the builtin `open` refuses, before a file is made or emptied."""
-    if len(set(mode)) != len(mode) or set(mode) - set("rwaxbt+") or sum(mode.count(one) for one in "rwax") != 1:
+# The usual modes.
+_MODES = {"r", "w", "a", "x", "rb", "wb", "ab", "xb"}
+
+
+def check_words(mode: str, encoding: Optional[str], errors: Optional[str], newline: Optional[str]) -> None:
+    """Raises for a mode that the builtin `open` refuses, and for words that a binary one does not take."""
+    if mode in _MODES and (mode[-1] != "b" or encoding is errors is newline is None):
+        return
+    if len(set(mode)) != len(mode) or set(mode) - set("rwaxbt+"):
         raise ValueError(f"invalid mode: {mode!r}")
+    if "b" in mode and "t" in mode:
+        raise ValueError("can't have text and binary mode at once")
+    kinds = sum(mode.count(one) for one in "rwax")
+    if kinds > 1:
+        raise ValueError("must have exactly one of create/read/write/append mode")
     if "b" in mode:
-        if "t" in mode:
-            raise ValueError("can't have text and binary mode at once")
         for name, value in (("encoding", encoding), ("errors", errors), ("newline", newline)):
             if value is not None:
                 raise ValueError(f"binary mode doesn't take an {name} argument")
-    elif buffering == 0:
+    if not kinds:
+        raise ValueError("Must have exactly one of create/read/write/append mode and at most one plus")
+
+
+def check_mode(
+    mode: str, buffering: int, encoding: Optional[str], errors: Optional[str], newline: Optional[str]
+) -> None:
+    """Raises for what the builtin `open` refuses, before a file is made or emptied."""
+    check_words(mode, encoding, errors, newline)
+    if "b" not in mode and buffering == 0:
         raise ValueError("can't have unbuffered text I/O")
     if newline not in (None, "", "\n", "\r", "\r\n"):
         raise ValueError(f"illegal newline value: {newline!r}")

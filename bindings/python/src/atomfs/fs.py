@@ -43,7 +43,12 @@ _OF_ANY: _Kinds = {
     errno.ENOSPC: errors.InsufficientStorage,
     errno.EFBIG: errors.InsufficientStorage,
 }
-_OF_FILES: _Kinds = {**_OF_ANY, errno.EISDIR: errors.FileExpected, errno.EPERM: errors.FileExpected, errno.EEXIST: errors.FileExists}
+_OF_FILES: _Kinds = {
+    **_OF_ANY,
+    errno.EISDIR: errors.FileExpected,
+    errno.EPERM: errors.FileExpected,
+    errno.EEXIST: errors.FileExists,
+}
 # A file is moved below a file: both paths are good, and the directory for the second is none.
 _OF_MOVES: _Kinds = {**_OF_FILES, errno.EINVAL: errors.ResourceNotFound}
 _OF_DIRECTORIES: _Kinds = {**_OF_ANY, errno.ENOTDIR: errors.DirectoryExpected, errno.EEXIST: errors.DirectoryExists}
@@ -81,7 +86,11 @@ class AtomFS(FS):
     }
 
     def __init__(
-        self, tree: Optional[Tree] = None, limit: Optional[int] = None, limits: Limits = Limits.V3, journal: Journal = OF_FILE_SYSTEMS
+        self,
+        tree: Optional[Tree] = None,
+        limit: Optional[int] = None,
+        limits: Limits = Limits.V3,
+        journal: Journal = OF_FILE_SYSTEMS,
     ) -> None:
         super().__init__()
         # Where no tree can be made there is none to close.
@@ -202,5 +211,7 @@ class AtomOpener(Opener):
     def open_fs(self, fs_url: Text, parse_result: Any, writeable: bool, create: bool, cwd: Text) -> AtomFS:
         asked = parse_result.params or parse_result.username or parse_result.password or parse_result.path
         if asked or parse_result.resource.strip("/"):
-            raise OpenerError("atomfs:// opens a new tree, and takes no path, parameters, user and password: AtomFS() takes a limit")
+            raise OpenerError(
+                "atomfs:// opens a new tree, and takes no path, parameters, user and password: AtomFS() takes a limit"
+            )
         return AtomFS()

@@ -20,11 +20,14 @@ from glob import has_magic
 from typing import Any, Iterator, Optional
 
 from fsspec import AbstractFileSystem  # type: ignore[import]
+from fsspec.implementations.local import LocalFileSystem  # type: ignore[import]
 from fsspec.utils import stringify_path  # type: ignore[import]
 
 from . import Tree
 from ._file import AnyFile, open_file
 from ._journal import OF_FILE_SYSTEMS
+from ._library import Call
+from ._metadata import metadata_of
 from ._walk import GONE, check_directory, joined
 
 
@@ -87,6 +90,8 @@ class AtomFileSystem(AbstractFileSystem):  # type: ignore[misc]
         super().__init__(**options)
         #: The tree itself.
         self.atom_tree = self._of_the_process() if tree is None else tree
+        # From now on times and so on are kept beside the tree.
+        metadata_of(self.atom_tree)
 
     @classmethod
     def _of_the_process(cls) -> Tree:
@@ -105,8 +110,21 @@ class AtomFileSystem(AbstractFileSystem):  # type: ignore[misc]
         return posixpath.normpath("/" + path.lstrip("/"))
 
     def _entry(self, path: str) -> dict[str, Any]:
-        stat = self.atom_tree.stat(path)
-        return {"name": path, "size": 0 if stat.is_dir else stat.size, "type": "directory" if stat.is_dir else "file"}
+        with self.atom_tree.lock:
+            stat = self.atom_tree.stat(path)
+            inode = metadata_of(self.atom_tree).of(path, stat.is_dir)
+        kind = "directory" if stat.is_dir else "file"
+        kept = {"mode": inode.mode, "uid": inode.uid, "gid": inode.gid, "ino": inode.number, "nlink": inode.links}
+        times = {"created": inode.changed / 1e9, "mtime": inode.modified / 1e9}
+        return {"name": path, "size": 0 if stat.is_dir else stat.size, "type": kind, **kept, **times}
+
+    def created(self, path: str) -> Any:
+        """When the node was made or changed last otherwise than in its bytes, as of `LocalFileSystem`: its `st_ctime`."""
+        return LocalFileSystem.created(self, path)
+
+    def modified(self, path: str) -> Any:
+        """When the bytes of a file, or the entries of a directory, changed last."""
+        return LocalFileSystem.modified(self, path)
 
     def info(self, path: str, **options: Any) -> dict[str, Any]:
         return self._entry(self._strip_protocol(path))
@@ -150,8 +168,27 @@ class AtomFileSystem(AbstractFileSystem):  # type: ignore[misc]
     def rmdir(self, path: str) -> None:
         self.atom_tree.rmdir(self._strip_protocol(path))
 
+    def touch(self, path: str, truncate: bool = True, **options: Any) -> None:
+        """Makes an empty file, or empties one that is there; without `truncate` only its time changes."""
+        path = self._strip_protocol(path)
+        with self.atom_tree.lock:
+            try:
+                self.atom_tree.mknod(path)
+            except FileExistsError:
+                if truncate:
+                    self.atom_tree.truncate(path, 0)
+                else:
+                    self.atom_tree.read(path, 0, 0)
+                    metadata_of(self.atom_tree).did(Call.TRUNCATE, path)
+
     def _rm(self, path: str) -> None:
-        self.atom_tree.unlink(self._strip_protocol(path))
+        self._unlink(self._strip_protocol(path))
+
+    def _unlink(self, path: str) -> None:
+        try:
+            self.atom_tree.unlink(path)
+        except PermissionError:
+            raise IsADirectoryError(errno.EISDIR, os.strerror(errno.EISDIR), path) from None
 
     def rm(self, path: Any, recursive: bool = False, maxdepth: Optional[int] = None) -> None:
         """Removes files, and directories with all below them where it is recursive."""
@@ -161,7 +198,7 @@ class AtomFileSystem(AbstractFileSystem):  # type: ignore[misc]
             if recursive and self.atom_tree.stat(one).is_dir:
                 self.atom_tree.rmdir(one)
             else:
-                self.atom_tree.unlink(one)
+                self._unlink(one)
 
     def cp_file(self, path1: str, path2: str, **options: Any) -> None:
         source, goal = self._strip_protocol(path1), self._strip_protocol(path2)
@@ -171,7 +208,9 @@ class AtomFileSystem(AbstractFileSystem):  # type: ignore[misc]
         with self.atom_tree.lock:
             self.atom_tree.write_bytes(goal, self.atom_tree.read(source))
 
-    def mv(self, path1: Any, path2: Any, recursive: bool = False, maxdepth: Optional[int] = None, **options: Any) -> None:
+    def mv(
+        self, path1: Any, path2: Any, recursive: bool = False, maxdepth: Optional[int] = None, **options: Any
+    ) -> None:
         """Moves one file or directory by one `rename`; what a pattern or a list names, by copies."""
         path1, path2 = stringify_path(path1), stringify_path(path2)
         if not isinstance(path1, str) or has_magic(path1):

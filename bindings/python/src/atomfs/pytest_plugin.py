@@ -12,6 +12,10 @@
 `atom_patch` it stands at a directory of the disk, `/sandbox` where the mark has no other by `at`, for `open`, `os` and so on. At
 the end the journal of the tree has to be lawful. The report of a test that fails shows the tree, its last 30 calls, and the path of a
 picture: in the `tmp_path` of the test, or in a folder of its own beside those; and so it does of a run of `atomfs.explore`.
+
+`pytest --atomfs` runs tests that know nothing of this in trees: what is below `tmp_path`, temporary files, and the working directory, which
+begins empty. `--atomfs-at DIR` lets a directory of the disk be a tree besides, which begins as what is there; if the working directory is below, it
+stays. Each test's journals have to be lawful, and one that fails has its own beside the picture.
 """
 from __future__ import annotations
 
@@ -23,9 +27,11 @@ import tempfile
 from typing import TYPE_CHECKING, Any, Callable, ContextManager, Dict, Generator, Iterator, Mapping, Optional, Tuple
 
 import pytest
+from _pytest import capture
 
 from ._errors import Error
 from ._explore import ScheduleError
+from ._inside import Inside
 from ._library import Limits
 from ._load import Snapshot, of_snapshot
 from ._patch import patch
@@ -41,14 +47,33 @@ _PATCH = pytest.StashKey[patch]()
 _LOADED = pytest.StashKey[Dict[Tuple[str, Optional[int], Limits], Snapshot]]()
 # How many calls a picture has at most: of more the program leaves out most words.
 _PICTURED = 2_000
+_PACKAGE = os.path.dirname(os.path.abspath(__file__)) + os.sep
 _MARK = (
     "atomfs(load=None, limit=None, limits=Limits.V3, at='/sandbox'): atom_tree begins with a directory, a zip or a dictionary, "
     "by these limits, and by atom_patch it stands at this directory of the disk"
 )
 
 
+def pytest_addoption(parser: pytest.Parser) -> None:
+    group = parser.getgroup("atomfs")
+    group.addoption(
+        "--atomfs",
+        action="store_true",
+        help="run the tests in trees in memory: tmp_path, temporary files and the working directory, which begins empty",
+    )
+    group.addoption(
+        "--atomfs-at",
+        action="append",
+        default=[],
+        metavar="DIR",
+        help="with --atomfs, let this directory of the disk be a tree too, which begins as what is there (again for more)",
+    )
+
+
 def pytest_configure(config: pytest.Config) -> None:
     config.addinivalue_line("markers", _MARK)
+    if config.getoption("atomfs") and not config.getoption("collectonly"):
+        config.pluginmanager.register(_InTrees(config), "atomfs-in-trees")
     loaded: Dict[Tuple[str, Optional[int], Limits], Snapshot] = {}
     config.stash[_LOADED] = loaded
 
@@ -80,7 +105,11 @@ def _made(node: Any) -> Tree:
     loaded = node.config.stash[_LOADED]
     key = os.fspath(path), limit, limits
     if key not in loaded:
-        of = Tree.from_directory(path, limit=limit, limits=limits) if path.is_dir() else Tree.from_zip(path, limit, limits=limits)
+        of = (
+            Tree.from_directory(path, limit=limit, limits=limits)
+            if path.is_dir()
+            else Tree.from_zip(path, limit, limits=limits)
+        )
         with of as tree:
             loaded[key] = tree.snapshot()
     return of_snapshot(Tree, limit, loaded[key])
@@ -163,5 +192,100 @@ def pytest_runtest_makereport(item: pytest.Item, call: pytest.CallInfo[None]) ->
     if call.excinfo is not None and isinstance(error := call.excinfo.value, ScheduleError):
         told, error.picture = _written(item, "explore", error.draw)
         report.sections.append(("atomfs.explore", told))
+        _hide(report.longrepr, str(item.config.invocation_params.dir))
     if _TREE in item.stash:
         report.sections.append(("atom_tree", _shown(item.stash[_TREE], item)))
+
+
+def _scratch(*given: Any, **named: Any) -> Any:
+    """A file for what a test writes to descriptors 1 and 2: these are of the system."""
+    return open(os.memfd_create("atomfs"), "wb+", buffering=0)
+
+
+class _InTrees:
+    """The plugin that `--atomfs` asks for: one set of trees for the session, and for each test journals of its own."""
+
+    def __init__(self, config: pytest.Config) -> None:
+        self._config = config
+        self._inside: Optional[Inside] = None
+
+    # Closest to the tests: what others write at the end of a session comes to the disk.
+    @pytest.hookimpl(hookwrapper=True, trylast=True)  # type: ignore[misc]
+    def pytest_runtestloop(self, session: pytest.Session) -> Generator[None, Any, None]:
+        if getattr(self._config.option, "dist", "no") != "no" and not hasattr(self._config, "workerinput"):
+            # The workers of xdist run the tests.
+            yield
+            return
+        factory: Any = getattr(self._config, "_tmp_path_factory", None)
+        self._folder = (
+            factory.getbasetemp() if factory is not None else pathlib.Path(tempfile.mkdtemp(prefix="atomfs-"))
+        )
+        with Inside(
+            [pathlib.Path(self._config.invocation_params.dir, path) for path in self._config.getoption("atomfs_at")]
+        ) as inside:
+            self._inside = inside
+            was, capture.TemporaryFile = getattr(capture, "TemporaryFile", None), _scratch  # type: ignore[attr-defined]
+            if factory is not None:
+                factory._basetemp = inside.home / "pytest"
+                os.mkdir(factory._basetemp, 0o700)
+            try:
+                yield
+            finally:
+                self._inside = None
+                capture.TemporaryFile = was  # type: ignore[attr-defined]
+                if factory is not None:
+                    factory._basetemp = self._folder
+
+    @pytest.fixture(autouse=True)
+    def _lawful(self) -> Iterator[None]:
+        """Each test has journals of its own, and they have to be lawful."""
+        if self._inside is None:
+            yield
+            return
+        self._inside.begin()
+        yield
+        verdict = self._inside.verdict()
+        if verdict is not None:
+            pytest.fail(f"the journal of {verdict}", pytrace=False)
+
+    @pytest.hookimpl(hookwrapper=True)  # type: ignore[misc]
+    def pytest_runtest_makereport(self, item: pytest.Item, call: pytest.CallInfo[None]) -> Generator[None, Any, None]:
+        report = (yield).get_result()
+        if not report.failed or self._inside is None:
+            return
+        for number, (path, tree) in enumerate(self._inside.trees.items()):
+            calls = "\n".join(tree.last_calls())
+            if calls:
+                words = f"{tree!r}\n{tree}\n\nThe last calls:\n{calls}\n\n{self._kept(item, tree, number)}"
+                report.sections.append((f"atomfs: {path}", words))
+
+    def _kept(self, item: pytest.Item, tree: Tree, number: int) -> str:
+        """Writes the journal and the picture of a tree to the disk, and tells where."""
+        assert self._inside is not None
+        stem = re.sub(r"\W", "_", item.name)[:60] + (f".{number}" if number else "")
+        told = []
+        with self._inside.aside():
+            for name, made in (("journal", tree.journal), ("svg", lambda: tree.draw(last=_PICTURED).svg)):
+                path = self._folder / f"{stem}.{name}"
+                try:
+                    path.write_text(made())
+                    told.append(f"The {'picture' if name == 'svg' else name}: {path}")
+                except (Error, OSError) as error:
+                    told.append(f"No {'picture' if name == 'svg' else name}: {error}")
+        return "\n".join(told)
+
+
+def _hide(told: Any, folder: str) -> None:
+    """Leaves the lines of the caller's functions and what the error says in a report, and those of this package out."""
+    for trace, *_ in getattr(told, "chain", []):
+        last = len(trace.reprentries) - 1
+        kept = []
+        for place, entry in enumerate(trace.reprentries):
+            at = getattr(entry, "reprfileloc", None)
+            if at is None or not os.path.abspath(os.path.join(folder, at.path)).startswith(_PACKAGE):
+                kept.append(entry)
+            elif place == last:
+                entry.lines = [line for line in entry.lines if line.startswith("E")]
+                entry.reprfuncargs = entry.reprlocals = entry.reprfileloc = None
+                kept.append(entry)
+        trace.reprentries = kept

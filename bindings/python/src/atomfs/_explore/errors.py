@@ -1,0 +1,199 @@
+"""What a run comes to that fails, and how it is told."""
+from __future__ import annotations
+
+import itertools
+import linecache
+import os
+import pathlib
+import re
+from typing import TYPE_CHECKING, Any, Callable, Dict, List, NamedTuple, Optional, Sequence, Tuple
+
+from .._texts import check as verdict_of
+from .._tools import Picture, draw
+from .._tools import trace as traced
+
+if TYPE_CHECKING:
+    from .runs import Ran
+
+# By thread what its function returned or raised; of a list of calls, the reply of each, in which an error is as it would be raised.
+Replies = Dict[str, Any]
+# How many bytes of a call or a reply are shown, and how many lines of calls that never end.
+_SHOWN, _LINES = 70, 60
+
+
+class RunError(Exception):
+    """A run that could not come to its end, or that is not a run of the given functions alone. It is the cause of a `ScheduleError`."""
+
+
+class DeadlockError(RunError):
+    """No thread can go on: each waits for another."""
+
+
+class BudgetError(RunError):
+    """The functions took more turns than `budget`."""
+
+
+class PatienceError(RunError):
+    """A function did not come to the tree, nor to its end, for `patience` seconds."""
+
+
+class ThreadError(RunError):
+    """A thread that is none of the run called its tree, or a function started one."""
+
+
+class Line(NamedTuple):
+    """A line of the source of a caller."""
+
+    file: str
+    number: int
+
+    def __str__(self) -> str:
+        return f"{os.path.basename(self.file)}:{self.number}"
+
+    @property
+    def text(self) -> str:
+        """What stands in the line."""
+        return linecache.getline(self.file, self.number).strip()
+
+
+class Event(NamedTuple):
+    """What a thread did without a switch in between: a call, or a part of one."""
+
+    thread: str
+    #: The call as in a script, as `rename /a /b`.
+    call: str
+    #: What it replied, as in a journal, where this part is the one that returns: `ok`, or `failed ENOENT`.
+    reply: str
+    #: Whether this part is the one that begins the call.
+    begins: bool
+    #: The line of the caller's source that made the call, where there is one.
+    line: Optional[Line]
+
+    def __str__(self) -> str:
+        words = _cut(self.call) if self.begins else f".. {_cut(self.call)}"
+        return f"{words}: {_cut(self.reply)}" if self.reply else f"{words} .. half-way"
+
+
+def _cut(words: str) -> str:
+    return words if len(words) <= _SHOWN else f"{words[:_SHOWN]}.."
+
+
+def without_addresses(value: object) -> str:
+    """The `repr` of a value, without what differs from one process to the next."""
+    return re.sub(r" at 0x[0-9a-f]+", "", repr(value))
+
+
+class ScheduleError(AssertionError):
+    """A run failed: its check did, or it came to no end. The error that was raised is the cause.
+
+    What it has is of the cut-down run: the one of the fewest switches between threads that was found, and then of the fewest calls, which
+    fails at the same place. `explore` with this seed and `runs=1` makes the drawn run again, and `replay` the cut-down one.
+    """
+
+    def __init__(self, seed: int, told: str, script: str, journal: str, replies: Replies, **more: Any) -> None:
+        #: The seed of this one run.
+        self.seed = seed
+        #: The calls and the turns of the threads, for `atomfs run`; empty where these are no script.
+        self.script = script
+        #: What `check` reads.
+        self.journal = journal
+        #: What the check was given.
+        self.replies = replies
+        #: What each thread did, in their order, with the line of the caller's source.
+        self.events: List[Event] = more.get("events", [])
+        #: Which thread had the turn, and for how many turns.
+        self.schedule: List[Tuple[str, int]] = more.get("schedule", [])
+        #: How many switches between threads the drawn run had.
+        self.drawn_switches: int = more.get("drawn_switches", 0)
+        #: How many runs it took to cut it down.
+        self.trials: int = more.get("trials", 0)
+        #: Where the plugin of pytest has written the picture of the run, if it has.
+        self.picture: Optional[pathlib.Path] = None
+        self._told = told
+        self._again: Optional[Callable[[bool], ScheduleError]] = more.get("again")
+        super().__init__("\n".join(self._message()))
+
+    def __reduce__(self) -> Any:
+        # What runs it again stays in its process.
+        return _of_pickle, (self.seed, self._told, self.script, self.journal, self.replies, self._values())
+
+    def _values(self) -> Dict[str, Any]:
+        return {
+            **{"events": self.events, "schedule": self.schedule},
+            **{"drawn_switches": self.drawn_switches, "trials": self.trials},
+        }
+
+    @property
+    def switches(self) -> int:
+        """How many switches between threads the cut-down run has."""
+        return max(0, len(self.schedule) - 1)
+
+    @property
+    def verdict(self) -> str:
+        """The verdict on the journal, `lawful` by the proof."""
+        return verdict_of(self.journal)
+
+    @property
+    def trace(self) -> str:
+        """What each event of the run did, in words."""
+        return traced(self.script) if self.script else ""
+
+    def draw(self) -> Picture:
+        """The picture of the run, with who waits for whom, and who helps."""
+        return draw(self.script or self.journal)
+
+    def replay(self, debug: bool = False) -> ScheduleError:
+        """Makes the cut-down run again, and answers its error; for functions no patience is lost meanwhile, so a debugger may stop in them.
+
+        With `debug`, `pdb` stops at each line of `events`. Where the run does not fail again it raises `RuntimeError`: then something
+        besides the tree has changed, or is drawn by other means.
+        """
+        if self._again is None:
+            raise RuntimeError("a run is made again in the process that found it: explore with this seed and runs=1")
+        return self._again(debug)
+
+    def _message(self) -> List[str]:
+        lines = [f"seed {self.seed}: {self._told}"]
+        if self.schedule:
+            lines += [_switched(self.switches, self.drawn_switches, self.trials), "", *told_events(self.events)]
+        lines += ["", self.script] if self.script else [""]
+        return [*lines, self.journal]
+
+
+def _of_pickle(
+    seed: int, told: str, script: str, journal: str, replies: Replies, more: Dict[str, Any]
+) -> ScheduleError:
+    return ScheduleError(seed, told, script, journal, replies, **more)
+
+
+def _switched(switches: int, drawn: int, trials: int) -> str:
+    words = f"{switches} switch{'es' if switches != 1 else ''} between threads"
+    return f"{words}, cut down from {drawn} by {trials:,} more runs" if trials else words
+
+
+def told_events(events: Sequence[Event]) -> List[str]:
+    """Events as lines: the thread, the line of the source, and the call with its reply."""
+    shown = list(events[-_LINES:])
+    lines = [f"{one.line}  {one.line.text[:_SHOWN]}" if one.line else "" for one in shown]
+    names, width = max((len(one.thread) for one in shown), default=0), max(map(len, lines), default=0)
+    told = [f"  {one.thread:{names}}  {line:{width}}  {one}".rstrip() for one, line in zip(shown, lines)]
+    more = len(events) - len(shown)
+    return [*([f"  and {more:,} before"] if more else []), *told]
+
+
+def events_of(ran: Ran, journal: str) -> List[Event]:
+    """The events of a run, by its journal: one for each part of a call without a switch in between."""
+    replies = {
+        int(words[1]): words[2]
+        for words in map(lambda line: line.split(" ", 2), journal.splitlines())
+        if words[0] == "return"
+    }
+    steps = [those for those, _ in itertools.groupby(ran.events[ran.prepared :])]
+    last = {at: place for place, (_, at) in enumerate(steps)}
+    first = {at: place for place, (_, at) in reversed(list(enumerate(steps)))}
+    made = []
+    for place, (thread, at) in enumerate(steps):
+        call = ran.calls[at]
+        reply = replies.get(call.number, "") if last[at] == place else ""
+        made.append(Event(thread, call.words, reply, first[at] == place, call.line))
+    return made

@@ -1,0 +1,282 @@
+"""What a directory of the disk has besides names and bytes: permissions, owners, times, numbers of nodes, and symbolic links.
+
+A tree has none of these. They are kept beside it, in Python, once the tree has stood at a directory of the disk, and nothing of it is proved.
+Each node has one `Inode`: it moves with the node, goes away with it, and stands in snapshots, copies and pickles.
+"""
+from __future__ import annotations
+
+import os
+import stat
+import time
+from typing import TYPE_CHECKING, Callable, Dict, List, Optional, Tuple
+
+from ._errors import AnyPath
+from ._library import Call
+from ._walk import text_of
+
+if TYPE_CHECKING:
+    from ._tree import Tree
+
+# Nanoseconds since 1970.
+Clock = Callable[[], int]
+_SECOND = 10**9
+# What a node has of whose making nothing is known.
+_MODES = {True: stat.S_IFDIR | 0o755, False: stat.S_IFREG | 0o644}
+LINK = stat.S_IFLNK | 0o777
+# What `st_blksize` says: as much of a file is in a buffer before it is written.
+BLOCK = 4_096
+
+
+class Inode:
+    """What is kept of one node. Of a directory it has those entries of which something is known."""
+
+    __slots__ = (
+        "mode",
+        "uid",
+        "gid",
+        "accessed",
+        "modified",
+        "changed",
+        "number",
+        "links",
+        "target",
+        "attributes",
+        "entries",
+        "_told",
+        "__weakref__",
+    )
+
+    def __init__(self, mode: int, number: int, now: int) -> None:
+        self.mode, self.number, self.links = mode, number, 1
+        self.uid, self.gid = os.geteuid(), os.getegid()
+        self.accessed = self.modified = self.changed = now
+        #: Where a symbolic link leads.
+        self.target: Optional[str] = None
+        #: Extended attributes, where it has some: never changed in place.
+        self.attributes: Optional[Dict[str, bytes]] = None
+        self.entries: Optional[Dict[str, Inode]] = {} if stat.S_ISDIR(mode) else None
+        # What was answered last, and of what.
+        self._told: Optional[Tuple[Tuple[int, ...], os.stat_result]] = None
+
+    def wrote(self, now: int) -> None:
+        """Its bytes or its entries have changed."""
+        self.modified = self.changed = now
+
+    def result(self, device: int, size: int) -> os.stat_result:
+        """What `os.stat` answers of it."""
+        of = device, size, self.mode, self.links, self.uid, self.gid, self.accessed, self.modified, self.changed
+        if self._told is None or self._told[0] != of:
+            self._told = of, self._result(device, size if self.target is None else len(os.fsencode(self.target)))
+        return self._told[1]
+
+    def _result(self, device: int, size: int) -> os.stat_result:
+        times = self.accessed, self.modified, self.changed
+        words = (
+            self.mode,
+            self.number,
+            device,
+            self.links,
+            self.uid,
+            self.gid,
+            size,
+            *(one // _SECOND for one in times),
+        )
+        more: Dict[str, object] = {"st_blksize": BLOCK, "st_rdev": 0, "st_blocks": -(-size // 512)}
+        for letter, one in zip("amc", times):
+            more[f"st_{letter}time"] = one // _SECOND + 1e-9 * (one % _SECOND)
+            more[f"st_{letter}time_ns"] = one
+        return os.stat_result(words, more)
+
+    def copied(self) -> Inode:
+        """Another of the same, with all below it."""
+        top = self._alone()
+        waiting = [(self, top)]
+        while waiting:
+            old, new = waiting.pop()
+            for name, one in (old.entries or {}).items():
+                assert new.entries is not None
+                new.entries[name] = other = one._alone()
+                waiting.append((one, other))
+        return top
+
+    def _alone(self) -> Inode:
+        made = Inode.__new__(Inode)
+        for name in _WORDS:
+            setattr(made, name, getattr(self, name))
+        made.entries, made._told = None if self.entries is None else {}, None
+        return made
+
+
+# What a copy of a node has, without its entries.
+_WORDS = Inode.__slots__[:-3]
+
+
+class Metadata:
+    """What is kept of the nodes of one tree."""
+
+    def __init__(self) -> None:
+        self.clock: Clock = time.time_ns
+        #: The bits that a new node does not get.
+        self.mask = 0o022
+        #: How many symbolic links there are.
+        self.links = 0
+        self._number = 1
+        # Of what was there before, this is known alone.
+        self._born = time.time_ns()
+        self.root = self.new(_MODES[True], self._born)
+
+    def begin(self, clock: Clock, mask: int) -> None:
+        """Takes another clock, and the bits that new nodes do not get."""
+        self.clock, self.mask = clock, mask
+
+    def new(self, mode: int, now: Optional[int] = None) -> Inode:
+        """A node that is made now."""
+        self._number += 1
+        return Inode(mode, self._number, self.clock() if now is None else now)
+
+    def copied(self) -> Metadata:
+        """Another of the same, for another tree; its clock is that of the system."""
+        made = Metadata()
+        made.mask, made.links, made._number, made._born = self.mask, self.links, self._number, self._born
+        made.root = self.root.copied()
+        return made
+
+    # A tree may be as deep as no pickle goes: what is pickled is a list.
+
+    def __getstate__(self) -> object:
+        rows: List[Tuple[int, str, Tuple[object, ...]]] = []
+        waiting = [(-1, "", self.root)]
+        while waiting:
+            above, name, one = waiting.pop()
+            rows.append((above, name, tuple(getattr(one, word) for word in _WORDS)))
+            at = len(rows) - 1
+            waiting += [(at, below, other) for below, other in (one.entries or {}).items()]
+        return self.mask, self.links, self._number, self._born, rows
+
+    def __setstate__(self, state: Tuple[int, int, int, int, List[Tuple[int, str, Tuple[object, ...]]]]) -> None:
+        self.clock = time.time_ns
+        self.mask, self.links, self._number, self._born, rows = state
+        made: List[Inode] = []
+        for above, name, words in rows:
+            one = Inode.__new__(Inode)
+            for word, value in zip(_WORDS, words):
+                setattr(one, word, value)
+            one.entries, one._told = {} if stat.S_ISDIR(one.mode) else None, None
+            made.append(one)
+            if above >= 0:
+                entries = made[above].entries
+                assert entries is not None
+                entries[name] = one
+        self.root = made[0]
+
+    # ---- Where a node is
+
+    def found(self, path: str) -> Optional[Inode]:
+        """What is kept of the node at a path, if anything is."""
+        one = self.root
+        for name in path.split("/"):
+            if name:
+                below = one.entries.get(name) if one.entries is not None else None
+                if below is None:
+                    return None
+                one = below
+        return one
+
+    def of(self, path: str, is_dir: bool) -> Inode:
+        """What is kept of the node at a path, of which the tree says whether it is a directory."""
+        one: Optional[Inode] = self.root
+        for name in path.split("/"):
+            if name:
+                below = one.entries if one is not None else None
+                one = below.get(name) if below is not None else None
+        if one is not None and (one.entries is not None) == is_dir:
+            return one
+        above, name = self._above(path)
+        return self._entry(above, name, is_dir) if name else self.root
+
+    def _above(self, path: str) -> Tuple[Inode, str]:
+        """The directory in which a path ends, and its last name: of the root none."""
+        names = [name for name in path.split("/") if name]
+        one = self.root
+        for name in names[:-1]:
+            one = self._entry(one, name, True)
+        return one, names[-1] if names else ""
+
+    def _entry(self, above: Inode, name: str, is_dir: bool) -> Inode:
+        assert above.entries is not None
+        found = above.entries.get(name)
+        if found is None or (found.entries is not None) != is_dir:
+            if found is not None:
+                self._gone(found)
+            found = above.entries[name] = self.new(_MODES[is_dir], self._born)
+        return found
+
+    def _gone(self, one: Inode) -> None:
+        """A node went away, and so did all below it that was known."""
+        one.links = 0
+        if one.target is not None:
+            self.links -= 1
+        for below in list((one.entries or {}).values()):
+            # What was changed past the door alone has something below it.
+            self.links -= sum(link.target is not None for link in _all_of(below))
+
+    # ---- What calls of the tree do
+
+    def did(self, call: Call, *paths: AnyPath) -> None:
+        """A call on these paths has changed the tree."""
+        now, (path, *others) = self.clock(), [text_of(one) for one in paths]
+        above, name = self._above(path)
+        assert above.entries is not None
+        if call in (Call.WRITE, Call.TRUNCATE):
+            self._entry(above, name, False).wrote(now)
+            return
+        if call in (Call.MKDIR, Call.MKNOD):
+            mode = stat.S_IFDIR | 0o777 if call == Call.MKDIR else stat.S_IFREG | 0o666
+            above.entries[name] = self.new(mode & ~self.mask, now)
+        elif call in (Call.UNLINK, Call.RMDIR):
+            self._removed(above, name, now)
+        elif call in (Call.RENAME, Call.EXCHANGE):
+            self._moved(call, above, name, others[0], now)
+        above.wrote(now)
+
+    def _removed(self, above: Inode, name: str, now: int) -> None:
+        assert above.entries is not None
+        one = above.entries.pop(name, None)
+        if one is not None:
+            self._gone(one)
+            one.changed = now
+
+    def _moved(self, call: Call, above: Inode, name: str, other: str, now: int) -> None:
+        """Two entries of which one came in the place of the other, or both in each other's."""
+        aim, last = self._above(other)
+        assert above.entries is not None and aim.entries is not None
+        if above is aim and name == last:
+            return
+        one, was = above.entries.pop(name, None), aim.entries.pop(last, None)
+        if call == Call.RENAME and was is not None:
+            self._gone(was)
+            was.changed = now
+        for into, key, inode in ((aim, last, one), (above, name, was if call == Call.EXCHANGE else None)):
+            if inode is not None:
+                assert into.entries is not None
+                into.entries[key] = inode
+                inode.changed = now
+        aim.wrote(now)
+
+
+def _all_of(top: Inode) -> List[Inode]:
+    """A node with all below it."""
+    found = [top]
+    for one in found:
+        found += (one.entries or {}).values()
+    return found
+
+
+def metadata_of(tree: Tree) -> Metadata:
+    """What is kept of the nodes of a tree, from now on if nothing was."""
+    if tree._metadata is None:
+        with tree.lock:
+            if tree._metadata is None:
+                tree._keep_beside(Metadata())
+    assert tree._metadata is not None
+    return tree._metadata

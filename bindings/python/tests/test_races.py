@@ -1,0 +1,179 @@
+"""The races of examples/races: each is found, made again and cut down, and its repair passes."""
+import contextlib
+import importlib
+import importlib.util
+import io
+import pathlib
+import re
+import subprocess
+import sys
+import tempfile
+import unittest
+
+import atomfs
+
+FOLDER = pathlib.Path(__file__).resolve().parents[3] / "examples" / "races"
+NAMES = sorted(path.stem for path in FOLDER.glob("*.py") if path.stem != "race")
+# How many runs of each repair: all 10,000 were made by hand.
+RUNS = 200
+# Of each the switches between threads that are left, and its calls by the names that they have in a script.
+LEFT = {
+    "exists_then_create": (2, "stat stat mknod write mknod stat truncate write"),
+    "listing_in_pages": (2, "list rename list list"),
+    "log_rotation": (2, "rename stat mknod stat"),
+    "lost_update": (2, "stat read stat read mknod stat truncate write mknod stat truncate write"),
+    "mkdir_p": (2, "stat stat mkdir stat mkdir stat mkdir mkdir"),
+    "publish_by_rename": (2, "stat stat mknod write read rename stat read stat read"),
+    "queue_by_rename": (2, "list list rename rename rename"),
+    "stale_lock": (
+        2,
+        "mkdir stat read mkdir rmdir mkdir stat read mknod stat truncate write rmdir mknod stat truncate write rmdir",
+    ),
+}
+
+
+@unittest.skipUnless(FOLDER.is_dir(), "the examples are those of a checkout")
+class Races(unittest.TestCase):
+    @classmethod
+    def setUpClass(cls):
+        sys.path.insert(0, str(FOLDER))
+        cls.addClassCleanup(sys.path.remove, str(FOLDER))
+        cls.race = importlib.import_module("race")
+
+    @classmethod
+    def found(cls, name):
+        """The error of a race."""
+        cls.setUpClass()
+        try:
+            return cls.race.find(importlib.import_module(name))
+        finally:
+            cls.doClassCleanups()
+
+    def test_all(self):
+        self.assertEqual(NAMES, sorted(LEFT))
+
+    def test_found(self):
+        """By each kind of draws, in few runs; what is told has lines of the program alone."""
+        for name in NAMES:
+            module = importlib.import_module(name)
+            for draws, most in (("both", 10), ("uniform", 20), (atomfs.PCT(3), 100)):
+                with self.subTest(name, draws=draws):
+                    error = self.race.find(module, draws=draws)
+                    self.assertLessEqual(error.seed, most)
+                    self.assertEqual(self.race.find(module, runs=1, seed=error.seed, draws=draws).seed, error.seed)
+                    self.assertEqual({one.line.file for one in error.events}, {str(FOLDER / f"{name}.py")})
+
+    def test_cut_down(self):
+        """The one that is left is as short as it can be, and has a script, a lawful journal and a picture."""
+        for name, (switches, calls) in LEFT.items():
+            with self.subTest(name):
+                error = self.race.find(importlib.import_module(name))
+                self.assertEqual(
+                    (error.switches, " ".join(one.call.split()[0] for one in error.events)), (switches, calls)
+                )
+                self.assertTrue(all(one.begins and one.reply for one in error.events))
+                self.assertEqual(atomfs.run(error.script).partition("tree\n")[0], error.journal)
+                self.assertEqual((error.verdict, error.draw().svg[:4]), ("lawful", "<svg"))
+
+    def test_made_again(self):
+        """The cut-down run is made again, and fails as it did."""
+        for name in NAMES:
+            with self.subTest(name):
+                error = self.race.find(importlib.import_module(name))
+                for _ in range(2):
+                    again = error.replay()
+                    self.assertEqual((again.events, again.journal), (error.events, error.journal))
+                    self.assertEqual(str(again.__cause__), str(error.__cause__))
+
+    def test_repaired(self):
+        for name in NAMES:
+            with self.subTest(name):
+                seen = self.race.passes(importlib.import_module(name), RUNS)
+                self.assertEqual(seen, RUNS)
+                self.assertGreaterEqual(seen.pairs, seen.met)
+
+    def test_programs(self):
+        """Each is a program that tells its race, and its repair how much was seen."""
+        words = [sys.executable, str(FOLDER / "mkdir_p.py")]
+        ran = subprocess.run(words, capture_output=True, text=True)
+        self.assertEqual(ran.returncode, 1, ran.stderr)
+        self.assertIn("os.mkdir(at)               mkdir /a: failed EEXIST\n", ran.stdout)
+        ran = subprocess.run([*words, "--repaired", "--runs", "50", "--seed", "9"], capture_output=True, text=True)
+        self.assertEqual(ran.stdout, "50 runs, 1 outcome, 1 new in the last 50 runs; 0 of 0 pairs of calls met\n")
+
+    def test_table(self):
+        """The page names each, and nothing else."""
+        page = (FOLDER / "README.md").read_text()
+        self.assertEqual(sorted(set(re.findall(r"\((\w+)\.py\)", page)) - {"race"}), NAMES)
+
+
+@unittest.skipUnless(FOLDER.is_dir(), "the pages are those of a checkout")
+class Pages(unittest.TestCase):
+    """The blocks of docs/RACES.md and of the page of the races."""
+
+    PAGE = FOLDER.parents[1] / "docs" / "RACES.md"
+
+    def blocks(self, page, language):
+        found = re.findall(r"^```(\w*)\n(.*?)^```$", page.read_text(), re.M | re.S)
+        return [text for word, text in found if word == language]
+
+    def test_example(self):
+        """The example raises what the page shows; how many runs it took depends on the patch."""
+        (shown,) = self.blocks(self.PAGE, "")
+        with tempfile.TemporaryDirectory() as folder:
+            program = pathlib.Path(folder, "lead.py")
+            program.write_text(self.blocks(self.PAGE, "python")[0])
+            ran = subprocess.run([sys.executable, str(program)], capture_output=True, text=True)
+        told = ran.stderr[ran.stderr.index("ScheduleError: ") + len("ScheduleError: ") :].splitlines()
+        wanted = _without_counts(shown.splitlines())
+        self.assertEqual(_without_counts(told)[: len(wanted)], wanted)
+
+    def test_races(self):
+        """So does the race that the page of races shows, but for what it leaves out."""
+        (shown,) = self.blocks(FOLDER / "README.md", "")
+        command, *lines = shown.splitlines()
+        name = re.fullmatch(r"\$ python3 examples/races/(\w+)\.py", command)[1]
+        told = [line.rstrip() for line in str(Races.found(name)).splitlines()]
+        self.assertIn("  ..", lines)
+        for line in _without_counts(lines):
+            if line != "  ..":
+                self.assertIn(line, _without_counts(told))
+
+    def test_outcomes(self):
+        first, second, *_ = self.blocks(self.PAGE, "python")
+        space = {}
+        exec(first.partition("atomfs.explore(")[0], space)
+        with contextlib.redirect_stdout(io.StringIO()) as told:
+            exec(second, space)
+        self.assertRegex(
+            told.getvalue(),
+            r"^\d+ times, first by seed \d+: 1\n\d+ times, first by seed \d+: 2\n1,000 runs, 2 outcomes",
+        )
+
+    @unittest.skipUnless(
+        importlib.util.find_spec("hypothesis"), "there is no hypothesis: apt-get install python3-hypothesis"
+    )
+    def test_hypothesis(self):
+        """The recipes run and pass."""
+        import hypothesis
+
+        _, _, given, stateful = self.blocks(self.PAGE, "python")
+        few = hypothesis.settings(
+            max_examples=15, stateful_step_count=5, deadline=None, database=None, derandomize=True
+        )
+        space = {"__name__": "page"}
+        exec(given, space)
+        few(space["test_page"])()
+        exec(stateful, space)
+        space["TestBox"].settings = few
+        result = unittest.TestResult()
+        space["TestBox"]("runTest").run(result)
+        self.assertEqual((result.testsRun, result.errors, result.failures), (1, [], []))
+
+
+def _without_counts(lines):
+    return [line for line in lines if " cut down from " not in line]
+
+
+if __name__ == "__main__":
+    unittest.main()
