@@ -1,5 +1,6 @@
-//! Finds the library: in the folder that `ATOMFS_LIB_DIR` names, or in `dist/lib` of the checkout, or in the `lib` beside
-//! which the crate is installed.
+//! Finds the library: in the folder that `ATOMFS_LIB_DIR` names, or in `dist/lib` of the checkout, or in the `lib`
+//! beside which the crate is installed. Where `DOCS_RS` is set, as in `DOCS_RS=1 cargo doc`, there is nothing to link,
+//! and no library is looked for.
 
 use std::env;
 use std::path::{Path, PathBuf};
@@ -8,22 +9,20 @@ const BESIDE: [&str; 2] = ["../../dist/lib", "../../../lib"];
 
 fn main() {
     println!("cargo:rerun-if-env-changed=ATOMFS_LIB_DIR");
-    let here =
-        PathBuf::from(env::var_os("CARGO_MANIFEST_DIR").expect("cargo sets CARGO_MANIFEST_DIR"));
+    println!("cargo:rerun-if-env-changed=DOCS_RS");
+    if env::var_os("DOCS_RS").is_some() {
+        return;
+    }
+    let here = PathBuf::from(env::var_os("CARGO_MANIFEST_DIR").expect("cargo sets CARGO_MANIFEST_DIR"));
     let folders: Vec<PathBuf> = match env::var_os("ATOMFS_LIB_DIR") {
         Some(folder) => vec![folder.into()],
         None => BESIDE.iter().map(|beside| here.join(beside)).collect(),
     };
-    let found = folders
-        .iter()
-        .find(|folder| folder.join("libatomfs.a").is_file());
+    let found = folders.iter().find(|folder| folder.join("libatomfs.a").is_file());
     match found {
         Some(folder) => link(folder),
         None => {
-            eprintln!(
-                "atomfs: there is no libatomfs.a in {:?}: embed/build makes it,",
-                folders
-            );
+            eprintln!("atomfs: there is no libatomfs.a in {:?}: embed/build makes it,", folders);
             eprintln!("atomfs: and ATOMFS_LIB_DIR names its folder where it is elsewhere");
             std::process::exit(1);
         }
@@ -31,10 +30,7 @@ fn main() {
 }
 
 fn link(folder: &Path) {
-    println!(
-        "cargo:rerun-if-changed={}",
-        folder.join("libatomfs.a").display()
-    );
+    println!("cargo:rerun-if-changed={}", folder.join("libatomfs.a").display());
     println!("cargo:rustc-link-search=native={}", folder.display());
     println!("cargo:rustc-link-lib=static=atomfs");
 }

@@ -46,6 +46,8 @@ pub enum Did {
     CarriedOut,
     /// It returned.
     Returned,
+    /// It began: this is its number. No step does so; a gate hears of it.
+    Began(u64),
 }
 
 impl Did {
@@ -58,6 +60,7 @@ impl Did {
             5 => Did::Committed,
             6 => Did::CarriedOut,
             7 => Did::Returned,
+            8 => Did::Began(about),
             _ => Did::Idle,
         }
     }
@@ -133,13 +136,9 @@ impl<'a> Call<'a> {
         Call::Readdir(path.path_bytes())
     }
 
-    /// Tells the names of a directory above the last name of `after`, or from the first on where that is the root: at most `count`,
-    /// and at most 256. Trees by [`Limits::V3`](crate::Limits::V3) alone have it.
-    pub fn list(
-        path: &'a (impl AsPath + ?Sized),
-        after: &'a (impl AsPath + ?Sized),
-        count: u32,
-    ) -> Self {
+    /// Tells the names of a directory above the last name of `after`, or from the first on where that is the root: at
+    /// most `count`, and at most 256. Trees by [`Limits::V3`](crate::Limits::V3) alone have it.
+    pub fn list(path: &'a (impl AsPath + ?Sized), after: &'a (impl AsPath + ?Sized), count: u32) -> Self {
         Call::List(path.path_bytes(), after.path_bytes(), count)
     }
 
@@ -149,11 +148,7 @@ impl<'a> Call<'a> {
     }
 
     /// Writes bytes into a file at an offset.
-    pub fn write(
-        path: &'a (impl AsPath + ?Sized),
-        offset: u64,
-        bytes: &'a (impl AsRef<[u8]> + ?Sized),
-    ) -> Self {
+    pub fn write(path: &'a (impl AsPath + ?Sized), offset: u64, bytes: &'a (impl AsRef<[u8]> + ?Sized)) -> Self {
         Call::Write(path.path_bytes(), offset, bytes.as_ref())
     }
 

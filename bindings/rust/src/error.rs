@@ -91,8 +91,8 @@ impl PathFault {
     }
 }
 
-/// Why there is no answer: its kind, and the path that it is about. After the kinds `Waits` and `Untold` the call has begun; after
-/// every other one nothing has changed, but that a call that failed is in the journal.
+/// Why there is no answer: its kind, and the path that it is about. After the kinds `Waits`, `TimedOut` and `Untold`
+/// the call has begun; after every other one nothing has changed, but that a call that failed is in the journal.
 ///
 /// ```
 /// use atomfs::{Errno, ErrorKind, PathFault, Tree};
@@ -108,6 +108,7 @@ impl PathFault {
 pub struct Error {
     kind: ErrorKind,
     paths: Option<Box<(PathBuf, Option<PathBuf>)>>,
+    holders: Option<Box<str>>,
 }
 
 impl Error {
@@ -134,13 +135,22 @@ impl Error {
         self.paths.as_deref()?.1.as_deref()
     }
 
+    /// Who held what when a wait of a shared tree was given up: a line for each call that was under way.
+    pub fn holders(&self) -> Option<&str> {
+        self.holders.as_deref()
+    }
+
+    pub(crate) fn with_holders(self, holders: String) -> Error {
+        Error { holders: Some(holders.into()), ..self }
+    }
+
     /// The error of a call with its paths. For want of memory it takes none.
     pub(crate) fn of_call(kind: ErrorKind, (path, other): (&[u8], Option<&[u8]>)) -> Error {
         let paths = match kind {
             ErrorKind::OutOfMemory | ErrorKind::Untold(_) => None,
             _ => Some(Box::new((owned(path), other.map(owned)))),
         };
-        Error { kind, paths }
+        Error { kind, paths, holders: None }
     }
 
     /// The error of a call on one path.
@@ -153,8 +163,8 @@ impl Error {
         let (path, other) = call.paths();
         if status == ffi::BAD_PATH {
             for path in [path].into_iter().chain(other).chain(call.after()) {
-                let fault =
-                    unsafe { ffi::atomfs_check_path(path.as_ptr(), path.len(), limits as u8) };
+                // SAFETY: the path is a slice with its length.
+                let fault = unsafe { ffi::atomfs_check_path(path.as_ptr(), path.len(), limits as u8) };
                 if fault != ffi::OK {
                     return Error::at(ErrorKind::of(fault, 0), path);
                 }
@@ -187,7 +197,7 @@ fn owned(path: &[u8]) -> PathBuf {
 
 impl From<ErrorKind> for Error {
     fn from(kind: ErrorKind) -> Error {
-        Error { kind, paths: None }
+        Error { kind, paths: None, holders: None }
     }
 }
 
@@ -206,7 +216,11 @@ impl fmt::Display for Error {
             }
             f.write_str(": ")?;
         }
-        self.kind.fmt(f)
+        self.kind.fmt(f)?;
+        match &self.holders {
+            Some(holders) => write!(f, ": {}", holders.trim_end().replace('\n', "; ")),
+            None => Ok(()),
+        }
     }
 }
 
@@ -218,9 +232,11 @@ impl std::error::Error for Error {}
 pub enum ErrorKind {
     /// The call returned with an error.
     Failed(Errno),
-    /// The call is under way on this seat, and a call of another seat holds the node that it wants next: `Tree::step` or
-    /// `Tree::finish` goes on with it.
+    /// The call is under way on this seat, and a call of another seat holds the node that it wants next: `Tree::step`
+    /// or `Tree::finish` goes on with it.
     Waits(Seat),
+    /// On a shared tree: the call of this number waited as long as it may, and is under way. Where it is 0, none began.
+    TimedOut(u64),
     /// The call of this number returned, and there was no memory for its reply.
     Untold(u64),
     /// The call of this number is under way, where none may be.
@@ -241,7 +257,8 @@ pub enum ErrorKind {
     SeatBusy,
     /// The last call of the seat has not returned, or none was begun since the last checkpoint.
     NoReply,
-    /// A script, a journal or the text of a tree is none: the status and the line. With the line 0 what would come of it is too large.
+    /// A script, a journal or the text of a tree is none: the status and the line. With the line 0 what would come of
+    /// it is too large.
     BadText(u8, usize),
     /// No call has the number around which is to be drawn.
     NoCall,
@@ -257,9 +274,7 @@ impl ErrorKind {
     /// The error of a status. `about` is the number of a call, or the line of a text.
     fn of(status: u8, about: u64) -> ErrorKind {
         if let Some(number) = status.checked_sub(ffi::FAILED) {
-            let errno = Errno::ALL
-                .into_iter()
-                .find(|errno| errno.number() == i32::from(number));
+            let errno = Errno::ALL.into_iter().find(|errno| errno.number() == i32::from(number));
             return errno.map_or(ErrorKind::Other(status), ErrorKind::Failed);
         }
         let fault = PathFault::ALL.into_iter().find(|(of, _)| *of == status);
@@ -275,6 +290,7 @@ impl ErrorKind {
             ffi::FULL => ErrorKind::Full,
             ffi::NO_REPLY => ErrorKind::NoReply,
             ffi::UNDER_WAY => ErrorKind::UnderWay(about),
+            ffi::BAD_CHOICE => ErrorKind::BadChoice,
             _ => ErrorKind::Other(status),
         }
     }
@@ -282,7 +298,7 @@ impl ErrorKind {
     fn status(self) -> u8 {
         match self {
             ErrorKind::Failed(errno) => ffi::FAILED + errno as u8,
-            ErrorKind::Waits(_) => ffi::WAITS,
+            ErrorKind::Waits(_) | ErrorKind::TimedOut(_) => ffi::WAITS,
             ErrorKind::Untold(_) => ffi::UNTOLD,
             ErrorKind::BadLimit => ffi::BAD_LIMIT,
             ErrorKind::OutOfMemory => ffi::NO_MEMORY,
@@ -307,6 +323,7 @@ impl fmt::Display for ErrorKind {
             write!(f, "{}", io::Error::from_raw_os_error(errno.number()))?;
             return limit_of(*errno).map_or(Ok(()), |limit| write!(f, ": {limit}"));
         }
+        // SAFETY: it takes a number and answers a constant.
         let words = ffi::words(unsafe { ffi::atomfs_status_text(self.status()) });
         match self {
             ErrorKind::BadText(_, 0) => f.write_str(words),
@@ -314,10 +331,12 @@ impl fmt::Display for ErrorKind {
                 Some(kind) => write!(f, "line {line}: {kind}: {words}"),
                 None => write!(f, "line {line}: {words}"),
             },
-            ErrorKind::BadOptions => f.write_str(
-                "the options to open a file by contradict each other, or ask for no access",
-            ),
+            ErrorKind::BadOptions => {
+                f.write_str("the options to open a file by contradict each other, or ask for no access")
+            }
             ErrorKind::ForeignSeat => f.write_str("the seat is of another tree"),
+            ErrorKind::TimedOut(0) => f.write_str("no call began, since the wait took too long"),
+            ErrorKind::TimedOut(number) => write!(f, "call {number} waited for too long, and is under way"),
             ErrorKind::Untold(number) | ErrorKind::UnderWay(number) => {
                 write!(f, "call {number}: {words}")
             }
@@ -361,9 +380,7 @@ fn kind_of(status: u8) -> Option<&'static str> {
         "BadReply",
         "BadStart",
     ];
-    kinds
-        .get(usize::from(status.checked_sub(ffi::BAD_HEADER)?))
-        .copied()
+    kinds.get(usize::from(status.checked_sub(ffi::BAD_HEADER)?)).copied()
 }
 
 impl From<Error> for io::Error {
@@ -371,14 +388,12 @@ impl From<Error> for io::Error {
         match error.kind {
             ErrorKind::Failed(errno) => io::Error::from_raw_os_error(errno.number()),
             ErrorKind::Full => io::Error::from_raw_os_error(Errno::ENOSPC.number()),
-            ErrorKind::BadPath(_)
-            | ErrorKind::BadLimit
-            | ErrorKind::BadText(..)
-            | ErrorKind::BadOptions => io::Error::new(io::ErrorKind::InvalidInput, error),
-            ErrorKind::OutOfMemory | ErrorKind::Untold(_) => {
-                io::Error::new(io::ErrorKind::OutOfMemory, error)
+            ErrorKind::BadPath(_) | ErrorKind::BadLimit | ErrorKind::BadText(..) | ErrorKind::BadOptions => {
+                io::Error::new(io::ErrorKind::InvalidInput, error)
             }
+            ErrorKind::OutOfMemory | ErrorKind::Untold(_) => io::Error::new(io::ErrorKind::OutOfMemory, error),
             ErrorKind::Waits(_) => io::Error::new(io::ErrorKind::WouldBlock, error),
+            ErrorKind::TimedOut(_) => io::Error::new(io::ErrorKind::TimedOut, error),
             _ => io::Error::new(io::ErrorKind::Other, error),
         }
     }

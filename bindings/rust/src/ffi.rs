@@ -63,12 +63,32 @@ pub const FOUND_NO_HISTORY: u8 = 2;
 pub const TELL_FRONT: u8 = 1;
 pub const TELL_WORDS: u8 = 2;
 
+/// A tree that threads share.
+#[repr(C)]
+pub struct Shared {
+    private: [u8; 0],
+}
+
+/// A session of one.
+#[repr(C)]
+pub struct Session {
+    private: [u8; 0],
+}
+
+/// What is called behind each event.
+pub type Gate = extern "C" fn(*mut c_void, u64, u8, u64);
+
+/// By this seed calls do not pause.
+pub const NO_PAUSES: u64 = u64::MAX;
+
+/// A function of a session on one path.
+pub type OfSession = unsafe extern "C" fn(*mut Session, *const u8, usize, *mut u64) -> u8;
+
 /// A function on one path.
 pub type OnPath = unsafe extern "C" fn(*mut Handle, u64, *const u8, usize, *mut u64) -> u8;
 
 /// A function on two paths.
-pub type OnPaths =
-    unsafe extern "C" fn(*mut Handle, u64, *const u8, usize, *const u8, usize, *mut u64) -> u8;
+pub type OnPaths = unsafe extern "C" fn(*mut Handle, u64, *const u8, usize, *const u8, usize, *mut u64) -> u8;
 
 extern "C" {
     pub fn atomfs_open_with(fs: *mut Handle, limit: usize, version: u8) -> u8;
@@ -80,43 +100,14 @@ extern "C" {
         length: usize,
         line: *mut usize,
     ) -> u8;
-    pub fn atomfs_open_at(
-        fs: *mut Handle,
-        limit: usize,
-        other: *mut Handle,
-        number: *mut u64,
-    ) -> u8;
+    pub fn atomfs_open_at(fs: *mut Handle, limit: usize, other: *mut Handle, number: *mut u64) -> u8;
     pub fn atomfs_close(fs: *mut Handle) -> u8;
     pub fn atomfs_seat(fs: *mut Handle, seat: *mut u64) -> u8;
 
-    pub fn atomfs_mkdir(
-        fs: *mut Handle,
-        seat: u64,
-        path: *const u8,
-        length: usize,
-        number: *mut u64,
-    ) -> u8;
-    pub fn atomfs_mknod(
-        fs: *mut Handle,
-        seat: u64,
-        path: *const u8,
-        length: usize,
-        number: *mut u64,
-    ) -> u8;
-    pub fn atomfs_unlink(
-        fs: *mut Handle,
-        seat: u64,
-        path: *const u8,
-        length: usize,
-        number: *mut u64,
-    ) -> u8;
-    pub fn atomfs_rmdir(
-        fs: *mut Handle,
-        seat: u64,
-        path: *const u8,
-        length: usize,
-        number: *mut u64,
-    ) -> u8;
+    pub fn atomfs_mkdir(fs: *mut Handle, seat: u64, path: *const u8, length: usize, number: *mut u64) -> u8;
+    pub fn atomfs_mknod(fs: *mut Handle, seat: u64, path: *const u8, length: usize, number: *mut u64) -> u8;
+    pub fn atomfs_unlink(fs: *mut Handle, seat: u64, path: *const u8, length: usize, number: *mut u64) -> u8;
+    pub fn atomfs_rmdir(fs: *mut Handle, seat: u64, path: *const u8, length: usize, number: *mut u64) -> u8;
     pub fn atomfs_rename(
         fs: *mut Handle,
         seat: u64,
@@ -197,12 +188,7 @@ extern "C" {
         number: *mut u64,
     ) -> u8;
 
-    pub fn atomfs_begin_call(
-        fs: *mut Handle,
-        seat: u64,
-        request: *const Request,
-        number: *mut u64,
-    ) -> u8;
+    pub fn atomfs_begin_call(fs: *mut Handle, seat: u64, request: *const Request, number: *mut u64) -> u8;
     pub fn atomfs_step(fs: *mut Handle, seat: u64, did: *mut u8, about: *mut u64) -> u8;
     pub fn atomfs_step_any(fs: *mut Handle, seat: *mut u64, did: *mut u8, about: *mut u64) -> u8;
 
@@ -217,13 +203,7 @@ extern "C" {
         room: usize,
         count: *mut usize,
     ) -> u8;
-    pub fn atomfs_reply_bytes(
-        fs: *mut Handle,
-        number: u64,
-        out: *mut u8,
-        room: usize,
-        count: *mut usize,
-    ) -> u8;
+    pub fn atomfs_reply_bytes(fs: *mut Handle, number: u64, out: *mut u8, room: usize, count: *mut usize) -> u8;
     pub fn atomfs_reply_wrote(fs: *mut Handle, number: u64, wrote: *mut u64) -> u8;
 
     pub fn atomfs_version() -> *const c_char;
@@ -238,32 +218,14 @@ extern "C" {
         entries: *mut usize,
     ) -> u8;
     pub fn atomfs_opening(fs: *mut Handle, out: *mut u8, room: usize, count: *mut usize) -> u8;
-    pub fn atomfs_checkpoint(
-        fs: *mut Handle,
-        out: *mut u8,
-        room: usize,
-        count: *mut usize,
-        number: *mut u64,
-    ) -> u8;
+    pub fn atomfs_checkpoint(fs: *mut Handle, out: *mut u8, room: usize, count: *mut usize, number: *mut u64) -> u8;
     pub fn atomfs_forget(fs: *mut Handle, number: *mut u64) -> u8;
     pub fn atomfs_keep(fs: *mut Handle, most: u32) -> u8;
     pub fn atomfs_verdict(fs: *mut Handle, place: *mut u64, kind: *mut u8) -> u8;
     pub fn atomfs_tree(fs: *mut Handle, out: *mut u8, room: usize, count: *mut usize) -> u8;
 
-    pub fn atomfs_run(
-        script: *const u8,
-        length: usize,
-        out: *mut u8,
-        room: usize,
-        count: *mut usize,
-    ) -> u8;
-    pub fn atomfs_check(
-        journal: *const u8,
-        length: usize,
-        out: *mut u8,
-        room: usize,
-        count: *mut usize,
-    ) -> u8;
+    pub fn atomfs_run(script: *const u8, length: usize, out: *mut u8, room: usize, count: *mut usize) -> u8;
+    pub fn atomfs_check(journal: *const u8, length: usize, out: *mut u8, room: usize, count: *mut usize) -> u8;
 
     pub fn atomfs_trace(
         script: *const u8,
@@ -313,12 +275,92 @@ extern "C" {
         count: *mut usize,
         found: *mut u8,
     ) -> u8;
-    pub fn atomfs_explain(
-        word: *const u8,
+    pub fn atomfs_explain(word: *const u8, length: usize, out: *mut u8, room: usize, count: *mut usize) -> u8;
+
+    pub fn atomfs_shared_from(shared: *mut *mut Shared, fs: *mut Handle) -> u8;
+    pub fn atomfs_shared_close(shared: *mut *mut Shared) -> u8;
+    pub fn atomfs_shared_session(shared: *mut Shared, session: *mut *mut Session, seat: *mut u64) -> u8;
+    pub fn atomfs_shared_lock(shared: *mut Shared, fs: *mut *mut Handle) -> u8;
+    pub fn atomfs_shared_unlock(shared: *mut Shared) -> u8;
+    pub fn atomfs_shared_gate(shared: *mut Shared, gate: Option<Gate>, context: *mut c_void) -> u8;
+    pub fn atomfs_shared_pauses(shared: *mut Shared, seed: u64) -> u8;
+    pub fn atomfs_shared_wait_most(shared: *mut Shared, milliseconds: u32) -> u8;
+    pub fn atomfs_shared_holders(shared: *mut Shared, out: *mut u8, room: usize, count: *mut usize) -> u8;
+    pub fn atomfs_shared_finish(shared: *mut Shared, count: *mut u64) -> u8;
+    pub fn atomfs_shared_mkdir(session: *mut Session, path: *const u8, length: usize, number: *mut u64) -> u8;
+    pub fn atomfs_shared_mknod(session: *mut Session, path: *const u8, length: usize, number: *mut u64) -> u8;
+    pub fn atomfs_shared_unlink(session: *mut Session, path: *const u8, length: usize, number: *mut u64) -> u8;
+    pub fn atomfs_shared_rmdir(session: *mut Session, path: *const u8, length: usize, number: *mut u64) -> u8;
+    pub fn atomfs_shared_rename(
+        session: *mut Session,
+        path: *const u8,
+        length: usize,
+        other: *const u8,
+        other_length: usize,
+        number: *mut u64,
+    ) -> u8;
+    pub fn atomfs_shared_exchange(
+        session: *mut Session,
+        path: *const u8,
+        length: usize,
+        other: *const u8,
+        other_length: usize,
+        number: *mut u64,
+    ) -> u8;
+    pub fn atomfs_shared_stat(
+        session: *mut Session,
+        path: *const u8,
+        length: usize,
+        stat: *mut RawStat,
+        number: *mut u64,
+    ) -> u8;
+    pub fn atomfs_shared_readdir(
+        session: *mut Session,
+        path: *const u8,
         length: usize,
         out: *mut u8,
         room: usize,
         count: *mut usize,
+        number: *mut u64,
+    ) -> u8;
+    pub fn atomfs_shared_list(
+        session: *mut Session,
+        path: *const u8,
+        length: usize,
+        after: *const u8,
+        after_length: usize,
+        most: u32,
+        out: *mut u8,
+        room: usize,
+        count: *mut usize,
+        number: *mut u64,
+    ) -> u8;
+    pub fn atomfs_shared_read(
+        session: *mut Session,
+        path: *const u8,
+        length: usize,
+        offset: u64,
+        out: *mut u8,
+        room: usize,
+        count: *mut usize,
+        number: *mut u64,
+    ) -> u8;
+    pub fn atomfs_shared_write(
+        session: *mut Session,
+        path: *const u8,
+        length: usize,
+        offset: u64,
+        bytes: *const u8,
+        bytes_length: usize,
+        wrote: *mut u64,
+        number: *mut u64,
+    ) -> u8;
+    pub fn atomfs_shared_truncate(
+        session: *mut Session,
+        path: *const u8,
+        length: usize,
+        size: u64,
+        number: *mut u64,
     ) -> u8;
 
     pub fn atomfs_check_path(path: *const u8, length: usize, version: u8) -> u8;
@@ -329,6 +371,6 @@ pub fn words(text: *const c_char) -> &'static str {
     if text.is_null() {
         return "";
     }
-    // The library's words are constants.
+    // SAFETY: the library's words are constants, which end with a byte 0.
     unsafe { CStr::from_ptr(text) }.to_str().unwrap_or("")
 }

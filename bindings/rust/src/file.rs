@@ -72,7 +72,8 @@ impl OpenOptions {
         self
     }
 
-    /// Whether the file is made, and has to be: what stands there is an error. `create` and `truncate` are not looked at then.
+    /// Whether the file is made, and has to be: what stands there is an error. `create` and `truncate` are not looked
+    /// at then.
     pub fn create_new(&mut self, create_new: bool) -> &mut OpenOptions {
         self.create_new = create_new;
         self
@@ -80,8 +81,8 @@ impl OpenOptions {
 
     /// Opens a file of a tree.
     ///
-    /// `ErrorKind::BadOptions`, where no access is asked for, or a new or an emptied file without write, or an emptied one to append
-    /// to. `EISDIR` of a directory, and as the calls fail else. By an error the tree is as before.
+    /// `ErrorKind::BadOptions`, where no access is asked for, or a new or an emptied file without write, or an emptied
+    /// one to append to. `EISDIR` of a directory, and as the calls fail else. By an error the tree is as before.
     pub fn open<C: Calls>(&self, mut calls: C, path: impl AsPath) -> Result<File<C>, Error> {
         let path = path.path_bytes().to_vec();
         let writes = self.write || self.append;
@@ -94,14 +95,7 @@ impl OpenOptions {
         if !self.make(&mut calls, &path)? && empties {
             calls.call(&Call::Truncate(&path, 0))?;
         }
-        Ok(File {
-            calls,
-            path,
-            place: 0,
-            reads: self.read,
-            writes,
-            appends: self.append,
-        })
+        Ok(File { calls, path, place: 0, reads: self.read, writes, appends: self.append })
     }
 
     /// Sees to it that a file is there, and tells whether it was made.
@@ -128,9 +122,9 @@ impl OpenOptions {
 /// A file of a tree, open at a place: it is read and written from there on. [`Tree::open`](crate::Tree::open),
 /// [`Tree::create`](crate::Tree::create) and [`OpenOptions`] make it.
 ///
-/// It is its path: each read and each write is a call by it. So what stands at the path is what is read and written; if there is
-/// nothing any more, that is the error of the call. A write is made as a whole or not at all, at once. An append takes two calls,
-/// of which the first asks for the end.
+/// It is its path: each read and each write is a call by it. So what stands at the path is what is read and written; if
+/// there is nothing any more, that is the error of the call. A write is made as a whole or not at all, at once. An
+/// append takes two calls, of which the first asks for the end.
 #[derive(Debug)]
 pub struct File<C> {
     calls: C,

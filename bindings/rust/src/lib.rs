@@ -17,11 +17,14 @@
 //!
 //! [`Tree::open`], [`Tree::create`] and [`OpenOptions`] give a [`File`] to read, write and seek.
 //!
-//! Threads share a tree as a [`SharedTree`] or by [`Session`]s, whose calls interleave step by step. [`Tree::seat`], [`Tree::begin`] and
-//! [`Tree::step`] play an interleaving of your own.
+//! Threads share a tree as a [`SharedTree`] or by [`Session`]s, whose calls interleave step by step. [`Tree::seat`],
+//! [`Tree::begin`] and [`Tree::step`] play an interleaving of your own.
 //!
-//! [`check`], [`run`], [`trace`], [`draw`], [`schedule`], [`seeds`], [`linearize`] and [`explain`] are what the program `atomfs` does with
-//! texts.
+//! [`explore()`] runs functions of yours on threads, under schedules that a number draws, and cuts down the first that
+//! fails.
+//!
+//! [`check`], [`run`], [`trace`], [`draw`], [`schedule`], [`seeds`], [`linearize`] and [`explain`] are what the program
+//! `atomfs` does with texts.
 //!
 //! Errors of calls are those of the operating system:
 //!
@@ -39,23 +42,33 @@
 //! Paths are absolute, and names are any bytes but 0 and the slash.
 
 #![warn(missing_docs)]
+#![deny(clippy::undocumented_unsafe_blocks)]
 
+mod baton;
 mod call;
+mod draws;
 mod error;
+mod explore;
 mod ffi;
 mod file;
+mod lent;
 mod limits;
 mod linearize;
+mod methods;
 mod path;
 mod session;
 mod shared;
 mod texts;
 mod tree;
+mod way;
 mod whole;
 
+pub use baton::ThreadTree;
 pub use call::{Call, Did, Reply, Seat, Stat};
 pub use error::{Errno, Error, ErrorKind, PathFault};
+pub use explore::{explore, replay, Draws, Explored, FailedRun, Plan, Replies, ScheduleError, ScheduleFault, Verdict};
 pub use file::{File, OpenOptions};
+pub use lent::Lent;
 pub use limits::{Journal, Limits};
 pub use linearize::{front, linearize, Linearized};
 pub use path::AsPath;
@@ -70,6 +83,7 @@ pub const NODE_LIMIT: usize = Limits::V3.nodes();
 
 /// The version of the library.
 pub fn version() -> &'static str {
+    // SAFETY: it takes nothing and answers a constant.
     ffi::words(unsafe { ffi::atomfs_version() })
 }
 

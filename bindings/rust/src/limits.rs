@@ -23,7 +23,8 @@ pub enum Limits {
     V1 = 1,
     /// Names of at most 64 bytes, paths of 64 names, directories of 256 entries, files of 1,048,576 bytes.
     V2 = 2,
-    /// Names of at most 255 bytes, paths of 2,048 names, directories of 1,048,576 entries, files of 2,147,483,648 bytes.
+    /// Names of at most 255 bytes, paths of 2,048 names, directories of 1,048,576 entries, files of 2,147,483,648
+    /// bytes.
     #[default]
     V3 = 3,
 }

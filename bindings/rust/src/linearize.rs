@@ -1,4 +1,4 @@
-//! What the library finds of histories: an order of their calls, or the first return that none explains.
+//! What the library finds of histories: an order of their calls, or the first return up to which none explains them.
 
 use crate::error::Error;
 use crate::ffi;
@@ -11,7 +11,8 @@ const CONFIGURATIONS: u64 = 10_000_000;
 /// What is found of a history. As text it is the verdict: `lawful`, `none 3 2`, `fault 3 SeatBusy`, `unknown 3`.
 #[derive(Clone, Debug, PartialEq, Eq)]
 pub enum Linearized {
-    /// There is an order of the calls: the journal is the history with its commits, and [`check`](crate::check) says that it is lawful.
+    /// There is an order of the calls: the journal is the history with its commits, and [`check`](crate::check) says
+    /// that it is lawful.
     Lawful(String),
     /// No order explains the entries up to this place; one explains those before it.
     NoOrder {
@@ -19,7 +20,8 @@ pub enum Linearized {
         place: u64,
         /// The number of the call that returns there.
         call: u64,
-        /// What this entry says, with its line, and which call it is; and in a second line what the call could have replied.
+        /// What this entry says, with its line, and which call it is; and in a second line what the call could have
+        /// replied.
         words: String,
     },
     /// The entry at this place is the first that cannot come next.
@@ -49,11 +51,13 @@ impl fmt::Display for Linearized {
     }
 }
 
-/// An order in which the calls of a history took effect, or the first return that no order explains.
+/// An order in which the calls of a history took effect, or the first return up to which no order explains the
+/// entries, together with the replies that calls under way there return later.
 ///
-/// A history is a journal without its lines `commit`, in which `return 3 failed ?` fits any error of call 3, and `return 3 stat dir ?`
-/// any number of entries. The search makes at most `limit` configurations, 1 to 1,000,000,000, or else 10,000,000.
-/// `ErrorKind::BadText` tells the line of what is no history, and `ErrorKind::BadChoice` that there is no such limit.
+/// A history is a journal without its lines `commit`, in which `return 3 failed ?` fits any error of call 3, and
+/// `return 3 stat dir ?` any number of entries. The search makes at most `limit` configurations, 1 to 1,000,000,000, or
+/// else 10,000,000. `ErrorKind::BadText` tells the line of what is no history, and `ErrorKind::BadChoice` that there is
+/// no such limit.
 ///
 /// ```
 /// use atomfs::Linearized;
@@ -80,22 +84,14 @@ pub fn linearize(history: impl AsRef<[u8]>, limit: Option<u64>) -> Result<Linear
     let about = line.next();
     let words = words.trim_end_matches('\n').to_owned();
     Ok(match found {
-        ffi::FOUND_NO_ORDER => Linearized::NoOrder {
-            place,
-            call: number(about),
-            words,
-        },
-        ffi::FOUND_NO_HISTORY => Linearized::NoHistory {
-            place,
-            kind: about.unwrap_or_default().to_owned(),
-            words,
-        },
+        ffi::FOUND_NO_ORDER => Linearized::NoOrder { place, call: number(about), words },
+        ffi::FOUND_NO_HISTORY => Linearized::NoHistory { place, kind: about.unwrap_or_default().to_owned(), words },
         _ => Linearized::Unknown { place },
     })
 }
 
-/// The journal up to the first return that no order explains, for [`draw`](crate::draw): one of those that explain all before it. `None`,
-/// where [`linearize`] finds something else, or the limit is reached.
+/// The journal up to the return that [`linearize`] names, for [`draw`](crate::draw): one of those that explain all
+/// before it. `None`, where [`linearize`] finds something else, or the limit is reached.
 ///
 /// ```
 /// use atomfs::{draw, front, Schedule};
@@ -115,17 +111,9 @@ fn found(history: &[u8], limit: Option<u64>, tell: u8) -> Result<(u8, Vec<u8>), 
     let mut found = 0;
     let limit = limit.unwrap_or(CONFIGURATIONS);
     // A journal that explains a history is hardly ever twice as long, so no search is made once more for want of room.
+    // SAFETY: the history is a slice with its length, and `told_in` gives a room with its length.
     let told = told_in(ROOM + 2 * history.len(), |out, room, count| unsafe {
-        ffi::atomfs_linearize(
-            history.as_ptr(),
-            history.len(),
-            limit,
-            tell,
-            out,
-            room,
-            count,
-            &mut found,
-        )
+        ffi::atomfs_linearize(history.as_ptr(), history.len(), limit, tell, out, room, count, &mut found)
     })?;
     Ok((found, told))
 }

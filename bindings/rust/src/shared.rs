@@ -1,20 +1,24 @@
 //! A tree that threads share.
 
-use std::sync::{Arc, Mutex, MutexGuard};
+use std::sync::Arc;
+use std::time::Duration;
 
-use crate::call::{Call, Reply, Stat};
+use crate::call::{Call, Did, Reply, Seat, Stat};
 use crate::error::Error;
+use crate::ffi::NO_PAUSES;
 use crate::file::{File, OpenOptions};
+use crate::lent::Lent;
 use crate::limits::Limits;
 use crate::path::AsPath;
-use crate::session::{lock, run, Session};
+use crate::session::Session;
 use crate::tree::Tree;
+use crate::way::{panic_of_gate, Shared};
 use crate::whole::{self, Calls, Entry};
 
 /// A tree that threads share: each has a clone, and all clones are of one tree.
 ///
-/// Its calls interleave step by step, as those of [`Session`]s do, and one that has to wait for a node sleeps. Each takes a seat on
-/// which no call is under way; a [`Session`] keeps its own, by which a journal tells threads apart.
+/// Its calls interleave step by step, as those of [`Session`]s do, and one that has to wait for a node sleeps. Each
+/// takes a seat on which no call is under way; a [`Session`] keeps its own, by which a journal tells threads apart.
 ///
 /// ```
 /// use std::thread;
@@ -33,41 +37,87 @@ use crate::whole::{self, Calls, Entry};
 /// ```
 #[derive(Clone, Debug)]
 pub struct SharedTree {
-    tree: Arc<Mutex<Tree>>,
+    shared: Arc<Shared>,
 }
 
 impl SharedTree {
-    /// An empty tree for as many nodes as there may be.
+    /// An empty tree for as many nodes as there may be. `ErrorKind::BadChoice`, where `ATOMFS_PAUSES` in the
+    /// environment is no number.
     pub fn new() -> Result<SharedTree, Error> {
-        Tree::new().map(SharedTree::from)
+        SharedTree::try_from(Tree::new()?)
     }
 
     /// An empty tree for at most so many nodes, its root included.
     pub fn with_limit(limit: usize) -> Result<SharedTree, Error> {
-        Tree::with_limit(limit).map(SharedTree::from)
+        SharedTree::try_from(Tree::with_limit(limit)?)
     }
 
     /// The same by these limits.
     pub fn with_limits(limit: usize, limits: Limits) -> Result<SharedTree, Error> {
-        Tree::with_limits(limit, limits).map(SharedTree::from)
+        SharedTree::try_from(Tree::with_limits(limit, limits)?)
     }
 
-    /// The tree itself: for its journal and its verdict, and for steps of your own. Calls of other threads stand still meanwhile, so
-    /// one that waits for theirs is not made by it: it ends with `ErrorKind::Waits`.
-    pub fn lock(&self) -> MutexGuard<'_, Tree> {
-        lock(&self.tree)
+    /// Waits until no call is under way, and has the tree: for its journal and its verdict, for steps of your own, and
+    /// for calls that nothing is to come between. Calls of other threads that would begin wait meanwhile, so this
+    /// thread makes none by its clone.
+    pub fn lock(&self) -> Lent<'_> {
+        // However long it takes.
+        while self.shared.borrow_handle().is_err() {}
+        Lent::new(&self.shared)
+    }
+
+    /// The same, but `ErrorKind::TimedOut`, where it waited as long as [`wait_most`](SharedTree::wait_most) lets it.
+    pub fn try_lock(&self) -> Result<Lent<'_>, Error> {
+        self.shared.borrow_handle()?;
+        Ok(Lent::new(&self.shared))
     }
 
     /// A way into the tree with a seat of its own.
     pub fn session(&self) -> Result<Session, Error> {
-        Session::new(&self.tree)
+        Session::new(&self.shared)
+    }
+
+    /// From now on calls pause behind some of their events, as it is drawn from this number and the seat, so that calls
+    /// of threads overlap that else hardly meet; `None`: they do not. The same seed draws the same pauses, and no run a
+    /// second time: [`explore`](crate::explore()) does that. `ATOMFS_PAUSES` in the environment is the seed with which
+    /// trees are made.
+    pub fn pauses(&self, seed: Option<u64>) {
+        self.shared.pauses(seed.map_or(NO_PAUSES, |seed| seed.min(NO_PAUSES - 1)));
+    }
+
+    /// From now on calls hand each of their events to `gate`, with the lock let go: the begin, each step that does not
+    /// wait, the return. So a test has a call stand where it wants. The gate runs in the thread of the call. It makes
+    /// no call on this tree, and what it waits for must not wait for this call. Where it panics the call goes on to its
+    /// return first. `None`: they do not.
+    pub fn gate(&self, gate: Option<Box<dyn Fn(Seat, Did) + Send + Sync>>) {
+        self.shared.gate(gate);
+    }
+
+    /// How long a call sleeps at most for another that holds a node, or for whoever has the tree locked; `None`:
+    /// without end. Then it ends with `ErrorKind::TimedOut`, and [`Error::holders`] tells who holds what. Less than a
+    /// millisecond counts as one.
+    pub fn wait_most(&self, most: Option<Duration>) {
+        let milliseconds = most.map_or(0, |most| u32::try_from(most.as_millis()).unwrap_or(u32::MAX).max(1));
+        self.shared.wait_most(milliseconds);
+    }
+
+    /// Who holds what: a line for each call that is under way.
+    pub fn holders(&self) -> String {
+        self.shared.holders()
+    }
+
+    /// Brings all calls to their returns, whether their threads go on with them or not, and tells how many they were:
+    /// where a gate keeps one for ever, or a wait was given up.
+    pub fn finish_all(&self) -> u64 {
+        self.shared.finish()
     }
 
     /// Makes a call, step by step between those of other threads.
     pub fn call(&self, call: &Call) -> Result<Reply, Error> {
-        let seat = self.lock().take_seat()?;
-        let came = run(&self.tree, seat, call);
-        self.lock().give_back(seat);
+        let mut way = self.shared.way()?;
+        let came = way.call(&self.shared, call);
+        self.shared.give_way_back(way);
+        panic_of_gate();
         came
     }
 
@@ -116,12 +166,7 @@ impl SharedTree {
     }
 
     /// As [`Tree::list`].
-    pub fn list(
-        &self,
-        path: impl AsPath,
-        after: impl AsPath,
-        count: u32,
-    ) -> Result<Vec<Vec<u8>>, Error> {
+    pub fn list(&self, path: impl AsPath, after: impl AsPath, count: u32) -> Result<Vec<Vec<u8>>, Error> {
         whole::list(&mut &*self, path.path_bytes(), after.path_bytes(), count)
     }
 
@@ -136,12 +181,7 @@ impl SharedTree {
     }
 
     /// Writes bytes into a file at an offset, all of them or none, and tells how many.
-    pub fn write(
-        &self,
-        path: impl AsPath,
-        offset: u64,
-        bytes: impl AsRef<[u8]>,
-    ) -> Result<u64, Error> {
+    pub fn write(&self, path: impl AsPath, offset: u64, bytes: impl AsRef<[u8]>) -> Result<u64, Error> {
         whole::write(&mut &*self, path.path_bytes(), offset, bytes.as_ref())
     }
 
@@ -180,22 +220,19 @@ impl SharedTree {
         whole::write_file(&mut &*self, path.path_bytes(), bytes.as_ref())
     }
 
-    /// As [`Tree::remove_dir_all`]; calls of other threads can come between its calls, and what they put below the path meanwhile is
-    /// kept: then it ends with `ENOTEMPTY`.
+    /// As [`Tree::remove_dir_all`]; calls of other threads can come between its calls, and what they put below the path
+    /// meanwhile is kept: then it ends with `ENOTEMPTY`.
     pub fn remove_dir_all(&self, path: impl AsPath) -> Result<(), Error> {
         whole::remove_dir_all(&mut &*self, path.path_bytes())
     }
 }
 
-impl From<Tree> for SharedTree {
-    fn from(tree: Tree) -> SharedTree {
-        SharedTree::from(Arc::new(Mutex::new(tree)))
-    }
-}
+/// The tree with its journal and its seats, from now on shared. Calls that are under way come to their returns.
+impl TryFrom<Tree> for SharedTree {
+    type Error = Error;
 
-impl From<Arc<Mutex<Tree>>> for SharedTree {
-    fn from(tree: Arc<Mutex<Tree>>) -> SharedTree {
-        SharedTree { tree }
+    fn try_from(tree: Tree) -> Result<SharedTree, Error> {
+        Ok(SharedTree { shared: Shared::of(tree)? })
     }
 }
 
@@ -205,7 +242,7 @@ impl Calls for SharedTree {
     }
 
     fn limits(&mut self) -> Limits {
-        self.lock().limits()
+        self.shared.limits
     }
 }
 
@@ -215,6 +252,6 @@ impl Calls for &SharedTree {
     }
 
     fn limits(&mut self) -> Limits {
-        self.lock().limits()
+        self.shared.limits
     }
 }

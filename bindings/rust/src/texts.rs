@@ -3,7 +3,8 @@
 use crate::error::Error;
 use crate::ffi::{self, OK, TOO_SMALL};
 
-/// Room for the names of a full directory, and for the bytes of most files and texts: where one has more, the room becomes longer.
+/// Room for the names of a full directory, and for the bytes of most files and texts: where one has more, the room
+/// becomes longer.
 pub(crate) const ROOM: usize = 65_536;
 
 /// By which schedule a script runs.
@@ -34,7 +35,8 @@ pub(crate) fn ascii(bytes: &[u8]) -> String {
     String::from_utf8_lossy(bytes).into_owned()
 }
 
-/// The verdict on a journal: `lawful`, or the first entry at fault. `ErrorKind::BadText` tells the line of what is no journal.
+/// The verdict on a journal: `lawful`, or the first entry at fault. `ErrorKind::BadText` tells the line of what is no
+/// journal.
 ///
 /// ```
 /// assert_eq!(atomfs::check("atomfs-journal 1\n")?, "lawful");
@@ -43,13 +45,11 @@ pub(crate) fn ascii(bytes: &[u8]) -> String {
 /// # Ok::<(), atomfs::Error>(())
 /// ```
 pub fn check(journal: impl AsRef<[u8]>) -> Result<String, Error> {
-    Ok(of_text(ffi::atomfs_check, journal.as_ref())?
-        .trim_end()
-        .to_string())
+    Ok(of_text(ffi::atomfs_check, journal.as_ref())?.trim_end().to_string())
 }
 
-/// The journal, the tree and the counts of a script, run by its own schedule. `ErrorKind::BadText` tells the line of what is no
-/// script.
+/// The journal, the tree and the counts of a script, run by its own schedule. `ErrorKind::BadText` tells the line of
+/// what is no script.
 ///
 /// ```
 /// let ran = atomfs::run("atomfs 1\nschedule\nfinish\n")?;
@@ -65,29 +65,21 @@ pub fn run(script: impl AsRef<[u8]>) -> Result<String, Error> {
 /// ```
 /// use atomfs::Schedule;
 /// let told = atomfs::trace("atomfs 1\nthread t\nmkdir /a\nschedule\nfinish\n", Schedule::Given, false)?;
-/// assert!(told.starts_with("atomfs-trace 1\nthread t\n"));
+/// assert!(told.starts_with("atomfs-trace 2\nthread t\n"));
 /// # Ok::<(), atomfs::Error>(())
 /// ```
 pub fn trace(script: impl AsRef<[u8]>, by: Schedule, every: bool) -> Result<String, Error> {
     let (script, (schedule, seed)) = (script.as_ref(), by.numbers());
+    // SAFETY: the text is a slice with its length, and `told` gives a room with its length.
     let told = told(|out, room, count| unsafe {
         let every = u8::from(every);
-        ffi::atomfs_trace(
-            script.as_ptr(),
-            script.len(),
-            schedule,
-            seed,
-            every,
-            out,
-            room,
-            count,
-        )
+        ffi::atomfs_trace(script.as_ptr(), script.len(), schedule, seed, every, out, room, count)
     })?;
     Ok(ascii(&told))
 }
 
-/// A picture of a script's run, or of a journal, whatever the schedule, as an SVG file: of all calls, or of the one of a number and
-/// those that overlap it. `ErrorKind::NoCall`, where there is no such call.
+/// A picture of a script's run, or of a journal, whatever the schedule, as an SVG file: of all calls, or of the one of
+/// a number and those that overlap it. `ErrorKind::NoCall`, where there is no such call.
 ///
 /// ```
 /// let mut tree = atomfs::Tree::new()?;
@@ -98,51 +90,43 @@ pub fn trace(script: impl AsRef<[u8]>, by: Schedule, every: bool) -> Result<Stri
 /// ```
 pub fn draw(text: impl AsRef<[u8]>, by: Schedule, around: Option<u64>) -> Result<String, Error> {
     let (text, (schedule, seed)) = (text.as_ref(), by.numbers());
+    // SAFETY: the text is a slice with its length, and `told` gives a room with its length.
     let told = told(|out, room, count| unsafe {
         let around = around.unwrap_or(ffi::WHOLE);
-        ffi::atomfs_draw(
-            text.as_ptr(),
-            text.len(),
-            schedule,
-            seed,
-            around,
-            out,
-            room,
-            count,
-        )
+        ffi::atomfs_draw(text.as_ptr(), text.len(), schedule, seed, around, out, room, count)
     })?;
     Ok(ascii(&told))
 }
 
-/// A script with the events of its run as its schedule, in bytes, since its comments stay as they are. `run` of it is that run.
-/// `ErrorKind::BadText` with the line 0, where a script has no room for the events.
+/// A script with the events of its run as its schedule, in bytes, since its comments stay as they are. `run` of it is
+/// that run. `ErrorKind::BadText` with the line 0, where a script has no room for the events.
 pub fn schedule(script: impl AsRef<[u8]>, by: Schedule) -> Result<Vec<u8>, Error> {
     let (script, (schedule, seed)) = (script.as_ref(), by.numbers());
+    // SAFETY: the text is a slice with its length, and `told` gives a room with its length.
     told(|out, room, count| unsafe {
         let length = script.len();
         ffi::atomfs_schedule(script.as_ptr(), length, schedule, seed, out, room, count)
     })
 }
 
-/// The verdicts on so many runs of a script, each behind its seed: the first is drawn from `seed`, each other from the next number.
-/// `ErrorKind::BadChoice`, where there are not 1 to 10,000 runs, or `seed` is 2^63 or more.
+/// The verdicts on so many runs of a script, each behind its seed: the first is drawn from `seed`, each other from the
+/// next number. `ErrorKind::BadChoice`, where there are not 1 to 10,000 runs, or `seed` is 2^63 or more.
 pub fn seeds(script: impl AsRef<[u8]>, seed: u64, runs: u64) -> Result<Vec<(u64, String)>, Error> {
     let script = script.as_ref();
+    // SAFETY: the text is a slice with its length, and `told` gives a room with its length.
     let told = told(|out, room, count| unsafe {
         ffi::atomfs_seeds(script.as_ptr(), script.len(), seed, runs, out, room, count)
     })?;
     let of_line = |line: &str| {
         let mut words = line.splitn(3, ' ').skip(1);
         let number = words.next().and_then(|word| word.parse().ok());
-        (
-            number.unwrap_or_default(),
-            words.next().unwrap_or_default().to_owned(),
-        )
+        (number.unwrap_or_default(), words.next().unwrap_or_default().to_owned())
     };
     Ok(ascii(&told).lines().map(of_line).collect())
 }
 
-/// What the word of a fault means, as `BadHex` or `WrongReply`, and what to write instead. `ErrorKind::BadChoice`, where it is none.
+/// What the word of a fault means, as `BadHex` or `WrongReply`, and what to write instead. `ErrorKind::BadChoice`,
+/// where it is none.
 ///
 /// ```
 /// assert!(atomfs::explain("BadHex")?.starts_with("BadHex: "));
@@ -155,22 +139,18 @@ pub fn explain(word: impl AsRef<[u8]>) -> Result<String, Error> {
 type OfText = unsafe extern "C" fn(*const u8, usize, *mut u8, usize, *mut usize) -> u8;
 
 fn of_text(function: OfText, given: &[u8]) -> Result<String, Error> {
-    let told = told(|out, room, count| unsafe {
-        function(given.as_ptr(), given.len(), out, room, count)
-    })?;
+    // SAFETY: the text is a slice with its length, and `told` gives a room with its length.
+    let told = told(|out, room, count| unsafe { function(given.as_ptr(), given.len(), out, room, count) })?;
     Ok(ascii(&told))
 }
 
 /// The bytes that a function tells, with as much room as they need.
-fn told(ask: impl FnMut(*mut u8, usize, *mut usize) -> u8) -> Result<Vec<u8>, Error> {
+pub(crate) fn told(ask: impl FnMut(*mut u8, usize, *mut usize) -> u8) -> Result<Vec<u8>, Error> {
     told_in(ROOM, ask)
 }
 
 /// The same with so much room at first.
-pub(crate) fn told_in(
-    room: usize,
-    mut ask: impl FnMut(*mut u8, usize, *mut usize) -> u8,
-) -> Result<Vec<u8>, Error> {
+pub(crate) fn told_in(room: usize, mut ask: impl FnMut(*mut u8, usize, *mut usize) -> u8) -> Result<Vec<u8>, Error> {
     let mut out = vec![0; room];
     loop {
         let mut count = 0;

@@ -1,10 +1,8 @@
 //! Trees.
 
-use std::collections::BTreeMap;
 use std::fmt;
-use std::ptr;
+use std::ptr::{self, NonNull};
 use std::sync::atomic::{AtomicU64, Ordering};
-use std::sync::{Arc, Condvar};
 
 use crate::call::{Call, Did, Kind, Reply, Seat, Stat};
 use crate::error::{Error, ErrorKind};
@@ -18,23 +16,17 @@ use crate::NODE_LIMIT;
 static TREES: AtomicU64 = AtomicU64::new(0);
 
 /// What is wrong with an entry, by the number of the library and the word of the program.
-const FAULTS: [&str; 8] = [
-    "",
-    "BeginTwice",
-    "SeatBusy",
-    "CommitUnbegun",
-    "CommitTwice",
-    "ReturnUncommitted",
-    "ReturnTwice",
-    "WrongReply",
-];
+const FAULTS: [&str; 8] =
+    ["", "BeginTwice", "SeatBusy", "CommitUnbegun", "CommitTwice", "ReturnUncommitted", "ReturnTwice", "WrongReply"];
 
 /// A tree with the journal of its calls. It is closed when it is dropped.
 ///
-/// Each method runs one call at a time, or several where it says so. Threads share a tree as a [`SharedTree`](crate::SharedTree).
+/// Each method runs one call at a time, or several where it says so. Threads share a tree as a
+/// [`SharedTree`](crate::SharedTree).
 pub struct Tree {
-    /// A box, which the tree owns.
-    handle: *mut Handle,
+    /// Of a box, which the tree owns, unless it is that of a shared tree.
+    handle: NonNull<Handle>,
+    is_shared: bool,
     /// What tells its seats from those of other trees.
     id: u64,
     limit: usize,
@@ -50,10 +42,6 @@ pub struct Tree {
     own: Option<Seat>,
     /// The last call that was begun on each seat.
     last: Vec<Last>,
-    /// The seats that sessions gave back.
-    free: Vec<Seat>,
-    /// Where sessions sleep that wait for a node of the call of a number.
-    sleepers: BTreeMap<u64, Arc<Condvar>>,
 }
 
 /// A call that was begun on a seat.
@@ -61,7 +49,6 @@ pub struct Tree {
 struct Last {
     number: u64,
     kind: Kind,
-    under_way: bool,
     path: Vec<u8>,
     other: Option<Vec<u8>>,
 }
@@ -72,11 +59,11 @@ impl Last {
         self.path.clear();
         self.path.extend_from_slice(path);
         self.other = other.map(<[u8]>::to_vec);
-        (self.number, self.kind, self.under_way) = (number, call.kind(), true);
+        (self.number, self.kind) = (number, call.kind());
     }
 }
 
-// The library proves that a handle may go from thread to thread.
+// SAFETY: the library proves that a handle may go from thread to thread, and all else of a tree is `Send`.
 unsafe impl Send for Tree {}
 
 impl Tree {
@@ -109,13 +96,15 @@ impl Tree {
     /// ```
     pub fn with_limits(limit: usize, limits: Limits) -> Result<Tree, Error> {
         let mut tree = Tree::closed(limit, limits);
-        done(unsafe { ffi::atomfs_open_with(tree.handle, limit, limits as u8) })?;
+        // SAFETY: the handle is this tree's alone.
+        done(unsafe { ffi::atomfs_open_with(tree.handle.as_ptr(), limit, limits as u8) })?;
         tree.own()?;
         Ok(tree)
     }
 
-    /// A tree for at most so many nodes, by its text, as [`text_of_tree`](Tree::text_of_tree) tells it by these limits, or by a journal,
-    /// at whose start it begins: the calls of that are read, and not made. Its own journal begins at what it has.
+    /// A tree for at most so many nodes, by its text, as [`text_of_tree`](Tree::text_of_tree) tells it by these limits,
+    /// or by a journal, at whose start it begins: the calls of that are read, and not made. Its own journal begins at
+    /// what it has.
     ///
     /// `ErrorKind::BadText` tells the line of what is none, and `ErrorKind::Full` that it has more nodes.
     ///
@@ -131,15 +120,9 @@ impl Tree {
     /// ```
     pub fn from_text(text: impl AsRef<[u8]>, limit: usize, limits: Limits) -> Result<Tree, Error> {
         let (mut tree, text, mut line) = (Tree::closed(limit, limits), text.as_ref(), 0);
+        // SAFETY: the handle is this tree's alone, and the text is a slice with its length.
         let status = unsafe {
-            ffi::atomfs_open_from(
-                tree.handle,
-                limit,
-                limits as u8,
-                text.as_ptr(),
-                text.len(),
-                &mut line,
-            )
+            ffi::atomfs_open_from(tree.handle.as_ptr(), limit, limits as u8, text.as_ptr(), text.len(), &mut line)
         };
         match status {
             OK => {}
@@ -150,8 +133,8 @@ impl Tree {
         Ok(tree)
     }
 
-    /// Another tree, which is as this one now, by the same limits, and keeps as many calls. Its journal begins there, and from then on
-    /// each goes its own way. `ErrorKind::UnderWay` tells the number of a call that is under way.
+    /// Another tree, which is as this one now, by the same limits, and keeps as many calls. Its journal begins there,
+    /// and from then on each goes its own way. `ErrorKind::UnderWay` tells the number of a call that is under way.
     ///
     /// ```
     /// let mut tree = atomfs::Tree::new()?;
@@ -163,7 +146,8 @@ impl Tree {
     /// ```
     pub fn try_clone(&self) -> Result<Tree, Error> {
         let (mut tree, mut number) = (Tree::closed(self.limit, self.limits), 0);
-        match unsafe { ffi::atomfs_open_at(tree.handle, self.limit, self.handle, &mut number) } {
+        // SAFETY: both handles are of trees that are borrowed here, and the other one is only read.
+        match unsafe { ffi::atomfs_open_at(tree.handle.as_ptr(), self.limit, self.handle.as_ptr(), &mut number) } {
             OK => {}
             status => return Err(Error::of(status, number)),
         }
@@ -174,13 +158,10 @@ impl Tree {
 
     /// A tree that is to be opened.
     fn closed(limit: usize, limits: Limits) -> Tree {
-        let handle = Box::new(Handle {
-            is_open: 0,
-            most: KEEP_ALL,
-            at: ptr::null_mut(),
-        });
+        let handle = Box::new(Handle { is_open: 0, most: KEEP_ALL, at: ptr::null_mut() });
         Tree {
-            handle: Box::into_raw(handle),
+            handle: NonNull::from(Box::leak(handle)),
+            is_shared: false,
             id: TREES.fetch_add(1, Ordering::Relaxed),
             limit,
             limits,
@@ -190,8 +171,6 @@ impl Tree {
             room: vec![0; ROOM],
             own: None,
             last: Vec::new(),
-            free: Vec::new(),
-            sleepers: BTreeMap::new(),
         }
     }
 
@@ -229,16 +208,9 @@ impl Tree {
     pub fn stat(&mut self, path: impl AsPath) -> Result<Stat, Error> {
         let own = self.own()?;
         let (path, mut stat, mut number) = (path.path_bytes(), RawStat::default(), 0);
-        let status = unsafe {
-            ffi::atomfs_stat(
-                self.handle,
-                own,
-                path.as_ptr(),
-                path.len(),
-                &mut stat,
-                &mut number,
-            )
-        };
+        // SAFETY: the handle is this tree's alone, and the path is a slice with its length.
+        let status =
+            unsafe { ffi::atomfs_stat(self.handle.as_ptr(), own, path.as_ptr(), path.len(), &mut stat, &mut number) };
         self.called(status, number, &Call::Stat(path))?;
         Ok(stat_of(stat))
     }
@@ -248,15 +220,16 @@ impl Tree {
         self.limits
     }
 
-    /// The names of a directory, in byte order: `EOVERFLOW` where they are more than 256, as they may be by [`Limits::V3`].
-    /// [`read_dir`](Tree::read_dir) tells these.
+    /// The names of a directory, in byte order: `EOVERFLOW` where they are more than 256, as they may be by
+    /// [`Limits::V3`]. [`read_dir`](Tree::read_dir) tells these.
     pub fn readdir(&mut self, path: impl AsPath) -> Result<Vec<Vec<u8>>, Error> {
         let own = self.own()?;
         let (path, mut count, mut number) = (path.path_bytes(), 0, 0);
         let (out, room) = (self.room.as_mut_ptr(), self.room.len());
+        // SAFETY: the handle is this tree's alone, and the path and the room are slices with their lengths.
         let status = unsafe {
             ffi::atomfs_readdir(
-                self.handle,
+                self.handle.as_ptr(),
                 own,
                 path.as_ptr(),
                 path.len(),
@@ -274,8 +247,8 @@ impl Tree {
         Ok(names_of(&self.room[..count]))
     }
 
-    /// The names of a directory above the last name of `after`, or from the first on where that is the root, in byte order: at most
-    /// `count`, and at most 256. Trees by [`Limits::V3`] alone have it.
+    /// The names of a directory above the last name of `after`, or from the first on where that is the root, in byte
+    /// order: at most `count`, and at most 256. Trees by [`Limits::V3`] alone have it.
     ///
     /// ```
     /// let mut tree = atomfs::Tree::new()?;
@@ -286,17 +259,13 @@ impl Tree {
     /// assert_eq!(tree.list("/", "/b", 2)?, [b"c"]);
     /// # Ok::<(), atomfs::Error>(())
     /// ```
-    pub fn list(
-        &mut self,
-        path: impl AsPath,
-        after: impl AsPath,
-        count: u32,
-    ) -> Result<Vec<Vec<u8>>, Error> {
+    pub fn list(&mut self, path: impl AsPath, after: impl AsPath, count: u32) -> Result<Vec<Vec<u8>>, Error> {
         let own = self.own()?;
         let (path, after, mut told, mut number) = (path.path_bytes(), after.path_bytes(), 0, 0);
+        // SAFETY: the handle is this tree's alone, and the path and the room are slices with their lengths.
         let status = unsafe {
             ffi::atomfs_list(
-                self.handle,
+                self.handle.as_ptr(),
                 own,
                 path.as_ptr(),
                 path.len(),
@@ -334,17 +303,13 @@ impl Tree {
 
     /// Reads bytes of a file from an offset on into `out`: as many as it has room for, or as there are, and at most
     /// `Limits::read_bytes`.
-    pub fn read_into(
-        &mut self,
-        path: impl AsPath,
-        offset: u64,
-        out: &mut [u8],
-    ) -> Result<usize, Error> {
+    pub fn read_into(&mut self, path: impl AsPath, offset: u64, out: &mut [u8]) -> Result<usize, Error> {
         let own = self.own()?;
         let (path, mut count, mut number) = (path.path_bytes(), 0, 0);
+        // SAFETY: the handle is this tree's alone, and the path and the room are slices with their lengths.
         let mut status = unsafe {
             ffi::atomfs_read(
-                self.handle,
+                self.handle.as_ptr(),
                 own,
                 path.as_ptr(),
                 path.len(),
@@ -356,32 +321,24 @@ impl Tree {
             )
         };
         if status == UNTOLD {
+            // SAFETY: the handle is this tree's alone, and the room is a slice with its length.
             status = unsafe {
-                ffi::atomfs_reply_bytes(
-                    self.handle,
-                    number,
-                    out.as_mut_ptr(),
-                    out.len(),
-                    &mut count,
-                )
+                ffi::atomfs_reply_bytes(self.handle.as_ptr(), number, out.as_mut_ptr(), out.len(), &mut count)
             };
         }
         self.called(status, number, &Call::Read(path, offset, out.len() as u64))?;
         Ok(count)
     }
 
-    /// Writes bytes into a file at an offset, all of them or none, and tells how many. A gap before them reads as zeros.
-    pub fn write(
-        &mut self,
-        path: impl AsPath,
-        offset: u64,
-        bytes: impl AsRef<[u8]>,
-    ) -> Result<u64, Error> {
+    /// Writes bytes into a file at an offset, all of them or none, and tells how many. A gap before them reads as
+    /// zeros.
+    pub fn write(&mut self, path: impl AsPath, offset: u64, bytes: impl AsRef<[u8]>) -> Result<u64, Error> {
         let own = self.own()?;
         let (path, bytes, mut wrote, mut number) = (path.path_bytes(), bytes.as_ref(), 0, 0);
+        // SAFETY: the handle is this tree's alone, and the path and the bytes are slices with their lengths.
         let status = unsafe {
             ffi::atomfs_write(
-                self.handle,
+                self.handle.as_ptr(),
                 own,
                 path.as_ptr(),
                 path.len(),
@@ -400,16 +357,9 @@ impl Tree {
     pub fn truncate(&mut self, path: impl AsPath, size: u64) -> Result<(), Error> {
         let own = self.own()?;
         let (path, mut number) = (path.path_bytes(), 0);
-        let status = unsafe {
-            ffi::atomfs_truncate(
-                self.handle,
-                own,
-                path.as_ptr(),
-                path.len(),
-                size,
-                &mut number,
-            )
-        };
+        // SAFETY: the handle is this tree's alone, and the path is a slice with its length.
+        let status =
+            unsafe { ffi::atomfs_truncate(self.handle.as_ptr(), own, path.as_ptr(), path.len(), size, &mut number) };
         self.called(status, number, &Call::Truncate(path, size))
     }
 
@@ -446,7 +396,8 @@ impl Tree {
     fn on_path(&mut self, function: OnPath, call: &Call) -> Result<(), Error> {
         let own = self.own()?;
         let ((path, _), mut number) = (call.paths(), 0);
-        let status = unsafe { function(self.handle, own, path.as_ptr(), path.len(), &mut number) };
+        // SAFETY: the handle is this tree's alone, and each path is a slice with its length.
+        let status = unsafe { function(self.handle.as_ptr(), own, path.as_ptr(), path.len(), &mut number) };
         self.called(status, number, call)
     }
 
@@ -454,16 +405,9 @@ impl Tree {
         let own = self.own()?;
         let ((path, other), mut number) = (call.paths(), 0);
         let other = other.unwrap_or(path);
+        // SAFETY: the handle is this tree's alone, and each path is a slice with its length.
         let status = unsafe {
-            function(
-                self.handle,
-                own,
-                path.as_ptr(),
-                path.len(),
-                other.as_ptr(),
-                other.len(),
-                &mut number,
-            )
+            function(self.handle.as_ptr(), own, path.as_ptr(), path.len(), other.as_ptr(), other.len(), &mut number)
         };
         self.called(status, number, call)
     }
@@ -494,19 +438,23 @@ impl Tree {
         Ok(own.number)
     }
 
+    /// The seat of the tree's own calls.
+    pub(crate) fn seat_of_own(&mut self) -> Result<Seat, Error> {
+        let number = self.own()?;
+        Ok(self.seat_of(number))
+    }
+
     /// Adds a seat, on which one call at a time can be under way.
     pub fn seat(&mut self) -> Result<Seat, Error> {
         let mut number = 0;
-        done(unsafe { ffi::atomfs_seat(self.handle, &mut number) })?;
+        // SAFETY: the handle is this tree's alone, and the rest are locals.
+        done(unsafe { ffi::atomfs_seat(self.handle.as_ptr(), &mut number) })?;
         Ok(self.seat_of(number))
     }
 
     /// The seat of a number.
     fn seat_of(&self, number: u64) -> Seat {
-        Seat {
-            tree: self.id,
-            number,
-        }
+        Seat { tree: self.id, number }
     }
 
     /// Refuses the seat of another tree.
@@ -539,7 +487,8 @@ impl Tree {
     pub fn begin(&mut self, seat: Seat, call: &Call) -> Result<u64, Error> {
         self.own_seat(seat)?;
         let (request, mut number) = (call.request(), 0);
-        match unsafe { ffi::atomfs_begin_call(self.handle, seat.number, &request, &mut number) } {
+        // SAFETY: the handle is this tree's alone, and what the request leads to is borrowed by the call.
+        match unsafe { ffi::atomfs_begin_call(self.handle.as_ptr(), seat.number, &request, &mut number) } {
             OK => {
                 self.noted(number);
                 self.began(seat, number, call);
@@ -577,48 +526,68 @@ impl Tree {
         self.last.get_mut(usize::try_from(seat.number).ok()?)
     }
 
-    /// A seat without a call under way that nobody else has.
-    pub(crate) fn take_seat(&mut self) -> Result<Seat, Error> {
-        self.free.pop().map_or_else(|| self.seat(), Ok)
+    pub(crate) fn handle(&mut self) -> NonNull<Handle> {
+        self.handle
     }
 
-    /// Gives a seat of this tree back to `take_seat`.
-    pub(crate) fn give_back(&mut self, seat: Seat) {
-        let busy = self.last(seat).map_or(false, |last| last.under_way);
-        if self.own_seat(seat).is_ok() && !busy {
-            self.free.push(seat);
+    pub(crate) fn id(&self) -> u64 {
+        self.id
+    }
+
+    /// A shared tree has taken what is behind the handle.
+    pub(crate) fn is_given_away(&mut self) {
+        self.free_handle();
+        self.is_shared = true;
+    }
+
+    /// A shared tree lends its handle, on which others have begun so many calls since the last time.
+    pub(crate) fn is_lent(&mut self, handle: NonNull<Handle>, begun: u64) {
+        self.handle = handle;
+        let made = self.before + self.calls + begun;
+        let calls = match begun {
+            0 => self.calls,
+            _ => self.last_number().unwrap_or(self.calls + begun).min(made),
+        };
+        if made - calls != self.before {
+            self.last.clear();
         }
+        (self.calls, self.before) = (calls, made - calls);
     }
 
-    /// Where a session sleeps that waits for a node of the call of a number: it is woken when that call lets a node go.
-    pub(crate) fn sleeps_for(&mut self, holder: u64) -> Arc<Condvar> {
-        Arc::clone(self.sleepers.entry(holder).or_default())
-    }
-
-    /// What a step of the call on a seat did, of which those are told that wait for it.
-    fn stepped(&mut self, seat: Seat, did: Did) -> Did {
-        if let Some(last) = self.last(seat) {
-            last.under_way &= did != Did::Returned;
-            let number = last.number;
-            if matches!(did, Did::LetGo(_)) {
-                if let Some(sleepers) = self.sleepers.remove(&number) {
-                    sleepers.notify_all();
-                }
+    /// The number of the last call that the journal has; none, where it has no call.
+    fn last_number(&mut self) -> Option<u64> {
+        let mut entries = 0;
+        self.entries(usize::MAX, &mut entries).ok()?;
+        let mut behind = 64;
+        loop {
+            let first = entries.saturating_sub(behind);
+            let lines = self.entries(first, &mut 0).ok()?;
+            let begun = lines.lines().rev().find_map(|line| line.strip_prefix("begin "));
+            match begun {
+                Some(words) => return words.split(' ').next()?.parse().ok(),
+                None if first == 0 => return Some(0),
+                None => behind = behind.saturating_mul(2),
             }
         }
-        did
+    }
+
+    /// The lines of the journal from an entry on, and how many entries there are.
+    fn entries(&mut self, first: usize, entries: &mut usize) -> Result<String, Error> {
+        // SAFETY: `tell` gives the tree's handle, and a room with its length.
+        self.text(|handle, out, room, count| unsafe { ffi::atomfs_journal(handle, first, out, room, count, entries) })
     }
 
     /// Makes one step of the call on a seat.
     pub fn step(&mut self, seat: Seat) -> Result<Did, Error> {
         let (mut did, mut about) = (0, 0);
         self.own_seat(seat)?;
-        done(unsafe { ffi::atomfs_step(self.handle, seat.number, &mut did, &mut about) })?;
-        Ok(self.stepped(seat, Did::of(did, about)))
+        // SAFETY: the handle is this tree's alone, and the rest are locals.
+        done(unsafe { ffi::atomfs_step(self.handle.as_ptr(), seat.number, &mut did, &mut about) })?;
+        Ok(Did::of(did, about))
     }
 
-    /// Makes one step of a call that does not wait, whichever it is, and tells its seat. It tells none where no call is under
-    /// way, and only there: in a loop it brings every call to its return.
+    /// Makes one step of a call that does not wait, whichever it is, and tells its seat. It tells none where no call is
+    /// under way, and only there: in a loop it brings every call to its return.
     ///
     /// ```
     /// use atomfs::{Call, Did, Reply, Tree};
@@ -636,18 +605,16 @@ impl Tree {
     /// ```
     pub fn step_any(&mut self) -> Result<Option<(Seat, Did)>, Error> {
         let (mut seat, mut did, mut about) = (0, 0, 0);
-        done(unsafe { ffi::atomfs_step_any(self.handle, &mut seat, &mut did, &mut about) })?;
+        // SAFETY: the handle is this tree's alone, and the rest are locals.
+        done(unsafe { ffi::atomfs_step_any(self.handle.as_ptr(), &mut seat, &mut did, &mut about) })?;
         Ok(match Did::of(did, about) {
             Did::Idle => None,
-            did => {
-                let seat = self.seat_of(seat);
-                Some((seat, self.stepped(seat, did)))
-            }
+            did => Some((self.seat_of(seat), did)),
         })
     }
 
-    /// Makes the steps of the call on a seat up to its return, and tells its reply. `ErrorKind::Waits` says that the call of
-    /// another seat has to go on first.
+    /// Makes the steps of the call on a seat up to its return, and tells its reply. `ErrorKind::Waits` says that the
+    /// call of another seat has to go on first.
     pub fn finish(&mut self, seat: Seat) -> Result<Reply, Error> {
         loop {
             match self.step(seat)? {
@@ -679,17 +646,20 @@ impl Tree {
     fn told(&mut self, number: u64, kind: Kind) -> Result<Reply, Error> {
         match kind {
             Kind::Done => {
-                done(unsafe { ffi::atomfs_reply_done(self.handle, number) })?;
+                // SAFETY: the handle is this tree's alone.
+                done(unsafe { ffi::atomfs_reply_done(self.handle.as_ptr(), number) })?;
                 Ok(Reply::Done)
             }
             Kind::Stat => {
                 let mut stat = RawStat::default();
-                done(unsafe { ffi::atomfs_reply_stat(self.handle, number, &mut stat) })?;
+                // SAFETY: the handle is this tree's alone, and the rest are locals.
+                done(unsafe { ffi::atomfs_reply_stat(self.handle.as_ptr(), number, &mut stat) })?;
                 Ok(Reply::Stat(stat_of(stat)))
             }
             Kind::Wrote => {
                 let mut wrote = 0;
-                done(unsafe { ffi::atomfs_reply_wrote(self.handle, number, &mut wrote) })?;
+                // SAFETY: the handle is this tree's alone, and the rest are locals.
+                done(unsafe { ffi::atomfs_reply_wrote(self.handle.as_ptr(), number, &mut wrote) })?;
                 Ok(Reply::Wrote(wrote))
             }
             Kind::Names => self.told_names(number).map(Reply::Names),
@@ -703,9 +673,10 @@ impl Tree {
         loop {
             let (after, mut count) = (names.last().map_or(&[][..], Vec::as_slice), 0);
             let (out, room) = (self.room.as_mut_ptr(), self.room.len());
+            // SAFETY: the handle is this tree's alone, and the name and the room are slices with their lengths.
             let status = unsafe {
                 ffi::atomfs_reply_names(
-                    self.handle,
+                    self.handle.as_ptr(),
                     number,
                     after.as_ptr(),
                     after.len(),
@@ -724,9 +695,9 @@ impl Tree {
     }
 
     fn told_bytes(&mut self, number: u64) -> Result<Vec<u8>, Error> {
-        let count = self.tell(|handle, out, room, count| unsafe {
-            ffi::atomfs_reply_bytes(handle, number, out, room, count)
-        })?;
+        let count =
+            // SAFETY: `tell` gives the tree's handle, and a room with its length.
+            self.tell(|handle, out, room, count| unsafe { ffi::atomfs_reply_bytes(handle, number, out, room, count) })?;
         Ok(self.room[..count].to_vec())
     }
 
@@ -751,7 +722,8 @@ impl Tree {
             Journal::All => KEEP_ALL,
             Journal::Last(most) => most.min(KEEP_ALL - 1),
         };
-        done(unsafe { ffi::atomfs_keep(self.handle, most) })?;
+        // SAFETY: the handle is this tree's alone.
+        done(unsafe { ffi::atomfs_keep(self.handle.as_ptr(), most) })?;
         self.keeps = journal;
         Ok(())
     }
@@ -760,7 +732,8 @@ impl Tree {
     /// `ErrorKind::UnderWay` tells the number of a call that is under way.
     pub fn forget(&mut self) -> Result<u64, Error> {
         let mut number = 0;
-        match unsafe { ffi::atomfs_forget(self.handle, &mut number) } {
+        // SAFETY: the handle is this tree's alone, and the rest are locals.
+        match unsafe { ffi::atomfs_forget(self.handle.as_ptr(), &mut number) } {
             OK => {
                 self.begin_again();
                 Ok(number)
@@ -769,23 +742,22 @@ impl Tree {
         }
     }
 
-    /// The journal: what [`check`] reads. Its first call is the one behind [`calls_before`](Tree::calls_before) others.
+    /// The journal: what [`check`](crate::check) reads. Its first call comes after
+    /// [`calls_before`](Tree::calls_before) others.
     pub fn journal(&mut self) -> Result<String, Error> {
-        let mut journal = self.text(|handle, out, room, count| unsafe {
-            ffi::atomfs_opening(handle, out, room, count)
-        })?;
-        let mut entries = 0;
-        journal += &self.text(|handle, out, room, count| unsafe {
-            ffi::atomfs_journal(handle, 0, out, room, count, &mut entries)
-        })?;
+        let mut journal =
+            // SAFETY: `tell` gives the tree's handle, and a room with its length.
+            self.text(|handle, out, room, count| unsafe { ffi::atomfs_opening(handle, out, room, count) })?;
+        journal += &self.entries(0, &mut 0)?;
         Ok(journal)
     }
 
-    /// The verdict on the journal as it stands, without a text: `lawful`, as it always is by the proof, or the first entry at
-    /// fault. What was forgotten, or handed out by a checkpoint, is not looked at.
+    /// The verdict on the journal as it stands, without a text: `lawful`, as it always is by the proof, or the first
+    /// entry at fault. What was forgotten, or handed out by a checkpoint, is not looked at.
     pub fn check(&mut self) -> Result<String, Error> {
         let (mut place, mut kind) = (0, 0);
-        done(unsafe { ffi::atomfs_verdict(self.handle, &mut place, &mut kind) })?;
+        // SAFETY: the handle is this tree's alone, and the rest are locals.
+        done(unsafe { ffi::atomfs_verdict(self.handle.as_ptr(), &mut place, &mut kind) })?;
         Ok(match FAULTS.get(usize::from(kind)) {
             None | Some(&"") => "lawful".to_owned(),
             Some(word) => format!("fault {place} {word}"),
@@ -796,13 +768,11 @@ impl Tree {
     /// `ErrorKind::UnderWay` tells the number of a call that is under way.
     pub fn checkpoint(&mut self) -> Result<String, Error> {
         let mut number = 0;
-        let told = self.text(|handle, out, room, count| unsafe {
-            ffi::atomfs_checkpoint(handle, out, room, count, &mut number)
-        });
+        let told = self
+            // SAFETY: `tell` gives the tree's handle, and a room with its length.
+            .text(|handle, out, room, count| unsafe { ffi::atomfs_checkpoint(handle, out, room, count, &mut number) });
         match told {
-            Err(error) if matches!(error.kind(), ErrorKind::UnderWay(_)) => {
-                Err(ErrorKind::UnderWay(number).into())
-            }
+            Err(error) if matches!(error.kind(), ErrorKind::UnderWay(_)) => Err(ErrorKind::UnderWay(number).into()),
             Ok(_) => {
                 self.begin_again();
                 told
@@ -813,6 +783,7 @@ impl Tree {
 
     /// The text of the tree: a line for each node.
     pub fn text_of_tree(&mut self) -> Result<String, Error> {
+        // SAFETY: `tell` gives the tree's handle, and a room with its length.
         self.text(|handle, out, room, count| unsafe { ffi::atomfs_tree(handle, out, room, count) })
     }
 
@@ -821,7 +792,8 @@ impl Tree {
         let (mut room, mut count) = (vec![0; ROOM], 0);
         loop {
             let (out, size) = (room.as_mut_ptr(), room.len());
-            match unsafe { ffi::atomfs_tree(self.handle, out, size, &mut count) } {
+            // SAFETY: the handle is this tree's, it is only read, and the room is a vector with its length.
+            match unsafe { ffi::atomfs_tree(self.handle.as_ptr(), out, size, &mut count) } {
                 OK => {
                     let lines = room[..count].iter().filter(|byte| **byte == b'\n');
                     return Some(lines.count().saturating_sub(1));
@@ -832,32 +804,29 @@ impl Tree {
         }
     }
 
-    fn text(
-        &mut self,
-        ask: impl FnMut(*mut Handle, *mut u8, usize, *mut usize) -> u8,
-    ) -> Result<String, Error> {
+    fn text(&mut self, ask: impl FnMut(*mut Handle, *mut u8, usize, *mut usize) -> u8) -> Result<String, Error> {
         let count = self.tell(ask)?;
         Ok(ascii(&self.room[..count]))
     }
 
     /// How many bytes a function told into the room, which becomes as long as they want.
-    fn tell(
-        &mut self,
-        mut ask: impl FnMut(*mut Handle, *mut u8, usize, *mut usize) -> u8,
-    ) -> Result<usize, Error> {
+    fn tell(&mut self, mut ask: impl FnMut(*mut Handle, *mut u8, usize, *mut usize) -> u8) -> Result<usize, Error> {
         loop {
             let mut count = 0;
-            match ask(
-                self.handle,
-                self.room.as_mut_ptr(),
-                self.room.len(),
-                &mut count,
-            ) {
+            match ask(self.handle.as_ptr(), self.room.as_mut_ptr(), self.room.len(), &mut count) {
                 OK => return Ok(count),
                 TOO_SMALL => self.make_room(count),
                 status => return Err(Error::of(status, 0)),
             }
         }
+    }
+
+    /// Gives the memory of the tree's own handle back, which is closed.
+    fn free_handle(&mut self) {
+        // SAFETY: it comes from a box, in `closed`, and goes back once: in `drop`, or where a shared tree has taken
+        // what is behind it.
+        drop(unsafe { Box::from_raw(self.handle.as_ptr()) });
+        self.handle = NonNull::dangling();
     }
 
     fn make_room(&mut self, size: usize) {
@@ -869,18 +838,17 @@ impl Tree {
 
 impl Drop for Tree {
     fn drop(&mut self) {
-        // Another tree stands in its place by then, and refuses their seats.
-        for sleepers in self.sleepers.values() {
-            sleepers.notify_all();
+        if self.is_shared {
+            return;
         }
-        unsafe {
-            ffi::atomfs_close(self.handle);
-            drop(Box::from_raw(self.handle));
-        }
+        // SAFETY: the handle is this tree's alone, and nothing is asked of it behind this.
+        unsafe { ffi::atomfs_close(self.handle.as_ptr()) };
+        self.free_handle();
     }
 }
 
-/// It shows how many nodes there are, for which it asks for the text of the tree, and how many calls stand in the journal.
+/// It shows how many nodes there are, for which it asks for the text of the tree, and how many calls stand in the
+/// journal.
 impl fmt::Debug for Tree {
     fn fmt(&self, f: &mut fmt::Formatter<'_>) -> fmt::Result {
         f.debug_struct("Tree")
@@ -900,14 +868,11 @@ fn done(status: u8) -> Result<(), Error> {
 }
 
 fn stat_of(stat: RawStat) -> Stat {
-    Stat {
-        is_dir: stat.is_dir != 0,
-        size: stat.size,
-    }
+    Stat { is_dir: stat.is_dir != 0, size: stat.size }
 }
 
 /// The names of a reply, in which a byte 0 is behind each.
-fn names_of(told: &[u8]) -> Vec<Vec<u8>> {
+pub(crate) fn names_of(told: &[u8]) -> Vec<Vec<u8>> {
     let mut names: Vec<Vec<u8>> = told.split(|byte| *byte == 0).map(<[u8]>::to_vec).collect();
     names.pop();
     names

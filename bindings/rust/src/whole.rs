@@ -68,20 +68,20 @@ impl Tree {
         created().open(self, path)
     }
 
-    /// Makes a directory, and those above it that are missing; one that is there is no error. By an error those that it made are
-    /// taken back. It takes a call for each.
+    /// Makes a directory, and those above it that are missing; one that is there is no error. By an error those that it
+    /// made are taken back. It takes a call for each.
     pub fn create_dir_all(&mut self, path: impl AsPath) -> Result<(), Error> {
         create_dir_all(self, path.path_bytes())
     }
 
-    /// All names of a directory, in byte order: by one `readdir`, and by [`Limits::V3`] by a `list` for each 256 of them, each a call of
-    /// its own.
+    /// All names of a directory, in byte order: by one `readdir`, and by [`Limits::V3`] by a `list` for each 256 of
+    /// them, each a call of its own.
     pub fn read_dir(&mut self, path: impl AsPath) -> Result<Vec<Vec<u8>>, Error> {
         read_dir(self, path.path_bytes())
     }
 
-    /// What stands at a path and all below it, each directory before what it has, names in byte order. It takes a call for a file,
-    /// and for a directory one and those of [`read_dir`](Tree::read_dir).
+    /// What stands at a path and all below it, each directory before what it has, names in byte order. It takes a call
+    /// for a file, and for a directory one and those of [`read_dir`](Tree::read_dir).
     ///
     /// ```
     /// let mut tree = atomfs::Tree::new()?;
@@ -100,13 +100,14 @@ impl Tree {
         read_to_end(self, path.path_bytes())
     }
 
-    /// Gives a file these bytes, and makes it where there is none. By an error the tree is as before. It takes two or three calls.
+    /// Gives a file these bytes, and makes it where there is none. By an error the tree is as before. It takes two or
+    /// three calls.
     pub fn write_file(&mut self, path: impl AsPath, bytes: impl AsRef<[u8]>) -> Result<(), Error> {
         write_file(self, path.path_bytes(), bytes.as_ref())
     }
 
-    /// Removes a directory with all below it. It takes some calls for each entry; only for want of memory, or where calls of other
-    /// seats are under way, can it end half-way.
+    /// Removes a directory with all below it. It takes some calls for each entry; only for want of memory, or where
+    /// calls of other seats are under way, can it end half-way.
     pub fn remove_dir_all(&mut self, path: impl AsPath) -> Result<(), Error> {
         remove_dir_all(self, path.path_bytes())
     }
@@ -157,12 +158,7 @@ pub(crate) fn readdir(calls: &mut impl Calls, path: &[u8]) -> Result<Vec<Vec<u8>
     }
 }
 
-pub(crate) fn list(
-    calls: &mut impl Calls,
-    path: &[u8],
-    after: &[u8],
-    count: u32,
-) -> Result<Vec<Vec<u8>>, Error> {
+pub(crate) fn list(calls: &mut impl Calls, path: &[u8], after: &[u8], count: u32) -> Result<Vec<Vec<u8>>, Error> {
     match calls.call(&Call::List(path, after, count))? {
         Reply::Names(names) => Ok(names),
         _ => Err(ErrorKind::NoReply.into()),
@@ -185,24 +181,14 @@ pub(crate) fn read_dir(calls: &mut impl Calls, path: &[u8]) -> Result<Vec<Vec<u8
     Ok(names)
 }
 
-pub(crate) fn read(
-    calls: &mut impl Calls,
-    path: &[u8],
-    offset: u64,
-    count: u64,
-) -> Result<Vec<u8>, Error> {
+pub(crate) fn read(calls: &mut impl Calls, path: &[u8], offset: u64, count: u64) -> Result<Vec<u8>, Error> {
     match calls.call(&Call::Read(path, offset, count))? {
         Reply::Bytes(bytes) => Ok(bytes),
         _ => Err(ErrorKind::NoReply.into()),
     }
 }
 
-pub(crate) fn write(
-    calls: &mut impl Calls,
-    path: &[u8],
-    offset: u64,
-    bytes: &[u8],
-) -> Result<u64, Error> {
+pub(crate) fn write(calls: &mut impl Calls, path: &[u8], offset: u64, bytes: &[u8]) -> Result<u64, Error> {
     match calls.call(&Call::Write(path, offset, bytes))? {
         Reply::Wrote(count) => Ok(count),
         _ => Err(ErrorKind::NoReply.into()),
@@ -227,11 +213,7 @@ pub(crate) fn create_dir_all(calls: &mut impl Calls, path: &[u8]) -> Result<(), 
     came
 }
 
-fn create_missing<'p>(
-    calls: &mut impl Calls,
-    path: &'p [u8],
-    made: &mut Vec<&'p [u8]>,
-) -> Result<(), Error> {
+fn create_missing<'p>(calls: &mut impl Calls, path: &'p [u8], made: &mut Vec<&'p [u8]>) -> Result<(), Error> {
     // What is no path is refused as a whole, before any part of it is made.
     match stat(calls, path) {
         Ok(found) if found.is_dir => return Ok(()),
@@ -275,13 +257,12 @@ pub(crate) fn write_file(calls: &mut impl Calls, path: &[u8], bytes: &[u8]) -> R
     if made.is_err() && !failed(&made, Errno::EEXIST) {
         return made.map(|_| ());
     }
-    // The bytes that were there and go beyond these are cut only once these are written, so an error leaves all as it was.
+    // The bytes that were there and go beyond these are cut only once these are written, so an error leaves all as it
+    // was.
     let came = write(calls, path, 0, bytes);
     match came {
         Ok(_) if made.is_ok() => Ok(()),
-        Ok(_) => calls
-            .call(&Call::Truncate(path, bytes.len() as u64))
-            .map(|_| ()),
+        Ok(_) => calls.call(&Call::Truncate(path, bytes.len() as u64)).map(|_| ()),
         Err(error) => {
             if made.is_ok() {
                 let _ = calls.call(&Call::Unlink(path));
@@ -302,10 +283,7 @@ pub(crate) fn walk(calls: &mut impl Calls, path: &[u8]) -> Result<Vec<Entry>, Er
         if gone && !found.is_empty() {
             continue;
         }
-        found.push(Entry {
-            path: PathBuf::from(OsStr::from_bytes(&at)),
-            stat: came?,
-        });
+        found.push(Entry { path: PathBuf::from(OsStr::from_bytes(&at)), stat: came? });
     }
     Ok(found)
 }
@@ -333,11 +311,7 @@ pub(crate) fn remove_dir_all(calls: &mut impl Calls, path: &[u8]) -> Result<(), 
     }
     for entry in walk(calls, path)?.iter().rev() {
         let at = entry.path.as_os_str().as_bytes();
-        let call = if entry.stat.is_dir {
-            Call::Rmdir(at)
-        } else {
-            Call::Unlink(at)
-        };
+        let call = if entry.stat.is_dir { Call::Rmdir(at) } else { Call::Unlink(at) };
         let came = calls.call(&call);
         if !failed(&came, Errno::ENOENT) {
             came?;

@@ -9,8 +9,7 @@ use std::rc::Rc;
 use std::sync::Arc;
 
 use atomfs::{
-    check, run, AsPath, Call, Did, Errno, Error, ErrorKind, Journal, Limits, PathFault, Reply,
-    Stat, Tree, NODE_LIMIT,
+    check, run, AsPath, Call, Did, Errno, Error, ErrorKind, Journal, Limits, PathFault, Reply, Stat, Tree, NODE_LIMIT,
 };
 
 /// What came of a call, of an error its kind.
@@ -25,13 +24,7 @@ fn each_call() {
     tree.mknod("/a/f").unwrap();
     assert_eq!(tree.write("/a/f", 2, b"hello"), Ok(5));
     assert_eq!(tree.read("/a/f", 0, usize::MAX).unwrap(), b"\0\0hello");
-    assert_eq!(
-        tree.stat("/a/f"),
-        Ok(Stat {
-            is_dir: false,
-            size: 7
-        })
-    );
+    assert_eq!(tree.stat("/a/f"), Ok(Stat { is_dir: false, size: 7 }));
     tree.truncate("/a/f", 3).unwrap();
     let mut out = [9; 5];
     assert_eq!(tree.read_into("/a/f", 1, &mut out), Ok(2));
@@ -56,73 +49,30 @@ fn each_error() {
         tree.mknod(format!("/d/e/{at}")).unwrap();
     }
     let rows = [
-        (
-            tree.stat("/x").map(|_| ()),
-            Errno::ENOENT,
-            io::ErrorKind::NotFound,
-        ),
-        (
-            tree.readdir("/f").map(|_| ()),
-            Errno::ENOTDIR,
-            io::Error::from_raw_os_error(20).kind(),
-        ),
-        (
-            tree.mkdir("/d"),
-            Errno::EEXIST,
-            io::ErrorKind::AlreadyExists,
-        ),
-        (
-            tree.rmdir("/d"),
-            Errno::ENOTEMPTY,
-            io::Error::from_raw_os_error(39).kind(),
-        ),
-        (
-            tree.read("/d", 0, 1).map(|_| ()),
-            Errno::EISDIR,
-            io::Error::from_raw_os_error(21).kind(),
-        ),
-        (
-            tree.rename("/d", "/d/e/g"),
-            Errno::EINVAL,
-            io::ErrorKind::InvalidInput,
-        ),
-        (
-            tree.exchange("/d", "/"),
-            Errno::EBUSY,
-            io::Error::from_raw_os_error(16).kind(),
-        ),
-        (
-            tree.unlink("/d"),
-            Errno::EPERM,
-            io::ErrorKind::PermissionDenied,
-        ),
-        (
-            tree.mknod("/d/e/x"),
-            Errno::ENOSPC,
-            io::Error::from_raw_os_error(28).kind(),
-        ),
-        (
-            tree.truncate("/f", 1 << 63),
-            Errno::EFBIG,
-            io::Error::from_raw_os_error(27).kind(),
-        ),
+        (tree.stat("/x").map(|_| ()), Errno::ENOENT, io::ErrorKind::NotFound),
+        (tree.readdir("/f").map(|_| ()), Errno::ENOTDIR, io::Error::from_raw_os_error(20).kind()),
+        (tree.mkdir("/d"), Errno::EEXIST, io::ErrorKind::AlreadyExists),
+        (tree.rmdir("/d"), Errno::ENOTEMPTY, io::Error::from_raw_os_error(39).kind()),
+        (tree.read("/d", 0, 1).map(|_| ()), Errno::EISDIR, io::Error::from_raw_os_error(21).kind()),
+        (tree.rename("/d", "/d/e/g"), Errno::EINVAL, io::ErrorKind::InvalidInput),
+        (tree.exchange("/d", "/"), Errno::EBUSY, io::Error::from_raw_os_error(16).kind()),
+        (tree.unlink("/d"), Errno::EPERM, io::ErrorKind::PermissionDenied),
+        (tree.mknod("/d/e/x"), Errno::ENOSPC, io::Error::from_raw_os_error(28).kind()),
+        (tree.truncate("/f", 1 << 63), Errno::EFBIG, io::Error::from_raw_os_error(27).kind()),
     ];
     for (came, errno, of_std) in rows {
         assert_eq!(kind(came), Err(ErrorKind::Failed(errno)));
         let error = io::Error::from(Error::from(ErrorKind::Failed(errno)));
-        assert_eq!(
-            (error.raw_os_error(), error.kind()),
-            (Some(errno.number()), of_std)
-        );
+        assert_eq!((error.raw_os_error(), error.kind()), (Some(errno.number()), of_std));
         let more = match errno {
             Errno::ENOSPC => ": the directory has 256 entries, or 1048576 by the third limits",
-            Errno::EFBIG => ": the file would have more than 65536 bytes by the first limits, 1048576 by the second or 2147483648 by the third",
+            Errno::EFBIG => {
+                ": the file would have more than 65536 bytes by the first limits, 1048576 by the second or 2147483648 \
+                 by the third"
+            }
             _ => "",
         };
-        assert_eq!(
-            ErrorKind::Failed(errno).to_string(),
-            format!("{error}{more}")
-        );
+        assert_eq!(ErrorKind::Failed(errno).to_string(), format!("{error}{more}"));
     }
     assert_eq!(tree.check().unwrap(), "lawful");
 }
@@ -159,15 +109,9 @@ fn what_is_refused_is_not_in_the_journal() {
     assert_eq!(kind(tree.mkdir("/a")), Err(ErrorKind::Full));
     let seat = tree.seat().unwrap();
     assert_eq!(kind(tree.reply(seat)), Err(ErrorKind::NoReply));
-    assert_eq!(
-        tree.journal().unwrap(),
-        "atomfs-journal 4\nstart\ndir /\nentries\n"
-    );
+    assert_eq!(tree.journal().unwrap(), "atomfs-journal 4\nstart\ndir /\nentries\n");
     tree.begin(seat, &Call::stat("/")).unwrap();
-    assert_eq!(
-        kind(tree.begin(seat, &Call::stat("/"))),
-        Err(ErrorKind::SeatBusy)
-    );
+    assert_eq!(kind(tree.begin(seat, &Call::stat("/"))), Err(ErrorKind::SeatBusy));
     assert_eq!(kind(tree.checkpoint()), Err(ErrorKind::UnderWay(1)));
     let full = Error::from(ErrorKind::Full);
     assert_eq!(io::Error::from(full).raw_os_error(), Some(28));
@@ -180,26 +124,11 @@ fn what_is_refused_is_not_in_the_journal() {
 fn words_of_texts() {
     let line = "a line has no form of its place, or a request no call";
     let rows = [
-        (
-            run("atomfs 1\nthread t\nmkdr /a\nschedule\n"),
-            format!("line 3: BadLine: {line}"),
-        ),
-        (
-            run("atomfs 1\nthread t\nmkdir a\nschedule\n"),
-            "line 3: BadPath: no path".to_string(),
-        ),
-        (
-            run("atomfs 1\nthread t\nmkdir /a\n"),
-            "line 4: NoSchedule: the script has no schedule".to_string(),
-        ),
-        (
-            run("atomfs 1\nthread t\nschedule\nu\n"),
-            "line 4: BadWord: no word of a schedule".to_string(),
-        ),
-        (
-            check("no journal"),
-            "line 1: BadHeader: the first line is another than it has to be".to_string(),
-        ),
+        (run("atomfs 1\nthread t\nmkdr /a\nschedule\n"), format!("line 3: BadLine: {line}")),
+        (run("atomfs 1\nthread t\nmkdir a\nschedule\n"), "line 3: BadPath: no path".to_string()),
+        (run("atomfs 1\nthread t\nmkdir /a\n"), "line 4: NoSchedule: the script has no schedule".to_string()),
+        (run("atomfs 1\nthread t\nschedule\nu\n"), "line 4: BadWord: no word of a schedule".to_string()),
+        (check("no journal"), "line 1: BadHeader: the first line is another than it has to be".to_string()),
         (
             check("atomfs-journal 1\nbegin 1 0 stat /\ncommit 1\nreturn 1 fine\n"),
             "line 4: BadReply: no reply".to_string(),
@@ -208,10 +137,7 @@ fn words_of_texts() {
     for (came, words) in rows {
         assert_eq!(came.unwrap_err().to_string(), words);
     }
-    assert_eq!(
-        ErrorKind::BadText(27, 3).to_string(),
-        "line 3: BadStart: the start tree is none"
-    );
+    assert_eq!(ErrorKind::BadText(27, 3).to_string(), "line 3: BadStart: the start tree is none");
 }
 
 /// A tree of a text, or of the journal that starts at it, is the one that was told, and its journal begins there.
@@ -219,8 +145,7 @@ fn words_of_texts() {
 fn from_texts() {
     let text = "tree\ndir /\ndir /a\nfile /a/f 0068\n";
     for (limits, number) in [(Limits::V1, 2), (Limits::V2, 3), (Limits::V3, 4)] {
-        let start =
-            format!("atomfs-journal {number}\nstart\ndir /\ndir /a\nfile /a/f 0068\nentries\n");
+        let start = format!("atomfs-journal {number}\nstart\ndir /\ndir /a\nfile /a/f 0068\nentries\n");
         let journal = format!("{start}begin 1 0 mkdir /b\ncommit 1\nreturn 1 ok\n");
         for given in [text, &start, &journal] {
             let mut tree = Tree::from_text(given, 3, limits).unwrap();
@@ -245,10 +170,7 @@ fn from_texts_refused() {
     let long = format!("tree\ndir /\ndir /{}\n", "n".repeat(33));
     let rows = [
         ("", "line 1: BadHeader: "),
-        (
-            "atomfs-journal 3\nstart\ndir /\nentries\n",
-            "line 1: BadHeader: ",
-        ),
+        ("atomfs-journal 3\nstart\ndir /\nentries\n", "line 1: BadHeader: "),
         ("tree\n", "line 2: BadStart: "),
         ("tree\ndir /\ndir /a/b\n", "line 3: BadStart: "),
         ("tree\ndir /\ndir /b\ndir /a\n", "line 4: BadStart: "),
@@ -262,11 +184,7 @@ fn from_texts_refused() {
     }
     Tree::from_text(long, 9, Limits::V2).unwrap();
     let text = "tree\ndir /\ndir /a\ndir /b\n";
-    for (limit, wanted) in [
-        (2, ErrorKind::Full),
-        (0, ErrorKind::BadLimit),
-        (NODE_LIMIT + 1, ErrorKind::BadLimit),
-    ] {
+    for (limit, wanted) in [(2, ErrorKind::Full), (0, ErrorKind::BadLimit), (NODE_LIMIT + 1, ErrorKind::BadLimit)] {
         let came = Tree::from_text(text, limit, Limits::V3);
         assert_eq!(kind(came.map(|_| ())), Err(wanted));
     }
@@ -290,17 +208,11 @@ fn clones() {
     }
     assert_eq!(other.calls_before(), 4);
     assert_eq!(tree.read_to_end("/a/f").unwrap(), b"hello");
-    assert_eq!(
-        kind(tree.truncate("/a/f", 65_537)),
-        Err(ErrorKind::Failed(Errno::EFBIG))
-    );
+    assert_eq!(kind(tree.truncate("/a/f", 65_537)), Err(ErrorKind::Failed(Errno::EFBIG)));
     let (seat, foreign) = (tree.seat().unwrap(), other.seat().unwrap());
     assert_eq!(kind(tree.step(foreign)), Err(ErrorKind::ForeignSeat));
     let number = tree.begin(seat, &Call::rmdir("/a")).unwrap();
-    assert_eq!(
-        kind(tree.try_clone().map(|_| ())),
-        Err(ErrorKind::UnderWay(number))
-    );
+    assert_eq!(kind(tree.try_clone().map(|_| ())), Err(ErrorKind::UnderWay(number)));
     assert!(tree.finish(seat).is_err());
     assert!(tree.try_clone().is_ok());
 }
@@ -329,10 +241,7 @@ fn forgets() {
     for _ in 0..5 {
         tree.stat("/").unwrap();
     }
-    assert_eq!(
-        kind(tree.forget().map(|_| String::new())),
-        Err(ErrorKind::UnderWay(1))
-    );
+    assert_eq!(kind(tree.forget().map(|_| String::new())), Err(ErrorKind::UnderWay(1)));
     tree.finish(seat).unwrap();
     tree.stat("/").unwrap();
     assert_eq!(tree.calls_before(), 7);
@@ -354,24 +263,12 @@ fn each_begin() {
         (Call::mkdir("/a"), Reply::Done),
         (Call::mknod("/a/f"), Reply::Done),
         (Call::write("/a/f", 1, b"hello"), Reply::Wrote(5)),
-        (
-            Call::read("/a/f", 0, u64::MAX),
-            Reply::Bytes(b"\0hello".to_vec()),
-        ),
+        (Call::read("/a/f", 0, u64::MAX), Reply::Bytes(b"\0hello".to_vec())),
         (Call::truncate("/a/f", 2), Reply::Done),
-        (
-            Call::stat("/a/f"),
-            Reply::Stat(Stat {
-                is_dir: false,
-                size: 2,
-            }),
-        ),
+        (Call::stat("/a/f"), Reply::Stat(Stat { is_dir: false, size: 2 })),
         (Call::mkdir("/b"), Reply::Done),
         (Call::rename("/a/f", "/b/g"), Reply::Done),
-        (
-            Call::readdir("/"),
-            Reply::Names(vec![b"a".to_vec(), b"b".to_vec()]),
-        ),
+        (Call::readdir("/"), Reply::Names(vec![b"a".to_vec(), b"b".to_vec()])),
         (Call::exchange("/a", "/b"), Reply::Done),
         (Call::unlink("/a/g"), Reply::Done),
         (Call::rmdir("/b"), Reply::Done),
@@ -383,10 +280,7 @@ fn each_begin() {
         assert_eq!(tree.reply(seat), Ok(wanted));
     }
     tree.begin(seat, &Call::unlink("/x")).unwrap();
-    assert_eq!(
-        kind(tree.finish(seat)),
-        Err(ErrorKind::Failed(Errno::ENOENT))
-    );
+    assert_eq!(kind(tree.finish(seat)), Err(ErrorKind::Failed(Errno::ENOENT)));
     assert_eq!(tree.step(seat), Ok(Did::Idle));
     assert_eq!(tree.check().unwrap(), "lawful");
 }
@@ -427,20 +321,8 @@ fn a_call_that_waits_keeps_its_seat() {
     assert_eq!(error, ErrorKind::Waits(waits));
     assert_eq!(error.path(), Some(Path::new("/a/x")));
     assert_eq!(tree.finish(seat), Ok(Reply::Done));
-    assert_eq!(
-        tree.finish(waits),
-        Ok(Reply::Stat(Stat {
-            is_dir: true,
-            size: 0
-        }))
-    );
-    assert_eq!(
-        tree.stat("/a"),
-        Ok(Stat {
-            is_dir: true,
-            size: 1
-        })
-    );
+    assert_eq!(tree.finish(waits), Ok(Reply::Stat(Stat { is_dir: true, size: 0 })));
+    assert_eq!(tree.stat("/a"), Ok(Stat { is_dir: true, size: 1 }));
 }
 
 #[test]
@@ -564,18 +446,12 @@ fn a_seat_of_another_tree() {
 #[test]
 fn what_a_tree_shows() {
     let mut tree = Tree::with_limits(100, Limits::V1).unwrap();
-    assert_eq!(
-        format!("{tree:?}"),
-        "Tree { nodes: Some(1), calls: 0, limit: 100, limits: V1, .. }"
-    );
+    assert_eq!(format!("{tree:?}"), "Tree { nodes: Some(1), calls: 0, limit: 100, limits: V1, .. }");
     tree.create_dir_all("/a/b").unwrap();
     tree.write_file("/a/f", vec![1; 60_000]).unwrap();
     let calls = tree.journal().unwrap().matches("\nbegin ").count();
     let shown = format!("{tree:?}");
-    assert_eq!(
-        shown,
-        format!("Tree {{ nodes: Some(4), calls: {calls}, limit: 100, limits: V1, .. }}")
-    );
+    assert_eq!(shown, format!("Tree {{ nodes: Some(4), calls: {calls}, limit: 100, limits: V1, .. }}"));
     tree.checkpoint().unwrap();
     let seat = tree.seat().unwrap();
     tree.begin(seat, &Call::unlink("/a/f")).unwrap();

@@ -2,14 +2,10 @@
 
 use std::io::{self, BufRead, BufReader, Read, Seek, SeekFrom, Write};
 use std::path::Path;
-use std::sync::{Arc, Mutex};
 
-use atomfs::{Errno, Error, ErrorKind, File, Limits, OpenOptions, PathFault, Session, Stat, Tree};
+use atomfs::{Errno, Error, ErrorKind, File, Limits, OpenOptions, PathFault, SharedTree, Stat, Tree};
 
-const FILE: Stat = Stat {
-    is_dir: false,
-    size: 5,
-};
+const FILE: Stat = Stat { is_dir: false, size: 5 };
 
 fn tree() -> Tree {
     let mut tree = Tree::new().unwrap();
@@ -20,16 +16,9 @@ fn tree() -> Tree {
 }
 
 /// What a call leaves: the tree as it was.
-fn stays<T: std::fmt::Debug>(
-    tree: &mut Tree,
-    errno: Errno,
-    call: impl Fn(&mut Tree) -> Result<T, Error>,
-) {
+fn stays<T: std::fmt::Debug>(tree: &mut Tree, errno: Errno, call: impl Fn(&mut Tree) -> Result<T, Error>) {
     let before = tree.text_of_tree().unwrap();
-    assert_eq!(
-        call(tree).map(|_| ()).unwrap_err(),
-        ErrorKind::Failed(errno)
-    );
+    assert_eq!(call(tree).map(|_| ()).unwrap_err(), ErrorKind::Failed(errno));
     assert_eq!(tree.text_of_tree().unwrap(), before);
 }
 
@@ -134,11 +123,7 @@ fn each_way_to_open() {
         match due {
             Ok(text) => {
                 assert_eq!(came, Ok(()), "{letters} {path}");
-                assert_eq!(
-                    tree.read_to_end(path).unwrap(),
-                    text.as_bytes(),
-                    "{letters} {path}"
-                );
+                assert_eq!(tree.read_to_end(path).unwrap(), text.as_bytes(), "{letters} {path}");
             }
             Err(error) => {
                 let came = came.unwrap_err();
@@ -150,24 +135,17 @@ fn each_way_to_open() {
         assert_eq!(tree.check().unwrap(), "lawful");
     }
     assert!(!ErrorKind::BadOptions.to_string().is_empty());
-    assert_eq!(
-        io::Error::from(Error::from(ErrorKind::BadOptions)).kind(),
-        io::ErrorKind::InvalidInput
-    );
+    assert_eq!(io::Error::from(Error::from(ErrorKind::BadOptions)).kind(), io::ErrorKind::InvalidInput);
 }
 
 /// An append goes to the end as it is then, and a file whose path went away has the error of its calls.
 #[test]
 fn a_file_is_its_path() {
-    let tree = Arc::new(Mutex::new(tree()));
-    let mut session = Session::new(&tree).unwrap();
-    let mut file = OpenOptions::new()
-        .read(true)
-        .append(true)
-        .open(&mut session, "/a/f")
-        .unwrap();
+    let tree = SharedTree::try_from(tree()).unwrap();
+    let mut session = tree.session().unwrap();
+    let mut file = OpenOptions::new().read(true).append(true).open(&mut session, "/a/f").unwrap();
     file.write_all(b"1").unwrap();
-    tree.lock().unwrap().write("/a/f", 6, "23").unwrap();
+    tree.write("/a/f", 6, "23").unwrap();
     file.write_all(b"4").unwrap();
     assert_eq!(file.stream_position().unwrap(), 9);
     file.set_len(7).unwrap();
@@ -175,7 +153,7 @@ fn a_file_is_its_path() {
     let mut told = String::new();
     file.read_to_string(&mut told).unwrap();
     assert_eq!(told, "hello12");
-    tree.lock().unwrap().rename("/a/f", "/a/g").unwrap();
+    tree.rename("/a/f", "/a/g").unwrap();
     for came in [
         file.write(b"5").map(|_| ()),
         file.read(&mut [0]).map(|_| ()),
@@ -185,7 +163,7 @@ fn a_file_is_its_path() {
         assert_eq!(came.unwrap_err().kind(), io::ErrorKind::NotFound);
     }
     assert_eq!(file.stat().unwrap_err(), ErrorKind::Failed(Errno::ENOENT));
-    let mut tree = tree.lock().unwrap();
+    let mut tree = tree.lock();
     assert_eq!(tree.read_to_end("/a/g").unwrap(), b"hello12");
     assert_eq!(tree.check().unwrap(), "lawful");
 }
@@ -200,9 +178,7 @@ fn directories_with_those_above_them() {
     tree.create_dir_all("//a//z///y").unwrap();
     assert_eq!(tree.readdir("/a/z").unwrap(), [b"y"]);
     stays(&mut tree, Errno::EEXIST, |tree| tree.create_dir_all("/a/f"));
-    stays(&mut tree, Errno::ENOTDIR, |tree| {
-        tree.create_dir_all("/a/f/x/y")
-    });
+    stays(&mut tree, Errno::ENOTDIR, |tree| tree.create_dir_all("/a/f/x/y"));
     let before = tree.text_of_tree().unwrap();
     let error = tree.create_dir_all("/n/m/..").unwrap_err();
     assert_eq!(error, ErrorKind::BadPath(PathFault::Dot));
@@ -213,10 +189,7 @@ fn directories_with_those_above_them() {
     small.create_dir_all("/p/q").unwrap();
     assert_eq!(small.write_file("/f", "x").unwrap_err(), ErrorKind::Full);
     assert_eq!(small.create("/f").unwrap_err(), ErrorKind::Full);
-    assert_eq!(
-        small.text_of_tree().unwrap(),
-        "tree\ndir /\ndir /p\ndir /p/q\n"
-    );
+    assert_eq!(small.text_of_tree().unwrap(), "tree\ndir /\ndir /p\ndir /p/q\n");
     assert_eq!(tree.check().unwrap(), "lawful");
     assert_eq!(small.check().unwrap(), "lawful");
 }
@@ -231,15 +204,11 @@ fn whole_files() {
     assert_eq!(tree.read_to_end("/f").unwrap(), b"short");
     let more = [&full[..], b"x"].concat();
     stays(&mut tree, Errno::EFBIG, |tree| tree.write_file("/f", &more));
-    stays(&mut tree, Errno::EFBIG, |tree| {
-        tree.write_file("/new", &more)
-    });
+    stays(&mut tree, Errno::EFBIG, |tree| tree.write_file("/new", &more));
     tree.mkdir("/d").unwrap();
     stays(&mut tree, Errno::EISDIR, |tree| tree.write_file("/d", "x"));
     stays(&mut tree, Errno::EISDIR, |tree| tree.read_to_end("/d"));
-    stays(&mut tree, Errno::ENOENT, |tree| {
-        tree.write_file("/x/y", "x")
-    });
+    stays(&mut tree, Errno::ENOENT, |tree| tree.write_file("/x/y", "x"));
     stays(&mut tree, Errno::ENOENT, |tree| tree.read_to_end("/x"));
     assert_eq!(tree.check().unwrap(), "lawful");
     let mut tree = Tree::new().unwrap();
@@ -256,27 +225,14 @@ fn a_walk() {
         let told = |entry: &atomfs::Entry| (entry.path().display().to_string(), entry.stat().size);
         found.iter().map(told).collect()
     };
-    let all = [
-        ("/", 1),
-        ("/a", 2),
-        ("/a/b", 2),
-        ("/a/b/c", 0),
-        ("/a/b/g", 0),
-        ("/a/f", 5),
-    ];
-    assert_eq!(
-        walked(&mut tree, "/"),
-        all.map(|(path, size)| (path.to_string(), size))
-    );
+    let all = [("/", 1), ("/a", 2), ("/a/b", 2), ("/a/b/c", 0), ("/a/b/g", 0), ("/a/f", 5)];
+    assert_eq!(walked(&mut tree, "/"), all.map(|(path, size)| (path.to_string(), size)));
     assert_eq!(walked(&mut tree, "/a/f"), [("/a/f".to_string(), 5)]);
     let names: Vec<_> = tree.walk("/a/b").unwrap();
     let names: Vec<_> = names.iter().map(|entry| entry.name().unwrap()).collect();
     assert_eq!(names, ["b", "c", "g"]);
     assert_eq!(tree.walk("/").unwrap()[0].name(), None);
-    assert_eq!(
-        tree.walk("/x").unwrap_err(),
-        ErrorKind::Failed(Errno::ENOENT)
-    );
+    assert_eq!(tree.walk("/x").unwrap_err(), ErrorKind::Failed(Errno::ENOENT));
     let mut deep = String::new();
     for at in 0..64 {
         deep += &format!("/{at}");
@@ -292,9 +248,7 @@ fn a_walk() {
 fn directories_with_all_below_them() {
     let mut tree = tree();
     stays(&mut tree, Errno::ENOENT, |tree| tree.remove_dir_all("/x"));
-    stays(&mut tree, Errno::ENOTDIR, |tree| {
-        tree.remove_dir_all("/a/f")
-    });
+    stays(&mut tree, Errno::ENOTDIR, |tree| tree.remove_dir_all("/a/f"));
     stays(&mut tree, Errno::EBUSY, |tree| tree.remove_dir_all("/"));
     tree.mkdir("/z").unwrap();
     tree.remove_dir_all("/z").unwrap();

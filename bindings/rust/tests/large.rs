@@ -1,4 +1,5 @@
-//! Trees by the third limits, which are those where none are named: directories and files that one call does not tell, and long names.
+//! Trees by the third limits, which are those where none are named: directories and files that one call does not tell,
+//! and long names.
 
 use std::io::{self, Read, Write};
 
@@ -8,9 +9,7 @@ use atomfs::{Call, Errno, Error, ErrorKind, Limits, PathFault, Reply, SharedTree
 fn crowded(count: usize) -> (Tree, Vec<Vec<u8>>) {
     let mut tree = Tree::new().unwrap();
     tree.mkdir("/d").unwrap();
-    let names: Vec<_> = (0..count)
-        .map(|at| format!("{at:03}").into_bytes())
-        .collect();
+    let names: Vec<_> = (0..count).map(|at| format!("{at:03}").into_bytes()).collect();
     for name in &names {
         tree.mknod([b"/d/", &name[..]].concat()).unwrap();
     }
@@ -42,9 +41,7 @@ fn pieces() {
     assert_eq!(error.path(), Some("a".as_ref()));
     let error = tree.readdir("/d").unwrap_err();
     assert_eq!(error, ErrorKind::Failed(Errno::EOVERFLOW));
-    assert!(error
-        .to_string()
-        .ends_with("the directory has more than 256 entries"));
+    assert!(error.to_string().ends_with("the directory has more than 256 entries"));
     assert_eq!(io::Error::from(error).raw_os_error(), Some(75));
     let seat = tree.seat().unwrap();
     tree.begin(seat, &Call::list("/d", "/598", 9)).unwrap();
@@ -62,13 +59,13 @@ fn whole_directories() {
         assert_eq!(lists(&mut tree), calls);
         assert_eq!(tree.walk("/d").unwrap().len(), 1 + count);
         assert_eq!(lists(&mut tree), calls);
-        let shared = SharedTree::from(tree);
+        let shared = SharedTree::try_from(tree).unwrap();
         assert_eq!(shared.read_dir("/d").unwrap(), names);
         let mut session = shared.session().unwrap();
         assert_eq!(session.read_dir("/d").unwrap(), names);
         assert_eq!(session.list("/d", "/", 1).unwrap(), names[..count.min(1)]);
         assert_eq!(shared.list("/d", "/", 1).unwrap(), names[..count.min(1)]);
-        assert_eq!(lists(&mut shared.lock()), 2 * calls + 2);
+        assert_eq!(shared.lock().checkpoint().unwrap().matches(" list /d ").count(), 2 * calls + 2);
         shared.remove_dir_all("/d").unwrap();
         assert_eq!(failed(shared.read_dir("/d")), Some(Errno::ENOENT));
         assert_eq!(shared.lock().check().unwrap(), "lawful");
@@ -81,9 +78,7 @@ fn long_names() {
     let mut tree = Tree::new().unwrap();
     tree.mkdir("/d").unwrap();
     let most = Limits::V3.name_bytes();
-    let names: Vec<_> = (0..256)
-        .map(|at| format!("{at:0most$}").into_bytes())
-        .collect();
+    let names: Vec<_> = (0..256).map(|at| format!("{at:0most$}").into_bytes()).collect();
     let path = |name: &[u8]| [b"/d/", name].concat();
     for name in &names {
         tree.mknod(path(name)).unwrap();
@@ -92,9 +87,7 @@ fn long_names() {
     assert_eq!(tree.list("/d", "/", 256).unwrap(), names);
     let after = path(&names[253]);
     assert_eq!(tree.list("/d", &after, 256).unwrap(), names[254..]);
-    let error = tree
-        .mknod(path(&[&names[0][..], b"n"].concat()))
-        .unwrap_err();
+    let error = tree.mknod(path(&[&names[0][..], b"n"].concat())).unwrap_err();
     assert_eq!(error, ErrorKind::BadPath(PathFault::NameTooLong));
     let call = Call::readdir("/d");
     let seat = tree.seat().unwrap();
@@ -103,7 +96,7 @@ fn long_names() {
     let other = path(&[b'x'; 255]);
     tree.rename(path(&names[0]), &other).unwrap();
     tree.exchange(path(&names[1]), &other).unwrap();
-    let shared = SharedTree::from(tree);
+    let shared = SharedTree::try_from(tree).unwrap();
     let found = shared.read_dir("/d").unwrap();
     assert_eq!((&found[..254], found.len()), (&names[1..255], 256));
     assert_eq!(shared.call(&call), Ok(Reply::Names(found)));
@@ -126,7 +119,7 @@ fn long_files() {
     assert!(told == data);
     tree.create("/g").unwrap().write_all(&data).unwrap();
     assert!(tree.read_to_end("/g").unwrap() == data);
-    let shared = SharedTree::from(tree);
+    let shared = SharedTree::try_from(tree).unwrap();
     assert!(shared.read_to_end("/g").unwrap() == data);
     let end = Limits::V3.file_bytes() as u64;
     assert_eq!(shared.write("/g", end - 1, "x"), Ok(1));
@@ -150,14 +143,8 @@ fn other_limits() {
         let journal = tree.journal().unwrap();
         assert!(journal.contains(" readdir /\n") && !journal.contains(" list "));
         let more = Tree::with_limits(limits.nodes() + 1, limits);
-        assert_eq!(
-            more.err().map(|error| error.kind()),
-            Some(ErrorKind::BadLimit)
-        );
+        assert_eq!(more.err().map(|error| error.kind()), Some(ErrorKind::BadLimit));
     }
     let more = Tree::with_limits(Limits::V3.nodes() + 1, Limits::V3);
-    assert_eq!(
-        more.err().map(|error| error.kind()),
-        Some(ErrorKind::BadLimit)
-    );
+    assert_eq!(more.err().map(|error| error.kind()), Some(ErrorKind::BadLimit));
 }

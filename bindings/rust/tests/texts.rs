@@ -3,14 +3,13 @@
 use atomfs::{check, draw, explain, front, linearize, run, schedule, seeds, trace};
 use atomfs::{ErrorKind, Linearized, Schedule, Tree};
 
-const SCRIPT: &str =
-    "atomfs 1\nthread m\nmkdir /a\nmkdir /a/b\nthread r\nrename /a /b\nschedule\nm*9 r*9 finish\n";
+const SCRIPT: &str = "atomfs 1\nthread m\nmkdir /a\nmkdir /a/b\nthread r\nrename /a /b\nschedule\nm*9 r*9 finish\n";
 const FAULT: &str = "atomfs 1\nthread m\nmkdr /a\nschedule\n";
 
 #[test]
 fn traces() {
     let told = trace(SCRIPT, Schedule::Given, false).unwrap();
-    assert!(told.contains("r#3 helps m#2, commits it at /a\n"), "{told}");
+    assert!(told.contains("r#1 helps m#2, commits it at /a\n"), "{told}");
     let every = trace(SCRIPT, Schedule::default(), true).unwrap();
     assert!(every.len() > told.len());
     assert_ne!(trace(SCRIPT, Schedule::RoundRobin, false).unwrap(), told);
@@ -78,16 +77,14 @@ fn histories() {
         place: 3,
         call: 2,
         words: "line 4: return 2 stat dir 1; call 2 is stat /a on seat 1\n\
-                2 ways explain all before it, and the call could have replied: failed ENOENT (1 way), stat dir 0 (1 way)"
+                2 ways explain all before it, and the call could have replied: failed ENOENT (1 way), \
+                stat dir 0 (1 way)"
             .to_owned(),
     };
     assert_eq!(linearize(&history, Some(1_000_000_000)).unwrap(), wanted);
     let told = front(&history, None).unwrap();
     assert_eq!(told, Some(history.clone()));
-    assert_eq!(
-        linearize(&history, Some(1)).unwrap(),
-        Linearized::Unknown { place: 2 }
-    );
+    assert_eq!(linearize(&history, Some(1)).unwrap(), Linearized::Unknown { place: 2 });
     assert_eq!(front(history, Some(1)).unwrap(), None);
 }
 

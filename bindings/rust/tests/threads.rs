@@ -1,19 +1,21 @@
 //! Threads on one tree.
 
 use std::io::{Read, Write};
+use std::panic;
 use std::sync::atomic::{AtomicUsize, Ordering};
+use std::sync::mpsc::{channel, Receiver, Sender};
 use std::sync::{Arc, Mutex};
-use std::thread;
+use std::thread::{self, JoinHandle};
 use std::time::Duration;
 
-use atomfs::{Call, Did, Errno, ErrorKind, Reply, Session, SharedTree, Tree};
+use atomfs::{Call, Did, Errno, Error, ErrorKind, Journal, Reply, Session, SharedTree, Tree};
 
 const ROUNDS: usize = 100;
 
 /// What one thread does in a round: a directory goes up and down, and another moves the one above.
-fn work(session: &mut Session, thread: usize) {
+fn work(session: &mut Session, thread: usize, rounds: usize) {
     let (mine, moved) = (format!("/top/{thread}"), format!("/away/{thread}"));
-    for _ in 0..ROUNDS {
+    for _ in 0..rounds {
         for came in [
             session.mkdir(&mine),
             session.rename("/top", "/away"),
@@ -22,65 +24,50 @@ fn work(session: &mut Session, thread: usize) {
             session.rmdir(&mine),
         ] {
             let errno = came.as_ref().err().map(|error| error.errno());
-            assert!(
-                matches!(
-                    errno,
-                    None | Some(Some(Errno::ENOENT | Errno::EEXIST | Errno::ENOTEMPTY))
-                ),
-                "{came:?}"
-            );
+            assert!(matches!(errno, None | Some(Some(Errno::ENOENT | Errno::EEXIST | Errno::ENOTEMPTY))), "{came:?}");
         }
     }
 }
 
 #[test]
 fn sessions_interleave_and_the_journal_is_lawful() {
-    let tree = Arc::new(Mutex::new(Tree::with_limit(1000).unwrap()));
-    tree.lock().unwrap().mkdir("/top").unwrap();
+    let tree = SharedTree::with_limit(1000).unwrap();
+    tree.mkdir("/top").unwrap();
     thread::scope(|scope| {
         for thread in 0..4 {
-            let mut session = Session::new(&tree).unwrap();
-            scope.spawn(move || work(&mut session, thread));
+            let mut session = tree.session().unwrap();
+            scope.spawn(move || work(&mut session, thread, ROUNDS));
         }
     });
-    let mut tree = tree.lock().unwrap();
+    let mut tree = tree.lock();
     assert_eq!(tree.check().unwrap(), "lawful");
-    assert_eq!(
-        tree.journal().unwrap().matches("\nreturn ").count(),
-        1 + 4 * 5 * ROUNDS
-    );
+    assert_eq!(tree.journal().unwrap().matches("\nreturn ").count(), 1 + 4 * 5 * ROUNDS);
 }
 
 /// Another thread hands the journal out whenever no call is under way, and no session misses a reply by that.
 #[test]
 fn a_journal_in_pieces_while_threads_call() {
-    let tree = Arc::new(Mutex::new(Tree::with_limit(1000).unwrap()));
-    tree.lock().unwrap().mkdir("/top").unwrap();
+    let tree = SharedTree::with_limit(1000).unwrap();
+    tree.mkdir("/top").unwrap();
     let left = AtomicUsize::new(2);
     let mut pieces = Vec::new();
     thread::scope(|scope| {
         for thread in 0..2 {
-            let (mut session, left) = (Session::new(&tree).unwrap(), &left);
+            let (mut session, left) = (tree.session().unwrap(), &left);
             scope.spawn(move || {
-                work(&mut session, thread);
+                work(&mut session, thread, ROUNDS);
                 left.fetch_sub(1, Ordering::SeqCst);
             });
         }
         while left.load(Ordering::SeqCst) > 0 {
-            let came = tree.lock().unwrap().checkpoint();
-            match came {
-                Ok(piece) => pieces.push(piece),
-                Err(came) => assert!(matches!(came.kind(), ErrorKind::UnderWay(_)), "{came:?}"),
-            }
+            pieces.push(tree.lock().checkpoint().unwrap());
             thread::yield_now();
         }
     });
-    pieces.push(tree.lock().unwrap().checkpoint().unwrap());
-    let returned: usize = pieces
-        .iter()
-        .map(|piece| piece.matches("\nreturn ").count())
-        .sum();
+    pieces.push(tree.lock().checkpoint().unwrap());
+    let returned: usize = pieces.iter().map(|piece| piece.matches("\nreturn ").count()).sum();
     assert_eq!(returned, 1 + 2 * 5 * ROUNDS);
+    assert_eq!(tree.lock().calls_before(), returned as u64);
     for piece in pieces {
         assert_eq!(atomfs::check(piece).unwrap(), "lawful");
     }
@@ -97,29 +84,65 @@ fn used() -> Duration {
         fn clock_gettime(clock: std::os::raw::c_int, time: *mut Time) -> std::os::raw::c_int;
     }
     const OF_THIS_THREAD: std::os::raw::c_int = 3;
-    let mut time = Time {
-        seconds: 0,
-        nanoseconds: 0,
-    };
+    let mut time = Time { seconds: 0, nanoseconds: 0 };
+    // SAFETY: the clock is one of Linux, and the time a local of its form.
     assert_eq!(unsafe { clock_gettime(OF_THIS_THREAD, &mut time) }, 0);
     Duration::new(time.seconds as u64, time.nanoseconds as u32)
 }
 
-/// A tree in which a mkdir of `/a/x` has its place and holds `/a`.
-fn held() -> (SharedTree, atomfs::Seat) {
-    let tree = SharedTree::with_limit(1000).unwrap();
-    tree.mkdir("/a").unwrap();
-    let holder = tree.lock().seat().unwrap();
-    tree.lock().begin(holder, &Call::mkdir("/a/x")).unwrap();
-    while tree.lock().step(holder).unwrap() != Did::Committed {}
-    (tree, holder)
+/// A call that a gate has stand behind an event, until it is let go.
+struct Standing {
+    goes: Sender<()>,
+    thread: JoinHandle<Result<Reply, Error>>,
 }
 
-/// A call that waits sleeps until the node is let go: it uses a tenth of the processor time of one that tries again, at most. All of
-/// those that wait come through.
+impl Standing {
+    /// Makes a call on a thread of its own, and waits until it stands behind the event of a number.
+    fn at(tree: &SharedTree, event: usize, call: Call<'static>) -> Standing {
+        let mut session = tree.session().unwrap();
+        let (stands, has_come): (_, Receiver<()>) = channel();
+        let (goes, may_go): (_, Receiver<()>) = channel();
+        let (its, heard) = (session.seat(), AtomicUsize::new(0));
+        let ends = Mutex::new((stands, may_go));
+        tree.gate(Some(Box::new(move |seat, _| {
+            if seat == its && heard.fetch_add(1, Ordering::SeqCst) == event {
+                let ends = ends.lock().unwrap();
+                ends.0.send(()).unwrap();
+                // Whoever has the other end may be gone.
+                let _ = ends.1.recv();
+            }
+        })));
+        let thread = thread::spawn(move || session.call(&call));
+        has_come.recv().unwrap();
+        Standing { goes, thread }
+    }
+
+    fn goes_on(self) -> Result<Reply, Error> {
+        let _ = self.goes.send(());
+        self.thread.join().unwrap()
+    }
+}
+
+/// A tree in which a mkdir of `/a/x` holds `/a`: it began, took the root, took /a and let the root go.
+fn held() -> (SharedTree, Standing) {
+    let tree = SharedTree::with_limit(1000).unwrap();
+    tree.mkdir("/a").unwrap();
+    let standing = Standing::at(&tree, 3, Call::mkdir("/a/x"));
+    (tree, standing)
+}
+
+/// Waits until so many calls wait.
+fn wait_for(tree: &SharedTree, count: usize) {
+    while tree.holders().matches("waits for").count() < count {
+        thread::sleep(Duration::from_millis(5));
+    }
+}
+
+/// A call that waits sleeps until the node is let go: it uses a tenth of the processor time of one that tries again, at
+/// most. All of those that wait come through.
 #[test]
 fn a_call_that_waits_sleeps() {
-    let (tree, holder) = held();
+    let (tree, standing) = held();
     let mut session = tree.session().unwrap();
     let waits: Vec<_> = (0..3)
         .map(|thread| {
@@ -136,17 +159,15 @@ fn a_call_that_waits_sleeps() {
         let came = session.stat("/a/x").map(|_| ());
         (came, used() - before)
     });
-    while tree.lock().journal().unwrap().matches("\nbegin ").count() < 1 + 1 + 4 {
-        thread::sleep(Duration::from_millis(5));
-    }
+    wait_for(&tree, 4);
     // As long as it takes one that tries again and again to use a tenth of a second.
     let before = used();
     while used() - before < Duration::from_millis(100) {
-        drop(tree.lock());
+        drop(tree.holders());
         thread::yield_now();
     }
     assert!(!stats.is_finished() && !waits.iter().any(|thread| thread.is_finished()));
-    assert_eq!(tree.lock().finish(holder), Ok(Reply::Done));
+    assert_eq!(standing.goes_on(), Ok(Reply::Done));
     for thread in waits.into_iter().chain([stats]) {
         let (came, used) = thread.join().unwrap();
         assert_eq!(came, Ok(()));
@@ -156,28 +177,145 @@ fn a_call_that_waits_sleeps() {
     assert_eq!(tree.lock().check().unwrap(), "lawful");
 }
 
-/// One that waits is woken too where the holder goes on by `step_any`.
+/// Calls that stand, and those that wait for them, return by `finish_all`, and are answered.
 #[test]
-fn a_step_of_any_call_wakes() {
-    let (tree, holder) = held();
+fn finished_by_another_thread() {
+    let (tree, standing) = held();
     let waits = thread::spawn({
         let tree = tree.clone();
         move || tree.rmdir("/a/x")
     });
-    while tree.lock().journal().unwrap().matches("\nbegin ").count() < 3 {
-        thread::sleep(Duration::from_millis(5));
-    }
-    thread::sleep(Duration::from_millis(50));
-    while !waits.is_finished() {
-        let went = tree.lock().step_any().unwrap();
-        if !matches!(went, Some((seat, _)) if seat == holder) {
-            thread::sleep(Duration::from_millis(1));
-        }
-    }
+    wait_for(&tree, 1);
+    assert_eq!(tree.finish_all(), 2);
     assert_eq!(waits.join().unwrap(), Ok(()));
-    assert_eq!(tree.lock().finish(holder), Ok(Reply::Done));
+    assert_eq!(tree.finish_all(), 0);
+    assert_eq!(standing.goes_on(), Ok(Reply::Done));
     assert_eq!(tree.readdir("/a").unwrap(), [b""; 0]);
     assert_eq!(tree.lock().check().unwrap(), "lawful");
+}
+
+/// A wait that takes too long is an error that tells who holds what; so for the lock.
+#[test]
+fn a_wait_that_is_given_up() {
+    let (tree, standing) = held();
+    tree.wait_most(Some(Duration::from_millis(30)));
+    let mut session = tree.session().unwrap();
+    let error = session.stat("/a/x").unwrap_err();
+    assert_eq!(error, ErrorKind::TimedOut(3));
+    assert_eq!(std::io::Error::from(error.clone()).kind(), std::io::ErrorKind::TimedOut);
+    let holders = error.holders().unwrap();
+    let lines: Vec<_> = holders.lines().collect();
+    assert_eq!(lines, ["call 2 on seat 1 holds 1", "call 3 on seat 2 holds 0, waits for call 2"]);
+    assert!(error.to_string().starts_with("\"/a/x\": call 3 waited for too long"), "{error}");
+    assert!(error.to_string().ends_with("holds 0, waits for call 2"), "{error}");
+    let error = tree.try_lock().unwrap_err();
+    assert_eq!(error, ErrorKind::TimedOut(0));
+    assert!(error.to_string().starts_with("no call began"), "{error}");
+    assert_eq!(session.stat("/").unwrap_err(), ErrorKind::SeatBusy);
+    assert_eq!(tree.finish_all(), 2);
+    assert!(session.stat("/").unwrap().is_dir);
+    assert_eq!(standing.goes_on(), Ok(Reply::Done));
+    tree.wait_most(None);
+    assert_eq!(tree.lock().check().unwrap(), "lawful");
+}
+
+/// A thread whose gate panics makes its call to the end first, so nobody waits for ever.
+#[test]
+fn a_gate_that_panics() {
+    let tree = SharedTree::new().unwrap();
+    tree.gate(Some(Box::new(|_, did| assert!(!matches!(did, Did::Took(_)), "at a node"))));
+    let came = thread::spawn({
+        let tree = tree.clone();
+        move || panic::catch_unwind(panic::AssertUnwindSafe(|| tree.mkdir("/a"))).is_err()
+    });
+    assert!(came.join().unwrap());
+    tree.gate(None);
+    assert_eq!(tree.readdir("/").unwrap(), [b"a"]);
+    assert_eq!(tree.lock().check().unwrap(), "lawful");
+}
+
+/// What a gate hears of a call.
+#[test]
+fn the_events_of_a_call() {
+    let tree = SharedTree::new().unwrap();
+    let heard = Arc::new(Mutex::new(Vec::new()));
+    let hears = Arc::clone(&heard);
+    tree.gate(Some(Box::new(move |_, did| hears.lock().unwrap().push(did))));
+    tree.mkdir("/a").unwrap();
+    tree.gate(None);
+    tree.mkdir("/b").unwrap();
+    let wanted = [Did::Began(1), Did::Took(0), Did::Committed, Did::LetGo(0), Did::Returned];
+    assert_eq!(*heard.lock().unwrap(), wanted);
+}
+
+/// With drawn pauses half of the calls and more begin where another is under way.
+#[test]
+fn calls_that_pause_overlap() {
+    let (tree, rounds) = (SharedTree::with_limit(1000).unwrap(), ROUNDS / 5);
+    tree.mkdir("/top").unwrap();
+    tree.pauses(Some(7));
+    thread::scope(|scope| {
+        for thread in 0..4 {
+            let mut session = tree.session().unwrap();
+            scope.spawn(move || work(&mut session, thread, rounds));
+        }
+    });
+    tree.pauses(None);
+    let (mut under_way, mut overlaps) = (0, 0);
+    for line in tree.lock().journal().unwrap().lines() {
+        match line.split(' ').next() {
+            Some("begin") => {
+                overlaps += usize::from(under_way > 0);
+                under_way += 1;
+            }
+            Some("return") => under_way -= 1,
+            _ => {}
+        }
+    }
+    assert!(overlaps > 4 * 5 * rounds / 2, "{overlaps} of {}", 4 * 5 * rounds);
+    assert_eq!(tree.lock().check().unwrap(), "lawful");
+}
+
+/// A call that a thread leaves half-way on the tree that it has locked returns once it gives the tree back.
+#[test]
+fn a_call_that_is_left_half_way() {
+    let tree = SharedTree::new().unwrap();
+    let mut lent = tree.lock();
+    let seat = lent.seat().unwrap();
+    let number = lent.begin(seat, &Call::mkdir("/a")).unwrap();
+    assert_eq!(lent.step(seat), Ok(Did::Took(0)));
+    assert_eq!(lent.reply(seat).unwrap_err(), ErrorKind::NoReply);
+    drop(lent);
+    assert_eq!(tree.readdir("/").unwrap(), [b"a"]);
+    let mut lent = tree.lock();
+    assert_eq!((number, lent.reply(seat)), (1, Ok(Reply::Done)));
+    let other = lent.seat().unwrap();
+    lent.begin(other, &Call::rmdir("/a")).unwrap();
+    while lent.step_any().unwrap().is_some() {}
+    assert_eq!(lent.finish(other), Ok(Reply::Done));
+    assert_eq!(lent.call(&Call::mkdir("/b")), Ok(Reply::Done));
+    lent.write_file("/b/f", "hello").unwrap();
+    assert_eq!(lent.try_clone().unwrap().read_to_end("/b/f").unwrap(), b"hello");
+    assert_eq!(lent.text_of_tree().unwrap(), "tree\ndir /\ndir /b\nfile /b/f 68656c6c6f\n");
+    assert_eq!(lent.forget(), Ok(6));
+    assert_eq!((lent.calls_before(), lent.check().unwrap().as_str()), (6, "lawful"));
+}
+
+/// A journal that forgets by itself while threads call: all calls are counted.
+#[test]
+fn calls_that_are_forgotten() {
+    let tree = SharedTree::new().unwrap();
+    tree.lock().keep(Journal::Last(100)).unwrap();
+    thread::scope(|scope| {
+        for _ in 0..3 {
+            let mut session = tree.session().unwrap();
+            scope.spawn(move || (0..1_000).for_each(|_| assert!(session.stat("/").unwrap().is_dir)));
+        }
+    });
+    let mut lent = tree.lock();
+    let left = lent.journal().unwrap().matches("\nbegin ").count() as u64;
+    assert_eq!(lent.calls_before() + left, 3_000);
+    assert!(lent.calls_before() >= 2_000);
 }
 
 /// A rename from another thread helps a mkdir that stands half-way below what it moves.
@@ -185,19 +323,14 @@ fn a_step_of_any_call_wakes() {
 fn a_rename_of_a_shared_tree_helps() {
     let tree = SharedTree::new().unwrap();
     tree.create_dir_all("/a/d").unwrap();
-    let maker = tree.lock().seat().unwrap();
-    let number = tree.lock().begin(maker, &Call::mkdir("/a/d/x")).unwrap();
-    for _ in 0..5 {
-        tree.lock().step(maker).unwrap();
-    }
-    let other = tree.clone();
-    thread::spawn(move || other.rename("/a", "/b").unwrap())
-        .join()
-        .unwrap();
-    assert_eq!(tree.lock().finish(maker), Ok(Reply::Done));
+    let standing = Standing::at(&tree, 5, Call::mkdir("/a/d/x"));
+    tree.rename("/a", "/b").unwrap();
+    assert_eq!(standing.goes_on(), Ok(Reply::Done));
     assert_eq!(tree.readdir("/b/d").unwrap(), [b"x"]);
     let mut tree = tree.lock();
     let journal = tree.journal().unwrap();
+    let number = journal.lines().find(|line| line.ends_with(" mkdir /a/d/x")).unwrap().split(' ').nth(1).unwrap();
+    let number: u64 = number.parse().unwrap();
     let at = |entry: String| journal.find(&entry).expect("an entry");
     assert!(at(format!("\ncommit {number}\n")) < at(format!("\ncommit {}\n", number + 1)));
     assert!(at(format!("\nreturn {} ", number + 1)) < at(format!("\nreturn {number} ")));
@@ -225,9 +358,7 @@ fn clones_interleave_and_the_journal_is_lawful() {
             })
         })
         .collect();
-    threads
-        .into_iter()
-        .for_each(|thread| thread.join().unwrap());
+    threads.into_iter().for_each(|thread| thread.join().unwrap());
     let journal = tree.lock().journal().unwrap();
     let count = |entry| journal.matches(entry).count();
     assert_eq!(count("\nbegin "), count("\nreturn "));
@@ -242,9 +373,7 @@ fn clones_interleave_and_the_journal_is_lawful() {
 fn files_of_a_shared_tree() {
     let tree = SharedTree::new().unwrap();
     let mut file = tree.create("/f").unwrap();
-    thread::spawn(move || file.write_all(b"hello").unwrap())
-        .join()
-        .unwrap();
+    thread::spawn(move || file.write_all(b"hello").unwrap()).join().unwrap();
     let mut told = String::new();
     tree.open("/f").unwrap().read_to_string(&mut told).unwrap();
     assert_eq!((told.as_str(), tree.stat("/f").unwrap().size), ("hello", 5));
@@ -259,7 +388,7 @@ fn files_of_a_shared_tree() {
 #[test]
 fn each_call_of_a_shared_tree() {
     fn shares<T: Clone + Send + Sync>(_: &T) {}
-    let tree = SharedTree::from(Tree::new().unwrap());
+    let tree = SharedTree::try_from(Tree::new().unwrap()).unwrap();
     shares(&tree);
     thread::scope(|scope| scope.spawn(|| tree.mkdir("/a").unwrap()).join().unwrap());
     tree.mknod("/a/f").unwrap();
@@ -273,10 +402,7 @@ fn each_call_of_a_shared_tree() {
     tree.rmdir("/a/f").unwrap();
     tree.unlink("/b").unwrap();
     tree.rename("/a", "/c").unwrap();
-    assert_eq!(
-        tree.stat("/a").unwrap_err(),
-        ErrorKind::Failed(Errno::ENOENT)
-    );
+    assert_eq!(tree.stat("/a").unwrap_err(), ErrorKind::Failed(Errno::ENOENT));
     assert_eq!(tree.lock().check().unwrap(), "lawful");
 }
 
@@ -293,39 +419,29 @@ fn seats_of_sessions() {
     again.mkdir("/a").unwrap();
     drop((again, other));
     let journal = tree.lock().journal().unwrap();
-    assert!(
-        journal.contains(&format!("\nbegin 1 {} mkdir /a\n", first.number())),
-        "{journal}"
-    );
+    assert!(journal.contains(&format!("\nbegin 1 {} mkdir /a\n", first.number())), "{journal}");
 }
 
-/// Where another tree takes the place of a shared one, calls that were under way end, and sessions of the old one are refused.
+/// A tree with a call under way goes over as a whole, and the call returns.
 #[test]
-fn another_tree_in_its_place() {
-    let (tree, _) = held();
-    let mut session = tree.session().unwrap();
-    let waits = thread::spawn({
-        let tree = tree.clone();
-        move || tree.stat("/a/x")
-    });
-    while tree.lock().journal().unwrap().matches("\nbegin ").count() < 3 {
-        thread::sleep(Duration::from_millis(5));
-    }
-    thread::sleep(Duration::from_millis(50));
-    *tree.lock() = Tree::new().unwrap();
-    let error = waits.join().unwrap().unwrap_err();
-    assert_eq!(error, ErrorKind::ForeignSeat);
-    assert_eq!(session.mkdir("/b").unwrap_err(), ErrorKind::ForeignSeat);
-    drop(session);
-    tree.mkdir("/b").unwrap();
-    assert_eq!(tree.readdir("/").unwrap(), [b"b"]);
-    assert_eq!(tree.lock().check().unwrap(), "lawful");
+fn a_tree_that_becomes_shared() {
+    let mut tree = Tree::new().unwrap();
+    tree.mkdir("/a").unwrap();
+    let seat = tree.seat().unwrap();
+    tree.begin(seat, &Call::mkdir("/a/b")).unwrap();
+    let tree = SharedTree::try_from(tree).unwrap();
+    assert!(tree.stat("/a/b").unwrap().is_dir);
+    let mut lent = tree.lock();
+    assert_eq!(lent.reply(seat), Ok(Reply::Done));
+    assert_eq!(lent.journal().unwrap().matches("\nbegin ").count(), 3);
+    let foreign = Tree::new().unwrap().seat().unwrap();
+    assert_eq!(lent.step(foreign).unwrap_err(), ErrorKind::ForeignSeat);
 }
 
 #[test]
 fn each_call_of_a_session() {
-    let tree = Arc::new(Mutex::new(Tree::new().unwrap()));
-    let mut session = Session::new(&tree).unwrap();
+    let tree = SharedTree::new().unwrap();
+    let mut session = tree.session().unwrap();
     session.mkdir("/a").unwrap();
     session.mknod("/a/f").unwrap();
     assert_eq!(session.write("/a/f", 0, "hello"), Ok(5));
@@ -338,12 +454,14 @@ fn each_call_of_a_session() {
     session.rmdir("/a/f").unwrap();
     session.unlink("/b").unwrap();
     session.rename("/a", "/c").unwrap();
-    assert_eq!(
-        session.stat("/a").unwrap_err(),
-        ErrorKind::Failed(Errno::ENOENT)
-    );
-    let mut tree = tree.lock().unwrap();
-    assert_eq!(tree.check().unwrap(), "lawful");
+    assert_eq!(session.stat("/a").unwrap_err(), ErrorKind::Failed(Errno::ENOENT));
+    assert_eq!(session.read_dir("/c").unwrap(), [b""; 0]);
+    session.create_dir_all("/c/d").unwrap();
+    session.write_file("/c/d/f", "more").unwrap();
+    assert_eq!(session.read_to_end("/c/d/f").unwrap(), b"more");
+    assert_eq!(session.walk("/c").unwrap().len(), 3);
+    session.remove_dir_all("/c").unwrap();
+    assert_eq!(tree.lock().check().unwrap(), "lawful");
 }
 
 #[test]

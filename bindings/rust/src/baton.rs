@@ -1,0 +1,344 @@
+//! Threads of which one goes at a time, and their ways into the tree.
+
+use std::cell::{Cell, RefCell};
+use std::collections::BTreeMap;
+use std::panic::{self, Location};
+use std::sync::{Arc, Condvar, Mutex, MutexGuard, Once, PoisonError};
+
+use crate::call::{Call, Did, Reply, Seat};
+use crate::draws::Chooser;
+use crate::error::Error;
+use crate::explore::place_of;
+use crate::file::{File, OpenOptions};
+use crate::limits::Limits;
+use crate::methods::methods;
+use crate::path::AsPath;
+use crate::tree::Tree;
+use crate::whole::{self, Calls};
+
+/// By this a function ends whose run is over.
+pub(crate) struct Stopped;
+
+/// An event of a run: the begin of a call, or a step of it.
+#[derive(Clone, Copy, Debug)]
+pub(crate) struct Event {
+    pub(crate) thread: usize,
+    pub(crate) call: u64,
+    did: Option<Did>,
+    at: &'static Location<'static>,
+}
+
+impl Event {
+    pub(crate) fn is_begin(&self) -> bool {
+        self.did.is_none()
+    }
+
+    /// The event as a line of a trace, with calls as they are spelled.
+    pub(crate) fn line(&self, names: &[String], spelled: &BTreeMap<u64, String>) -> String {
+        let call = |number: &u64| spelled.get(number).cloned().unwrap_or_else(|| format!("call {number}"));
+        let did = match &self.did {
+            None | Some(Did::Began(_)) => "begins".to_owned(),
+            Some(Did::Took(node)) => format!("takes node {node}"),
+            Some(Did::WaitsFor(number)) => format!("waits for {}", call(number)),
+            Some(Did::LetGo(node)) => format!("lets node {node} go"),
+            Some(Did::Helped(number)) => format!("helps {}", call(number)),
+            Some(Did::Committed) => "commits".to_owned(),
+            Some(Did::CarriedOut) => "carries out, since it was helped".to_owned(),
+            Some(Did::Returned) => "returns".to_owned(),
+            Some(Did::Idle) => "is idle".to_owned(),
+        };
+        format!("{}  {}  {}: {did}", names[self.thread], place_of(self.at), call(&self.call))
+    }
+}
+
+/// What goes from thread to thread.
+struct State {
+    /// None once the run is over.
+    tree: Option<Tree>,
+    chooser: Chooser,
+    /// Which threads have come to their first event, which have ended, and which wait for a node.
+    has_come: Vec<bool>,
+    has_ended: Vec<bool>,
+    waits: Vec<bool>,
+    turn: Option<usize>,
+    is_stopped: bool,
+    most: u64,
+    /// Whose turn it was before each event, and the events.
+    order: Vec<usize>,
+    events: Vec<Event>,
+}
+
+impl State {
+    /// Draws whose turn it is next, once each thread has come to its first event. A thread that waits for a node can go
+    /// where no other can: then it is told again that it waits.
+    fn draw(&mut self, yielding: Option<usize>) {
+        let live: Vec<usize> = (0..self.has_come.len()).filter(|at| !self.has_ended[*at]).collect();
+        if live.is_empty() || !live.iter().all(|at| self.has_come[*at]) {
+            self.turn = None;
+            return;
+        }
+        let able: Vec<usize> = live.iter().copied().filter(|at| !self.waits[*at]).collect();
+        let next = self.chooser.choose(if able.is_empty() { &live } else { &able }, yielding);
+        self.is_stopped |= self.order.len() as u64 >= self.most;
+        self.order.push(next);
+        self.turn = Some(next);
+    }
+}
+
+/// What hands the turn on.
+pub(crate) struct Baton {
+    state: Mutex<State>,
+    turns: Vec<Condvar>,
+}
+
+type Held<'b> = MutexGuard<'b, State>;
+
+impl Baton {
+    /// With a tree for so many threads, a seat for each, and behind these that of the tree's own calls, which is the
+    /// first.
+    pub(crate) fn new(
+        mut tree: Tree,
+        threads: usize,
+        most: u64,
+        chooser: Chooser,
+    ) -> Result<(Arc<Baton>, Vec<Seat>), Error> {
+        let mut seats = (0..threads).map(|_| tree.seat()).collect::<Result<Vec<_>, _>>()?;
+        seats.push(tree.seat_of_own()?);
+        let state = State {
+            tree: Some(tree),
+            chooser,
+            has_come: vec![false; threads],
+            has_ended: vec![false; threads],
+            waits: vec![false; threads],
+            turn: None,
+            is_stopped: false,
+            most,
+            order: Vec::new(),
+            events: Vec::new(),
+        };
+        let turns = (0..threads).map(|_| Condvar::new()).collect();
+        Ok((Arc::new(Baton { state: Mutex::new(state), turns }), seats))
+    }
+
+    fn held(&self) -> Held<'_> {
+        self.state.lock().unwrap_or_else(PoisonError::into_inner)
+    }
+
+    fn wake(&self, state: &State) {
+        if state.is_stopped {
+            self.turns.iter().for_each(Condvar::notify_one);
+        } else if let Some(next) = state.turn {
+            self.turns[next].notify_one();
+        }
+    }
+
+    /// Waits for the turn of a thread, which it hands on if it has it: to another one, where it yields and one can go.
+    fn turn(&self, me: usize, yields: bool) -> Held<'_> {
+        let mut state = self.held();
+        state.has_come[me] = true;
+        if state.turn == Some(me) || state.turn.is_none() {
+            state.draw(Some(me).filter(|_| yields));
+            self.wake(&state);
+        }
+        while state.turn != Some(me) && !state.is_stopped {
+            state = self.turns[me].wait(state).unwrap_or_else(PoisonError::into_inner);
+        }
+        if state.is_stopped {
+            drop(state);
+            panic::resume_unwind(Box::new(Stopped));
+        }
+        state
+    }
+
+    /// The function of a thread has ended.
+    pub(crate) fn ended(&self, me: usize) {
+        let mut state = self.held();
+        state.has_ended[me] = true;
+        state.waits.fill(false);
+        if state.turn == Some(me) || state.turn.is_none() {
+            state.draw(None);
+        }
+        self.wake(&state);
+    }
+
+    /// The run is over: each function ends at its next event.
+    pub(crate) fn stop(&self) {
+        let mut state = self.held();
+        state.is_stopped = true;
+        self.wake(&state);
+    }
+
+    /// How many events there were.
+    pub(crate) fn events(&self) -> usize {
+        self.held().order.len()
+    }
+
+    /// How many events there were before the threads started.
+    pub(crate) fn prepared(&self) -> usize {
+        self.held().events.len()
+    }
+
+    pub(crate) fn turn_of(&self) -> Option<usize> {
+        self.held().turn
+    }
+
+    /// Whether there were as many events as there may be.
+    pub(crate) fn is_spent(&self) -> bool {
+        let state = self.held();
+        state.order.len() as u64 > state.most
+    }
+
+    /// What is left of the run: the order, the events and the tree.
+    pub(crate) fn taken(&self) -> Result<(Vec<usize>, Vec<Event>, Tree), Error> {
+        let mut state = self.held();
+        let tree = match state.tree.take() {
+            Some(tree) => tree,
+            None => Tree::new()?,
+        };
+        let most = state.most;
+        let mut order = std::mem::take(&mut state.order);
+        order.truncate(usize::try_from(most).unwrap_or(usize::MAX));
+        Ok((order, std::mem::take(&mut state.events), tree))
+    }
+}
+
+/// A thread's way into the tree of a run, by which [`explore`](crate::explore()) hands turns on: before each begin and
+/// each step of a call.
+pub struct ThreadTree {
+    baton: Arc<Baton>,
+    /// None of what is done before.
+    me: Option<usize>,
+    seat: Seat,
+    limits: Limits,
+    at: &'static Location<'static>,
+}
+
+impl ThreadTree {
+    pub(crate) fn of(baton: &Arc<Baton>, me: usize, seat: Seat) -> ThreadTree {
+        ThreadTree { me: Some(me), ..ThreadTree::alone(baton, seat) }
+    }
+
+    /// The way of what is done before the threads start.
+    pub(crate) fn alone(baton: &Arc<Baton>, seat: Seat) -> ThreadTree {
+        let limits = baton.held().tree.as_ref().map_or_else(Limits::default, Tree::limits);
+        ThreadTree { baton: Arc::clone(baton), me: None, seat, limits, at: Location::caller() }
+    }
+
+    /// The line that makes the calls that follow.
+    fn stands_at(&mut self, at: &'static Location<'static>) {
+        self.at = at;
+    }
+
+    fn turn_to_go(&self) -> Held<'_> {
+        match self.me {
+            Some(me) => self.baton.turn(me, false),
+            None => self.baton.held(),
+        }
+    }
+
+    /// Hands the turn on to another thread. A loop that waits for what another does, calls it.
+    pub fn turn(&mut self) {
+        if let Some(me) = self.me {
+            drop(self.baton.turn(me, true));
+        }
+    }
+
+    /// Opens a file to read it from its begin on. [`OpenOptions`] open it for more.
+    #[track_caller]
+    pub fn open(&mut self, path: impl AsPath) -> Result<File<&mut ThreadTree>, Error> {
+        self.at = Location::caller();
+        OpenOptions::new().read(true).open(self, path)
+    }
+
+    /// Opens a file to write it from its begin on: it is made where there is none, and emptied else.
+    #[track_caller]
+    pub fn create(&mut self, path: impl AsPath) -> Result<File<&mut ThreadTree>, Error> {
+        self.at = Location::caller();
+        whole::created().open(self, path)
+    }
+}
+
+methods!(ThreadTree, ": calls of other threads can come between its calls.");
+
+/// The place of what was done before the threads, behind those of the threads.
+fn place(me: Option<usize>, state: &State) -> usize {
+    me.unwrap_or(state.has_come.len())
+}
+
+fn over() -> ! {
+    panic::resume_unwind(Box::new(Stopped))
+}
+
+impl Calls for ThreadTree {
+    fn call(&mut self, call: &Call) -> Result<Reply, Error> {
+        let (me, seat, at) = (self.me, self.seat, self.at);
+        let mut state = self.turn_to_go();
+        let thread = place(me, &state);
+        let number = match state.tree.as_mut().map(|tree| tree.begin(seat, call)) {
+            Some(Ok(number)) => number,
+            Some(Err(error)) => return Err(error),
+            None => {
+                drop(state);
+                over()
+            }
+        };
+        state.events.push(Event { thread, call: number, did: None, at });
+        loop {
+            drop(state);
+            state = self.turn_to_go();
+            let did = match state.tree.as_mut().map(|tree| tree.step(seat)) {
+                Some(did) => did?,
+                None => {
+                    drop(state);
+                    over()
+                }
+            };
+            state.events.push(Event { thread, call: number, did: Some(did), at });
+            match did {
+                Did::WaitsFor(_) => state.waits[thread] = true,
+                Did::LetGo(_) => state.waits.fill(false),
+                Did::Returned | Did::Idle => {
+                    state.waits.fill(false);
+                    return match state.tree.as_mut() {
+                        Some(tree) => tree.reply(seat),
+                        None => over(),
+                    };
+                }
+                _ => {}
+            }
+        }
+    }
+
+    fn limits(&mut self) -> Limits {
+        self.limits
+    }
+}
+
+thread_local! {
+    static QUIET: Cell<bool> = const { Cell::new(false) };
+    static PLACE: RefCell<Option<String>> = const { RefCell::new(None) };
+}
+
+/// Does something without the words of a panic on standard error, which the error of the run tells.
+pub(crate) fn quietly<T>(function: impl FnOnce() -> T) -> T {
+    static HOOK: Once = Once::new();
+    HOOK.call_once(|| {
+        let before = panic::take_hook();
+        panic::set_hook(Box::new(move |info| {
+            if QUIET.with(Cell::get) {
+                PLACE.with(|place| *place.borrow_mut() = info.location().map(place_of));
+            } else {
+                before(info);
+            }
+        }));
+    });
+    let was = QUIET.with(|quiet| quiet.replace(true));
+    let came = function();
+    QUIET.with(|quiet| quiet.set(was));
+    came
+}
+
+/// Where the last panic of this thread was that was not shown.
+pub(crate) fn place_of_panic() -> Option<String> {
+    PLACE.with(|place| place.borrow_mut().take())
+}

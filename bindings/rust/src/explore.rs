@@ -1,0 +1,653 @@
+//! Your own functions under drawn schedules: each on a thread of its own, of which one goes at a time.
+
+use std::any::Any;
+use std::collections::{BTreeMap, BTreeSet};
+use std::fmt;
+use std::ops::{Deref, Index, Range};
+use std::panic::{self, AssertUnwindSafe, Location};
+use std::sync::mpsc;
+use std::thread;
+use std::time::Duration;
+
+use crate::baton::{Baton, Event, Stopped, ThreadTree};
+use crate::draws::Chooser;
+use crate::limits::Limits;
+use crate::texts::{self, Schedule};
+use crate::tree::Tree;
+use crate::NODE_LIMIT;
+
+/// How many events a run has at most, where none is told.
+const EVENTS: u64 = 100_000;
+/// How long a function may go round the tree, where no other time is told.
+const PATIENCE: Duration = Duration::from_secs(10);
+/// How many runs are made at most to cut a schedule down.
+const TRIALS: u64 = 1_000;
+
+/// How schedules are drawn.
+#[derive(Clone, Copy, Debug, Default, PartialEq, Eq)]
+pub enum Draws {
+    /// The two others by turns: even seeds draw by the first, odd ones by the second, of depth 3.
+    #[default]
+    Both,
+    /// Before each event a thread, each as likely as another.
+    Uniform,
+    /// By priorities with few changes: of threads with drawn priorities the highest goes, and at `depth - 1` drawn
+    /// events the one that goes becomes the lowest. It finds a bug that takes `depth` orders of events, in a run of `k`
+    /// events of `n` threads, with a probability of at least 1 in `n k^(depth - 1)` (Burckhardt, Kothari, Musuvathi and
+    /// Nagarakatte, ASPLOS 2010).
+    Pct {
+        /// How many orders of events the bug takes: 1 or more.
+        depth: u32,
+    },
+}
+
+/// What a check says of a run: nothing by `()` and `true`; `false` and an `Err` are a fault, as a panic is.
+pub trait Verdict {
+    /// What is wrong, if something is.
+    fn fault(self) -> Option<String>;
+}
+
+impl Verdict for () {
+    fn fault(self) -> Option<String> {
+        None
+    }
+}
+
+impl Verdict for bool {
+    fn fault(self) -> Option<String> {
+        (!self).then(|| "the check says no".to_owned())
+    }
+}
+
+impl<E: fmt::Display> Verdict for Result<(), E> {
+    fn fault(self) -> Option<String> {
+        self.err().map(|error| error.to_string())
+    }
+}
+
+/// What the functions of a run returned, by the names of their threads.
+#[derive(Clone, Debug, PartialEq, Eq)]
+pub struct Replies<R>(BTreeMap<String, R>);
+
+impl<R> Replies<R> {
+    /// What the function of a thread returned.
+    pub fn get(&self, name: &str) -> Option<&R> {
+        self.0.get(name)
+    }
+
+    /// The names with what their functions returned, in the order of the names.
+    pub fn iter(&self) -> impl Iterator<Item = (&str, &R)> {
+        self.0.iter().map(|(name, reply)| (name.as_str(), reply))
+    }
+}
+
+impl<R> Index<&str> for Replies<R> {
+    type Output = R;
+
+    fn index(&self, name: &str) -> &R {
+        &self.0[name]
+    }
+}
+
+type Function<R> = Box<dyn FnOnce(&mut ThreadTree) -> R + Send>;
+type Check<'p, R> = Box<dyn FnOnce(&mut Tree, &Replies<R>) -> Option<String> + 'p>;
+
+/// What is to be run: it is made anew for each run, so that each begins with the same.
+pub struct Plan<'p, R> {
+    limit: usize,
+    limits: Limits,
+    draws: Draws,
+    events: u64,
+    patience: Duration,
+    before: Option<Function<()>>,
+    threads: Vec<(String, Function<R>)>,
+    check: Option<Check<'p, R>>,
+}
+
+impl<R> Plan<'_, R> {
+    fn new() -> Self {
+        Plan {
+            limit: NODE_LIMIT,
+            limits: Limits::default(),
+            draws: Draws::default(),
+            events: EVENTS,
+            patience: PATIENCE,
+            before: None,
+            threads: Vec::new(),
+            check: None,
+        }
+    }
+}
+
+impl<'p, R> Plan<'p, R> {
+    /// The tree is for so many nodes, by these limits.
+    pub fn limits(&mut self, limit: usize, limits: Limits) -> &mut Self {
+        (self.limit, self.limits) = (limit, limits);
+        self
+    }
+
+    /// How schedules are drawn.
+    pub fn draws(&mut self, draws: Draws) -> &mut Self {
+        self.draws = draws;
+        self
+    }
+
+    /// A run has at most so many events, or else its functions count as some that never end.
+    pub fn events(&mut self, most: u64) -> &mut Self {
+        self.events = most;
+        self
+    }
+
+    /// A function goes round the tree for so long at most, or else it counts as stuck.
+    pub fn patience(&mut self, patience: Duration) -> &mut Self {
+        self.patience = patience;
+        self
+    }
+
+    /// What is done with the empty tree before the threads start.
+    pub fn before(&mut self, function: impl FnOnce(&mut ThreadTree) + Send + 'static) -> &mut Self {
+        self.before = Some(Box::new(function));
+        self
+    }
+
+    /// A thread with its function. What the function returns is a reply for the check; a panic is a fault.
+    pub fn thread(
+        &mut self,
+        name: impl Into<String>,
+        function: impl FnOnce(&mut ThreadTree) -> R + Send + 'static,
+    ) -> &mut Self {
+        self.threads.push((name.into(), Box::new(function)));
+        self
+    }
+
+    /// What is to be so behind each run: of the tree, in which no call is under way, and of what the functions
+    /// returned. It may read the tree, and is not to change it.
+    pub fn check<V: Verdict>(&mut self, check: impl FnOnce(&mut Tree, &Replies<R>) -> V + 'p) -> &mut Self {
+        self.check = Some(Box::new(move |tree, replies| check(tree, replies).fault()));
+        self
+    }
+
+    /// Why this is no plan.
+    fn fault(&self) -> Option<String> {
+        if self.threads.is_empty() {
+            return Some("the plan has no threads".to_owned());
+        }
+        let mut names = BTreeSet::from([BEFORE]);
+        let twice = self.threads.iter().find(|(name, _)| !names.insert(name));
+        if let Some((name, _)) = twice {
+            return Some(format!("two threads have the name {name:?}, or it is that of what is done before"));
+        }
+        if self.check.is_none() {
+            return Some("the plan has no check".to_owned());
+        }
+        match self.draws {
+            Draws::Pct { depth: 0 } => Some("PCT has a depth of 1 or more".to_owned()),
+            _ => None,
+        }
+    }
+}
+
+/// The name that what is done before the threads start has in scripts.
+const BEFORE: &str = "before";
+
+/// Why a run is no good.
+#[derive(Clone, Debug, PartialEq, Eq)]
+#[non_exhaustive]
+pub enum ScheduleFault {
+    /// The check said so, or it panicked.
+    Check(String),
+    /// The function of a thread panicked.
+    Panicked(String, String),
+    /// The run has as many events as it may have, and has not ended.
+    NeverEnds(u64),
+    /// The function of a thread goes round the tree, and makes no call.
+    Stuck(String),
+    /// The check changed the tree.
+    ChangedByCheck,
+    /// There is no run: the plan or the seeds are none.
+    NoPlan(String),
+}
+
+impl fmt::Display for ScheduleFault {
+    fn fmt(&self, f: &mut fmt::Formatter<'_>) -> fmt::Result {
+        match self {
+            ScheduleFault::Check(why) => f.write_str(why),
+            ScheduleFault::Panicked(name, why) => write!(f, "thread {name}: {why}"),
+            ScheduleFault::NeverEnds(events) => write!(f, "no end in {events} events"),
+            ScheduleFault::Stuck(name) => write!(f, "thread {name} makes no call and does not end"),
+            ScheduleFault::ChangedByCheck => f.write_str("the check changed the tree"),
+            ScheduleFault::NoPlan(why) => f.write_str(why),
+        }
+    }
+}
+
+/// A schedule under which a plan fails: the first that was drawn, cut down. It has the fields of a [`FailedRun`].
+#[derive(Clone, PartialEq, Eq)]
+pub struct ScheduleError(Box<FailedRun>);
+
+/// A run that failed.
+#[derive(Clone, Debug, PartialEq, Eq)]
+#[non_exhaustive]
+pub struct FailedRun {
+    /// Why.
+    pub fault: ScheduleFault,
+    /// The seed by which it was drawn; none of a schedule that was given.
+    pub seed: Option<u64>,
+    /// The schedule, for [`replay`]: as `a*7 b*9 a`, each word a thread and how many events of it.
+    pub schedule: String,
+    /// How many runs it took to cut it down.
+    pub trials: u64,
+    /// A line for each event: the thread, the line of the source that made the call, and what the event did.
+    pub trace: Vec<String>,
+    /// The journal of the run, for [`check`](crate::check) and [`draw`](crate::draw).
+    pub journal: String,
+    /// A script that `atomfs run` plays, with the same journal, where there is one.
+    pub script: Option<String>,
+}
+
+impl ScheduleError {
+    fn new(fault: ScheduleFault, seed: Option<u64>) -> ScheduleError {
+        let (schedule, trace, journal) = (String::new(), Vec::new(), String::new());
+        ScheduleError(Box::new(FailedRun { fault, seed, schedule, trials: 0, trace, journal, script: None }))
+    }
+
+    /// A picture of the run, as an SVG file.
+    pub fn picture(&self) -> Result<String, crate::Error> {
+        texts::draw(&self.journal, Schedule::Given, None)
+    }
+}
+
+impl Deref for ScheduleError {
+    type Target = FailedRun;
+
+    fn deref(&self) -> &FailedRun {
+        &self.0
+    }
+}
+
+impl fmt::Display for ScheduleError {
+    fn fmt(&self, f: &mut fmt::Formatter<'_>) -> fmt::Result {
+        match self.seed {
+            Some(seed) => writeln!(f, "seed {seed}: {}", self.fault)?,
+            None => writeln!(f, "{}", self.fault)?,
+        }
+        if self.schedule.is_empty() {
+            return Ok(());
+        }
+        writeln!(f, "schedule, cut down in {} runs: {}", self.trials, self.schedule)?;
+        for line in &self.trace {
+            writeln!(f, "    {line}")?;
+        }
+        writeln!(f, "journal: {}", texts::check(&self.journal).unwrap_or_else(|error| error.to_string()))?;
+        match &self.script {
+            Some(script) => write!(f, "script:\n{script}"),
+            None => Ok(()),
+        }
+    }
+}
+
+/// As text, so that `unwrap` in a test shows it.
+impl fmt::Debug for ScheduleError {
+    fn fmt(&self, f: &mut fmt::Formatter<'_>) -> fmt::Result {
+        write!(f, "\n{self}")
+    }
+}
+
+impl std::error::Error for ScheduleError {}
+
+/// What was seen where no run failed.
+#[derive(Clone, Copy, Debug, PartialEq, Eq)]
+pub struct Explored {
+    /// How many runs there were.
+    pub runs: u64,
+    /// How many outcomes came: different replies of calls, or different trees.
+    pub outcomes: usize,
+    /// The last seed that brought a new outcome.
+    pub last_new: u64,
+}
+
+impl Ran {
+    /// What is to be small: how often another thread goes, and how many events there are.
+    fn size(&self) -> (usize, usize) {
+        (switches(&self.order), self.order.len())
+    }
+}
+
+/// What came of a run.
+struct Ran {
+    fault: Option<ScheduleFault>,
+    names: Vec<String>,
+    order: Vec<usize>,
+    before: usize,
+    events: Vec<Event>,
+    journal: String,
+    tree: String,
+}
+
+/// Runs functions on threads of their own, of which one goes at a time. Before each begin and each step of a call it is
+/// drawn from the seed whose turn it is: so calls meet halfway, and the same seed is the same run. The first seed whose
+/// run fails is an error, with its schedule cut down to the fewest switches between threads that still fails.
+///
+/// The closure makes the plan of each run. What is in the functions beside calls of their tree is not drawn: what they
+/// draw themselves, clocks, and locks of theirs, for which they must not wait while they are to hand the turn on by
+/// [`ThreadTree::turn`].
+///
+/// ```
+/// // Two threads add one to a counter in a file: read, add, write.
+/// let error = atomfs::explore(1..1_000, |plan| {
+///     plan.before(|tree| tree.write_file("/n", "0").unwrap());
+///     for name in ["a", "b"] {
+///         plan.thread(name, |tree| {
+///             let n: u32 = String::from_utf8(tree.read("/n", 0, 10)?).unwrap().parse().unwrap();
+///             tree.write("/n", 0, (n + 1).to_string())
+///         });
+///     }
+///     plan.check(|tree, _| tree.read_to_end("/n").unwrap() == b"2");
+/// })
+/// .unwrap_err();
+/// assert_eq!(error.to_string().lines().next().unwrap(), format!("seed {}: the check says no", error.seed.unwrap()));
+/// assert!(error.trace[0].contains("explore.rs:"));
+/// ```
+pub fn explore<'p, R: Send + 'static>(
+    seeds: Range<u64>,
+    mut plan: impl FnMut(&mut Plan<'p, R>),
+) -> Result<Explored, ScheduleError> {
+    let none = |why: &str| Err(ScheduleError::new(ScheduleFault::NoPlan(why.to_owned()), None));
+    if seeds.start >= seeds.end {
+        return none("there are no seeds to draw from");
+    }
+    let mut player = Player { made: &mut plan };
+    // By how many events a run has changes of priorities are spread.
+    let alone = player.run(Chooser::given(Vec::new()), false)?;
+    if matches!(alone.fault, Some(ScheduleFault::NeverEnds(_) | ScheduleFault::Stuck(_))) {
+        return Err(player.error_of(alone, None, 0));
+    }
+    let (draws, events) = (player.draws(), alone.order.len() as u64);
+    let mut outcomes = BTreeSet::new();
+    let mut last_new = seeds.start;
+    for seed in seeds.clone() {
+        let ran = player.run(Chooser::drawn(draws, seed, alone.names.len(), events), true)?;
+        if ran.fault.is_some() {
+            return Err(player.cut_down(ran, seed));
+        }
+        if outcomes.insert(outcome_of(&ran)) {
+            last_new = seed;
+        }
+    }
+    Ok(Explored { runs: seeds.end - seeds.start, outcomes: outcomes.len(), last_new })
+}
+
+/// Runs a plan by a schedule: as [`ScheduleError`] has it, or any other. Words of threads that have ended are passed
+/// over, and behind the last word each thread goes on to its end, the last one first.
+pub fn replay<'p, R: Send + 'static>(
+    schedule: &str,
+    mut plan: impl FnMut(&mut Plan<'p, R>),
+) -> Result<(), ScheduleError> {
+    let mut player = Player { made: &mut plan };
+    let names = player.names()?;
+    let order = order_of(schedule, &names).map_err(|why| ScheduleError::new(ScheduleFault::NoPlan(why), None))?;
+    let ran = player.run(Chooser::given(order), true)?;
+    match ran.fault {
+        None => Ok(()),
+        Some(_) => Err(player.error_of(ran, None, 0)),
+    }
+}
+
+/// The replies of a run in the order of its threads' calls, and its tree.
+fn outcome_of(ran: &Ran) -> (Vec<(usize, String)>, String) {
+    let seats: BTreeMap<u64, usize> = ran.events.iter().map(|event| (event.call, event.thread)).collect();
+    let replies = ran.journal.lines().filter_map(|line| {
+        let (number, reply) = line.strip_prefix("return ")?.split_once(' ')?;
+        Some((*seats.get(&number.parse().ok()?)?, reply.to_owned()))
+    });
+    let mut replies: Vec<_> = replies.collect();
+    replies.sort_by_key(|(thread, _)| *thread);
+    (replies, ran.tree.clone())
+}
+
+/// The words of a schedule.
+fn words_of(order: &[usize], names: &[String]) -> String {
+    let mut words: Vec<(usize, usize)> = Vec::new();
+    for thread in order {
+        match words.last_mut() {
+            Some((last, count)) if last == thread => *count += 1,
+            _ => words.push((*thread, 1)),
+        }
+    }
+    let word = |(thread, count): &(usize, usize)| match count {
+        1 => names[*thread].clone(),
+        _ => format!("{}*{count}", names[*thread]),
+    };
+    words.iter().map(word).collect::<Vec<_>>().join(" ")
+}
+
+/// The threads of a schedule's words.
+fn order_of(schedule: &str, names: &[String]) -> Result<Vec<usize>, String> {
+    let mut order = Vec::new();
+    for word in schedule.split_whitespace() {
+        let (name, count) = word.rsplit_once('*').unwrap_or((word, "1"));
+        let thread = names.iter().position(|known| known == name);
+        let thread = thread.ok_or_else(|| format!("the schedule's word {word:?} is of no thread of the plan"))?;
+        let count = count.parse::<usize>().ok().filter(|count| (1..=1_000_000).contains(count));
+        let count = count.ok_or_else(|| format!("the schedule's word {word:?} has no number of 1 to 1,000,000"))?;
+        order.resize(order.len() + count, thread);
+    }
+    Ok(order)
+}
+
+/// How often another thread goes than before.
+fn switches(order: &[usize]) -> usize {
+    order.windows(2).filter(|pair| pair[0] != pair[1]).count()
+}
+
+/// What runs plans.
+struct Player<'m, 'p, R> {
+    made: &'m mut dyn FnMut(&mut Plan<'p, R>),
+}
+
+impl<'p, R: Send + 'static> Player<'_, 'p, R> {
+    fn plan(&mut self) -> Result<Plan<'p, R>, ScheduleError> {
+        let mut plan = Plan::new();
+        (self.made)(&mut plan);
+        match plan.fault() {
+            Some(why) => Err(ScheduleError::new(ScheduleFault::NoPlan(why), None)),
+            None => Ok(plan),
+        }
+    }
+
+    fn names(&mut self) -> Result<Vec<String>, ScheduleError> {
+        Ok(self.plan()?.threads.into_iter().map(|(name, _)| name).collect())
+    }
+
+    fn draws(&mut self) -> Draws {
+        self.plan().map_or(Draws::Both, |plan| plan.draws)
+    }
+
+    /// One run. Where it is to be checked and its functions returned, the check has its say.
+    fn run(&mut self, chooser: Chooser, checked: bool) -> Result<Ran, ScheduleError> {
+        let Plan { limit, limits, events, patience, before, threads, check, .. } = self.plan()?;
+        let (names, functions): (Vec<String>, Vec<_>) = threads.into_iter().unzip();
+        let none = |error: crate::Error| ScheduleError::new(ScheduleFault::NoPlan(error.to_string()), None);
+        let tree = Tree::with_limits(limit, limits).map_err(none)?;
+        let (baton, seats) = Baton::new(tree, names.len(), events, chooser).map_err(none)?;
+        let mut fault = None;
+        if let Some(before) = before {
+            let mut own = ThreadTree::alone(&baton, seats[names.len()]);
+            fault = quiet(|| before(&mut own)).err().map(|why| ScheduleFault::Panicked(BEFORE.to_owned(), why));
+        }
+        let prepared = baton.prepared();
+        let mut replies = BTreeMap::new();
+        if fault.is_none() {
+            let (told, came) = mpsc::channel();
+            for (at, function) in functions.into_iter().enumerate() {
+                let (baton, told, seat) = (baton.clone(), told.clone(), seats[at]);
+                let body = move || {
+                    let mut its = ThreadTree::of(&baton, at, seat);
+                    let came = quiet(|| function(&mut its));
+                    baton.ended(at);
+                    let _ = told.send((at, came));
+                };
+                thread::Builder::new().name(names[at].clone()).spawn(body).map_err(|error| {
+                    ScheduleError::new(ScheduleFault::NoPlan(format!("no thread can be made: {error}")), None)
+                })?;
+            }
+            while replies.len() < names.len() && fault.is_none() {
+                let seen = baton.events();
+                match came.recv_timeout(patience) {
+                    Ok((at, Ok(reply))) => drop(replies.insert(names[at].clone(), reply)),
+                    Ok((at, Err(why))) => fault = Some(ScheduleFault::Panicked(names[at].clone(), why)),
+                    Err(_) if baton.events() == seen => {
+                        fault = Some(ScheduleFault::Stuck(names[baton.turn_of().unwrap_or(0)].clone()));
+                    }
+                    Err(_) => {}
+                }
+                if baton.is_spent() {
+                    fault = Some(ScheduleFault::NeverEnds(events));
+                }
+            }
+            if fault.is_some() {
+                baton.stop();
+            }
+        }
+        let (order, events, mut tree) = baton.taken().map_err(none)?;
+        // What was left half-way by a function that is gone.
+        while tree.step_any().map_err(none)?.is_some() {}
+        let journal = tree.journal().map_err(none)?;
+        let text = tree.text_of_tree().map_err(none)?;
+        if let (true, None, Some(check)) = (checked, &fault, check) {
+            let replies = Replies(replies);
+            fault = match quiet(|| check(&mut tree, &replies)) {
+                Ok(None) => None,
+                Ok(Some(why)) | Err(why) => Some(ScheduleFault::Check(why)),
+            };
+            if fault.is_none() && tree.text_of_tree().map_err(none)? != text {
+                fault = Some(ScheduleFault::ChangedByCheck);
+            }
+        }
+        Ok(Ran { fault, names, order, before: prepared, events, journal, tree: text })
+    }
+
+    /// The error of a run that failed, by the fewest switches between threads, and then the fewest events, with which a
+    /// run still fails: of those that let one thread go to its end in the midst of another, and of those that leave out
+    /// or exchange parts of the best.
+    fn cut_down(&mut self, ran: Ran, seed: u64) -> ScheduleError {
+        let (mut best, mut trials) = (ran, 0);
+        // A function that is stuck leaves a thread behind, and takes its time.
+        let mut tried = match best.fault {
+            Some(ScheduleFault::Stuck(_)) => Vec::new(),
+            _ => [alone(&best), fewer(&best.order)].concat(),
+        };
+        while let Some(order) = tried.pop() {
+            trials += 1;
+            let came = match self.run(Chooser::given(order), true) {
+                Ok(came) if came.fault.is_some() && came.size() < best.size() => came,
+                _ if trials == TRIALS => break,
+                _ => continue,
+            };
+            best = came;
+            // What lets one thread go in the midst of another has two switches and no fewer.
+            tried.retain(|order| switches(order) < switches(&best.order) || order.len() < best.order.len());
+            tried.extend(fewer(&best.order));
+        }
+        self.error_of(best, Some(seed), trials)
+    }
+
+    fn error_of(&mut self, ran: Ran, seed: Option<u64>, trials: u64) -> ScheduleError {
+        let spelled = spelled(&ran.journal);
+        let trace = ran.events.iter().skip(ran.before).map(|event| event.line(&ran.names, &spelled)).collect();
+        let schedule = words_of(&ran.order, &ran.names);
+        let script = script_of(&ran, &spelled);
+        let fault = ran.fault.unwrap_or_else(|| ScheduleFault::NoPlan("the run is well".to_owned()));
+        ScheduleError(Box::new(FailedRun { fault, seed, schedule, trials, trace, journal: ran.journal, script }))
+    }
+}
+
+/// Orders that let one thread go to its end behind some events of another.
+fn alone(ran: &Ran) -> Vec<Vec<usize>> {
+    let count = |thread: usize| ran.order.iter().filter(|other| **other == thread).count();
+    let threads = 0..ran.names.len();
+    let pairs = threads.clone().flat_map(|one| threads.clone().map(move |other| (one, other)));
+    let orders = pairs.filter(|(one, other)| one != other).flat_map(|(one, other)| {
+        (0..=count(one)).map(move |events| [vec![one; events], vec![other; ran.order.len()]].concat())
+    });
+    orders.collect()
+}
+
+/// Orders with fewer switches: without one of its blocks, whose thread then goes on later, or with two blocks
+/// exchanged, so that those round them are one.
+fn fewer(order: &[usize]) -> Vec<Vec<usize>> {
+    let mut blocks: Vec<Vec<usize>> = Vec::new();
+    for thread in order {
+        match blocks.last_mut() {
+            Some(block) if block[0] == *thread => block.push(*thread),
+            _ => blocks.push(vec![*thread]),
+        }
+    }
+    let prefixes = (0..blocks.len()).map(|end| blocks[..end].concat());
+    let without = (0..blocks.len()).map(|at| [&blocks[..at], &blocks[at + 1..]].concat().concat());
+    let exchanged = (1..blocks.len()).map(|at| {
+        let mut blocks = blocks.clone();
+        blocks.swap(at - 1, at);
+        blocks.concat()
+    });
+    prefixes.chain(without).chain(exchanged).collect()
+}
+
+/// The calls of a journal, as they are spelled there, by their numbers.
+fn spelled(journal: &str) -> BTreeMap<u64, String> {
+    let begun = journal.lines().filter_map(|line| {
+        let mut words = line.strip_prefix("begin ")?.splitn(3, ' ');
+        let number = words.next()?.parse().ok()?;
+        Some((number, words.nth(1)?.to_owned()))
+    });
+    begun.collect()
+}
+
+/// The script whose run has the journal of a run.
+fn script_of(ran: &Ran, spelled: &BTreeMap<u64, String>) -> Option<String> {
+    let version = ran.journal.lines().next()?.strip_prefix("atomfs-journal ")?.parse::<u32>().ok()?;
+    let mut names = ran.names.clone();
+    names.push(BEFORE.to_owned());
+    let mut calls = vec![Vec::new(); names.len()];
+    for event in ran.events.iter().filter(|event| event.is_begin()) {
+        calls[event.thread].push(spelled.get(&event.call)?.as_str());
+    }
+    // Journals by the first limits have the version 1, or 2 where they begin at a tree.
+    let mut script = format!("atomfs {}\n", if version < 3 { 1 } else { version - 1 });
+    // The tree's own calls have the first seat.
+    names.rotate_right(1);
+    calls.rotate_right(1);
+    for (name, calls) in names.iter().zip(&calls) {
+        script += &format!("thread {name}\n");
+        calls.iter().for_each(|call| script += &format!("{call}\n"));
+    }
+    let order: Vec<usize> = ran.events.iter().map(|event| (event.thread + 1) % names.len()).collect();
+    script += "schedule\n";
+    words_of(&order, &names).split(' ').for_each(|word| script += &format!("{word}\n"));
+    script += "finish\n";
+    texts::run(&script).ok()?.starts_with(&ran.journal).then_some(script)
+}
+
+/// What a function returns, or the words of its panic, which are not shown.
+fn quiet<T>(function: impl FnOnce() -> T) -> Result<T, String> {
+    crate::baton::quietly(|| panic::catch_unwind(AssertUnwindSafe(function)))
+        .map_err(|payload: Box<dyn Any + Send>| words_of_panic(payload.as_ref()))
+}
+
+fn words_of_panic(payload: &(dyn Any + Send)) -> String {
+    if payload.is::<Stopped>() {
+        return "it was stopped".to_owned();
+    }
+    let words = payload.downcast_ref::<&str>().map(|words| (*words).to_owned());
+    let words = words.or_else(|| payload.downcast_ref::<String>().cloned());
+    let words = words.unwrap_or_else(|| "it panicked".to_owned());
+    match crate::baton::place_of_panic() {
+        Some(place) => format!("{words} ({place})"),
+        None => words,
+    }
+}
+
+/// A line of a source, without the folders above it that all share.
+pub(crate) fn place_of(at: &Location<'_>) -> String {
+    format!("{}:{}", at.file(), at.line())
+}
