@@ -12,7 +12,18 @@ FILES = "/src/lib/io/read.c /src/main.c /tmp/build/main.o /doc/index.html".split
 NODES = "/src /src/lib /src/lib/io /src/lib/io/read.c /src/main.c /tmp /tmp/build /tmp/build/main.o /doc /doc/index.html".split()
 NAMES = "/src /old /src/lib /tmp/lib /tmp /tmp/build /src/build /doc /tmp/doc".split()
 # How many of a hundred calls each is, and how many calls each thread has.
-SHARES = {"mkdir": 14, "mknod": 10, "rename": 16, "write": 8, "read": 10, "readdir": 10, "stat": 16, "unlink": 5, "rmdir": 5, "truncate": 6}
+SHARES = {
+    "mkdir": 14,
+    "mknod": 10,
+    "rename": 16,
+    "write": 8,
+    "read": 10,
+    "readdir": 10,
+    "stat": 16,
+    "unlink": 5,
+    "rmdir": 5,
+    "truncate": 6,
+}
 KINDS = [kind for kind, share in SHARES.items() for _ in range(share)]
 CALLS = 40, 12, 33, 5, 41, 27, 19, 48
 # How many threads the crowd has.
@@ -21,7 +32,9 @@ CROWD = 240
 
 def text(name, threads):
     """The script of some threads, which are called by this name and their number."""
-    blocks = "".join(f"thread {name}{number}\n" + "".join(f"{line}\n" for line in lines) for number, lines in enumerate(threads))
+    blocks = "".join(
+        f"thread {name}{number}\n" + "".join(f"{line}\n" for line in lines) for number, lines in enumerate(threads)
+    )
     return f"atomfs 1\n{blocks}schedule\nfinish\n".encode()
 
 

@@ -64,19 +64,30 @@ def counted(program, words, text):
         os.symlink(os.path.abspath(program), f"{folder}/atomfs")
         given = pathlib.Path(folder, "given")
         given.write_bytes(text)
-        valgrind = [shutil.which("valgrind") or "valgrind", "--tool=callgrind", f"--callgrind-out-file={os.devnull}", *CACHE]
+        valgrind = [
+            shutil.which("valgrind") or "valgrind",
+            "--tool=callgrind",
+            f"--callgrind-out-file={os.devnull}",
+            *CACHE,
+        ]
         with given.open("rb") as source:
-            done = subprocess.run([*valgrind, "./atomfs", *words], stdin=source, capture_output=True, cwd=folder, env={"PATH": os.defpath})
+            done = subprocess.run(
+                [*valgrind, "./atomfs", *words], stdin=source, capture_output=True, cwd=folder, env={"PATH": os.defpath}
+            )
     # Instructions, reads, writes, and at the first level misses of instructions, of reads and of writes.
     found = re.search(rb"Collected : (\d+) \d+ \d+ \d+ (\d+) (\d+)", done.stderr)
     if done.returncode or not found:
-        sys.exit(f"valgrind {program} {' '.join(words)}: status {done.returncode}\n{done.stderr.decode(errors='replace')}")
+        sys.exit(
+            f"valgrind {program} {' '.join(words)}: status {done.returncode}\n{done.stderr.decode(errors='replace')}"
+        )
     return Counted(int(found[1]), int(found[2]) + int(found[3]), done.stdout)
 
 
 def seeds(program, name):
     """Drawn runs of a stored script."""
-    drawn = counted(program, ("seeds", "--seed", "1", "--runs", str(RUNS[name])), (HERE / f"{name}.script").read_bytes())
+    drawn = counted(
+        program, ("seeds", "--seed", "1", "--runs", str(RUNS[name])), (HERE / f"{name}.script").read_bytes()
+    )
     if drawn.said.count(b" lawful\n") != RUNS[name]:
         sys.exit(f"seeds {name}: a run is not lawful")
     return drawn.of(f"seeds {name}")
@@ -95,7 +106,10 @@ def counts(program):
     """The instructions of each job by its name, and its misses."""
     makers = (workloads.few, workloads.broad, workloads.wide, workloads.deep, workloads.pieces, workloads.moves)
     with concurrent.futures.ThreadPoolExecutor(os.cpu_count()) as pool:
-        parts = [*(pool.submit(seeds, program, name) for name in RUNS), *(pool.submit(texts, program, make) for make in makers)]
+        parts = [
+            *(pool.submit(seeds, program, name) for name in RUNS),
+            *(pool.submit(texts, program, make) for make in makers),
+        ]
         return {job: count for part in parts for job, count in part.result().items()}
 
 
@@ -132,7 +146,9 @@ class Block(typing.NamedTuple):
     counts: dict[str, int]
 
     def __str__(self):
-        return "\n".join([*self.machine, f"commit {self.commit}", *(f"{count:>12,} {job}" for job, count in self.counts.items()), ""])
+        return "\n".join(
+            [*self.machine, f"commit {self.commit}", *(f"{count:>12,} {job}" for job, count in self.counts.items()), ""]
+        )
 
 
 def read(text):
@@ -143,7 +159,11 @@ def read(text):
 
 def block(lines):
     counts = dict(reversed(line.split(maxsplit=1)) for line in lines[4:])
-    return Block(tuple(lines[:3]), lines[3].removeprefix("commit "), {job: int(count.replace(",", "")) for job, count in counts.items()})
+    return Block(
+        tuple(lines[:3]),
+        lines[3].removeprefix("commit "),
+        {job: int(count.replace(",", "")) for job, count in counts.items()},
+    )
 
 
 def written(blocks):

@@ -28,7 +28,8 @@ static long peak(void) { return used().ru_maxrss; }
 
 static double processor_seconds(void) {
     struct rusage usage = used();
-    return (double)(usage.ru_utime.tv_sec + usage.ru_stime.tv_sec) + (double)(usage.ru_utime.tv_usec + usage.ru_stime.tv_usec) * 1e-6;
+    return (double)(usage.ru_utime.tv_sec + usage.ru_stime.tv_sec) +
+           (double)(usage.ru_utime.tv_usec + usage.ru_stime.tv_usec) * 1e-6;
 }
 
 static uint8_t call_line(int length) {

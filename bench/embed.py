@@ -3,13 +3,20 @@ checkpoints alone.
 
 With CALLS alone also what files of others take by the same words: a directory on tmpfs, pyfakefs, PyFilesystem2's and fsspec's memory, each beside
 the tree by these words. Of them those are left out, and told, that are not there: Debian's python3-pyfakefs, python3-fs, python3-fsspec.
+With --beside CALLS these alone, word by word and by turns: of each word the processor time of so many, the least of five turns, in microseconds,
+and as a ratio to the first of its table.
+
+The extension of the package is built for it, where this Python takes one; with ATOMFS_PURE=1 calls go by ctypes.
 """
+import atexit
 import builtins
 import contextlib
 import importlib.util
 import os
 import pathlib
 import resource
+import shutil
+import subprocess
 import sys
 import tempfile
 import time
@@ -17,8 +24,20 @@ import typing
 
 ROOT = pathlib.Path(__file__).resolve().parent.parent
 sys.dont_write_bytecode = True
-sys.path.insert(0, str(ROOT / "bindings" / "python" / "src"))
-os.environ["ATOMFS_LIBRARY"] = sys.argv[1]
+os.environ["ATOMFS_LIBRARY"] = str(pathlib.Path(sys.argv[1]).resolve())
+
+
+def built():
+    """A copy of the package, with its extension."""
+    folder = tempfile.mkdtemp(prefix="atomfs-embed-")
+    atexit.register(shutil.rmtree, folder)
+    made = shutil.copytree(ROOT / "bindings" / "python", f"{folder}/python", ignore=shutil.ignore_patterns("*.abi3.so"))
+    words = sys.executable, "setup.py", "-q", "build_ext", "--inplace"
+    subprocess.run(words, cwd=made, check=True, stdout=subprocess.DEVNULL)
+    return f"{made}/src"
+
+
+sys.path.insert(0, built())
 import atomfs
 
 PIECE, EVERY, EARLY, MOST_KEPT = bytes(k * 7 % 256 for k in range(4000)), 10_000, 100_000, 1_000_000
@@ -129,7 +148,11 @@ def filled(files):
 
 def by_os(of, opened, top):
     """The words of `os` and `open`."""
-    names = (lambda path: of.mknod(top + path), lambda path: of.stat(top + path), lambda path, other: of.rename(top + path, top + other))
+    names = (
+        lambda path: of.mknod(top + path),
+        lambda path: of.stat(top + path),
+        lambda path, other: of.rename(top + path, top + other),
+    )
     return filled(Files(*names, lambda path: of.remove(top + path), opened(f"{top}/f", "w+b", buffering=0)))
 
 
@@ -212,17 +235,236 @@ def measure_others(calls):
         if importlib.util.find_spec(module) is None:
             print(f"Python  {words}, {of}: there is no {module}")
             continue
-        for kind, call, part in (("names", names_of_files, 1), ("writes", write_of_files, 8), ("reads", read_of_files, 8)):
+        for kind, call, part in (
+            ("names", names_of_files, 1),
+            ("writes", write_of_files, 8),
+            ("reads", read_of_files, 8),
+        ):
             measure(f"{kind}, {words}, {of}", opened, call, calls // part)
 
 
 def measure_all(calls):
     by_lines = lines()
     library = by_lines.Library(sys.argv[1])
-    kinds = ("names", names_by_lines, names_typed, 1), ("writes", write_by_line, write_typed, 8), ("reads", read_by_line, read_typed, 8)
+    kinds = (
+        ("names", names_by_lines, names_typed, 1),
+        ("writes", write_by_line, write_typed, 8),
+        ("reads", read_by_line, read_typed, 8),
+    )
     for name, one, other, part in kinds:
         measure(f"{name}, lines", lambda: tree_of_lines(by_lines, library), one, calls // part)
         measure(f"{name}, typed", typed_tree, other, calls // part)
+
+
+# ---- Word by word, by turns
+
+TURNS, SMALL, LISTED = 5, PIECE[:64], 20
+
+
+def words_of_os(of, opened, top):
+    """What programs ask of `os` and `open`, below a directory that is there."""
+    of.mkdir(f"{top}/d")
+    for name in (f"{top}/f", *(f"{top}/d/{number}" for number in range(LISTED))):
+        with opened(name, "wb") as file:
+            file.write(bytes(64_000 if name == f"{top}/f" else 0))
+
+    def missing():
+        with contextlib.suppress(FileNotFoundError):
+            of.stat(f"{top}/d/none")
+
+    def names():
+        of.mkdir(f"{top}/a")
+        of.stat(f"{top}/a")
+        of.rename(f"{top}/a", f"{top}/b")
+        of.rmdir(f"{top}/b")
+
+    def read(size):
+        with opened(f"{top}/f", "rb") as file:
+            file.read(size)
+
+    def write(data):
+        with opened(f"{top}/f", "r+b") as file:
+            file.write(data)
+
+    def rename():
+        of.rename(f"{top}/d/0", f"{top}/d/new")
+        of.rename(f"{top}/d/new", f"{top}/d/0")
+
+    def scan():
+        with of.scandir(f"{top}/d") as entries:
+            return sum(entry.is_file() for entry in entries)
+
+    return {
+        "stat": lambda: of.stat(f"{top}/f"),
+        "stat, missing": missing,
+        "mkdir to rmdir": names,
+        "2 renames": rename,
+        "listdir of 20": lambda: of.listdir(f"{top}/d"),
+        "scandir, is_file": scan,
+        "open, read 64": lambda: read(64),
+        "open, read 4,000": lambda: read(4_000),
+        "open, write 64": lambda: write(SMALL),
+        "open, write 4,000": lambda: write(PIECE),
+    }
+
+
+def words_of_descriptors(top):
+    """The calls of a tree, by the words of `os` that are next to them."""
+
+    def opened(flags, call, *given):
+        file = os.open(f"{top}/f", flags)
+        call(file, *given)
+        os.close(file)
+
+    of = words_of_os(os, open, top)
+    return {name: of[name] for name in ("stat", "stat, missing", "mkdir to rmdir", "2 renames", "listdir of 20")} | {
+        "read 64": lambda: opened(os.O_RDONLY, os.pread, 64, 8_000),
+        "read 4,000": lambda: opened(os.O_RDONLY, os.pread, 4_000, 8_000),
+        "write 64": lambda: opened(os.O_WRONLY, os.pwrite, SMALL, 8_000),
+        "write 4,000": lambda: opened(os.O_WRONLY, os.pwrite, PIECE, 8_000),
+    }
+
+
+def words_of_tree(tree):
+    tree.mkdir("/d")
+    tree.write_bytes("/f", bytes(64_000))
+    for number in range(LISTED):
+        tree.mknod(f"/d/{number}")
+
+    def missing():
+        with contextlib.suppress(FileNotFoundError):
+            tree.stat("/d/none")
+
+    def names():
+        tree.mkdir("/a")
+        tree.stat("/a")
+        tree.rename("/a", "/b")
+        tree.rmdir("/b")
+
+    def rename():
+        tree.rename("/d/0", "/d/new")
+        tree.rename("/d/new", "/d/0")
+
+    return {
+        "stat": lambda: tree.stat("/f"),
+        "stat, missing": missing,
+        "mkdir to rmdir": names,
+        "2 renames": rename,
+        "listdir of 20": lambda: tree.listdir("/d"),
+        "read 64": lambda: tree.read("/f", 8_000, 64),
+        "read 4,000": lambda: tree.read("/f", 8_000, 4_000),
+        "write 64": lambda: tree.write("/f", 8_000, SMALL),
+        "write 4,000": lambda: tree.write("/f", 8_000, PIECE),
+    }
+
+
+def words_of_files(files):
+    """The words of PyFilesystem2 or fsspec, with a file that is open."""
+
+    def names():
+        files.make("/a")
+        files.ask("/a")
+        files.move("/a", "/b")
+        files.remove("/b")
+
+    def at(call, *given):
+        files.file.seek(8_000)
+        call(*given)
+
+    return {
+        "make, ask, move, remove": names,
+        "read 4,000": lambda: at(files.file.read, 4_000),
+        "write 4,000": lambda: at(files.file.write, PIECE),
+    }
+
+
+@contextlib.contextmanager
+def on_a_folder(words, patched=False):
+    with tempfile.TemporaryDirectory(dir="/dev/shm") as folder, contextlib.ExitStack() as stack:
+        if patched:
+            stack.enter_context(atomfs.patch(stack.enter_context(atomfs.Tree()), "/sandbox"))
+        yield words(os, builtins.open, folder) if words is words_of_os else words(folder)
+
+
+@contextlib.contextmanager
+def in_a_patch():
+    with atomfs.Tree(journal=atomfs.LAST(EVERY)) as tree, atomfs.patch(tree, "/sandbox"):
+        yield words_of_os(os, builtins.open, "/sandbox")
+
+
+@contextlib.contextmanager
+def in_pyfakefs():
+    from pyfakefs import fake_filesystem
+
+    files = fake_filesystem.FakeFilesystem()
+    files.create_dir("/top")
+    yield words_of_os(fake_filesystem.FakeOsModule(files), fake_filesystem.FakeFileOpen(files), "/top")
+
+
+@contextlib.contextmanager
+def in_a_tree():
+    with atomfs.Tree(journal=atomfs.LAST(EVERY)) as tree:
+        yield words_of_tree(tree)
+
+
+@contextlib.contextmanager
+def in_files(opened):
+    with opened() as (files,):
+        yield words_of_files(files)
+
+
+TABLES = {
+    "Tree beside os": (
+        ("tmpfs", lambda: on_a_folder(words_of_descriptors), "os"),
+        ("Tree", in_a_tree, "os"),
+    ),
+    "a patch beside the disk": (
+        ("tmpfs", lambda: on_a_folder(words_of_os), "os"),
+        ("a patch", in_a_patch, "os"),
+        ("disk in a patch", lambda: on_a_folder(words_of_os, True), "os"),
+        ("pyfakefs", in_pyfakefs, "pyfakefs"),
+    ),
+    "PyFilesystem2": (
+        ("MemoryFS", lambda: in_files(of_memoryfs), "fs"),
+        ("AtomFS", lambda: in_files(of_atomfs), "fs"),
+    ),
+    "fsspec": (
+        ("memory", lambda: in_files(of_fsspec), "fsspec"),
+        ("atomfs", lambda: in_files(of_atomfilesystem), "fsspec"),
+    ),
+}
+
+
+def least_of_turns(sides, calls):
+    """Of each side and word the least processor time of a turn, a call, in microseconds. What stands for a side alone stands in its turns alone."""
+    least = {}
+    for _ in range(TURNS):
+        for side, opened, _ in sides:
+            with opened() as words:
+                for word, call in words.items():
+                    began = time.process_time()
+                    for _ in range(calls):
+                        call()
+                    spent = (time.process_time() - began) * 1e6 / calls
+                    least[side, word] = min(spent, least.get((side, word), spent))
+    return least
+
+
+def measure_beside(calls):
+    print(f"by {atomfs.binding()}; microseconds, least of {TURNS} turns of {calls}, and over the first")
+    for title, sides in TABLES.items():
+        there = [side for side in sides if importlib.util.find_spec(side[2]) is not None]
+        for side in sides:
+            if side not in there:
+                print(f"{title}: there is no {side[2]}")
+        if len(there) < 2:
+            continue
+        least = least_of_turns(there, calls)
+        print(f"{title:24}", *(f"{side[0]:>20}" for side in there))
+        for word in dict.fromkeys(word for _, word in least):
+            first = least[there[0][0], word]
+            row = (f"{least[side[0], word]:11.2f} ({least[side[0], word] / first:5.2f})" for side in there)
+            print(f"{word:24}", *(f"{one:>20}" for one in row), flush=True)
 
 
 def peak():
@@ -250,13 +492,17 @@ def run_long(calls, journal):
             if i + 1 == EARLY:
                 early = peak()
         spent = time.process_time() - began
-    print(f"Python  {calls} calls, {journal}: {spent * 1e9 / calls:.0f} ns a call; {early} KiB after {EARLY}, at most {peak()} KiB")
+    print(
+        f"Python  {calls} calls, {journal}: {spent * 1e9 / calls:.0f} ns a call; {early} KiB after {EARLY}, at most {peak()} KiB"
+    )
 
 
 if sys.argv[2] == "--long":
     given = int(sys.argv[3])
     for journal, calls in ((FORGOTTEN, given), (HANDED_OUT, given), (KEPT, min(given, MOST_KEPT))):
         run_long(calls, journal)
+elif sys.argv[2] == "--beside":
+    measure_beside(int(sys.argv[3]))
 elif sys.argv[2] == "--checkpoints":
     run_long(int(sys.argv[3]), HANDED_OUT)
 else:

@@ -6,7 +6,13 @@ import sys
 sys.path.insert(0, str(pathlib.Path(__file__).resolve().parent.parent / "tests"))
 import model
 
-KINDS = ["mkdir"] * 5 + ["mknod"] * 3 + ["unlink", "rmdir"] + ["rename"] * 5 + ["stat", "stat", "readdir", "readdir", "read", "write", "write", "truncate"]
+KINDS = (
+    ["mkdir"] * 5
+    + ["mknod"] * 3
+    + ["unlink", "rmdir"]
+    + ["rename"] * 5
+    + ["stat", "stat", "readdir", "readdir", "read", "write", "write", "truncate"]
+)
 NAMES = "abcdefghijkl"
 
 

@@ -1,8 +1,10 @@
 // A plain tree on hash maps, with no locks, no steps and no proof: what the program is measured against.
 //
 // plain run < SCRIPT: the run text of a script of one thread that ends in `finish`, as `atomfs run` writes it.
-// plain check < JOURNAL: reads a journal, replays the commits and compares the replies: `lawful`, or `fault` and a place.
-// plain threads < SCRIPT: each thread's calls on a thread of its own; one mutex, taken at each event: how many calls, and in how many microseconds.
+// plain check < JOURNAL: reads a journal, replays the commits and compares the replies: `lawful`, or `fault` and a
+// place.
+// plain threads < SCRIPT: each thread's calls on a thread of its own; one mutex, taken at each event: how many calls,
+// and in how many microseconds.
 use std::collections::HashMap;
 use std::hint::black_box;
 use std::io::{Read, Write};
@@ -46,9 +48,8 @@ struct Tree {
 
 type Answer = Result<Reply, &'static str>;
 
-const ERRORS: [&str; 10] = [
-    "ENOENT", "ENOTDIR", "EEXIST", "ENOTEMPTY", "EISDIR", "EINVAL", "EBUSY", "EPERM", "ENOSPC", "EFBIG",
-];
+const ERRORS: [&str; 10] =
+    ["ENOENT", "ENOTDIR", "EEXIST", "ENOTEMPTY", "EISDIR", "EINVAL", "EBUSY", "EPERM", "ENOSPC", "EFBIG"];
 const ENTRIES: usize = if cfg!(large) { usize::MAX } else { 256 };
 const BYTES: u64 = if cfg!(large) { u64::MAX } else { 65_536 };
 
@@ -554,7 +555,9 @@ impl Shared {
 fn steps(call: &Call) -> usize {
     let depth = |path: &[u8]| names(path).count();
     match call {
-        Call::Stat(p) | Call::Readdir(p) | Call::Read(p, ..) | Call::Write(p, ..) | Call::Truncate(p, _) => 3 + 2 * depth(p),
+        Call::Stat(p) | Call::Readdir(p) | Call::Read(p, ..) | Call::Write(p, ..) | Call::Truncate(p, _) => {
+            3 + 2 * depth(p)
+        }
         Call::Mkdir(p) | Call::Mknod(p) | Call::Unlink(p) | Call::Rmdir(p) => 1 + 2 * depth(p),
         Call::Rename(p, q) | Call::Exchange(p, q) => 3 + 2 * depth(p).max(depth(q)),
     }

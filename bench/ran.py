@@ -7,7 +7,9 @@ import time
 import typing
 
 # ATOMFS names another program than the one that is built here.
-PROGRAM = os.environ.get("ATOMFS", str(pathlib.Path(__file__).resolve().parent.parent / "crates" / "atomfs" / "out" / "atomfs"))
+PROGRAM = os.environ.get(
+    "ATOMFS", str(pathlib.Path(__file__).resolve().parent.parent / "crates" / "atomfs" / "out" / "atomfs")
+)
 
 
 class Ran(typing.NamedTuple):

@@ -99,9 +99,13 @@ static const char *told_made(uint8_t status, const struct node *node) {
     return told(status, node);
 }
 
-static const char *tree_make_dir(const struct node *node) { return told_made(atomfs_mkdir(&fs, seat, node->path, node->length, &number), node); }
+static const char *tree_make_dir(const struct node *node) {
+    return told_made(atomfs_mkdir(&fs, seat, node->path, node->length, &number), node);
+}
 
-static const char *tree_make_file(const struct node *node) { return told_made(atomfs_mknod(&fs, seat, node->path, node->length, &number), node); }
+static const char *tree_make_file(const struct node *node) {
+    return told_made(atomfs_mknod(&fs, seat, node->path, node->length, &number), node);
+}
 
 static const char *tree_open_file(const struct node *node) {
     (void)node;
@@ -138,13 +142,15 @@ static const char *tree_entries(const struct node *node, uint64_t *count) {
     uint64_t piece_count;
     last[0] = '/';
     if (version != ATOMFS_V3) {
-        const char *why = told(atomfs_readdir(&fs, seat, node->path, node->length, names, sizeof names, &length, &number), node);
+        const char *why =
+            told(atomfs_readdir(&fs, seat, node->path, node->length, names, sizeof names, &length, &number), node);
         *count = why == NULL ? told_names(length, &last_length) : 0;
         return why;
     }
     *count = 0;
     do {
-        uint8_t status = atomfs_list(&fs, seat, node->path, node->length, last, last_length, ATOMFS_LIST_LIMIT, names, sizeof names, &length, &number);
+        uint8_t status = atomfs_list(&fs, seat, node->path, node->length, last, last_length, ATOMFS_LIST_LIMIT, names,
+                                     sizeof names, &length, &number);
         const char *why = told(status, node);
         if (why != NULL) return why;
         *count += piece_count = told_names(length, &last_length);
@@ -155,7 +161,8 @@ static const char *tree_entries(const struct node *node, uint64_t *count) {
 
 static void tree_end_file(void) {}
 
-static const struct holder tree = { tree_make_dir, tree_make_file, tree_open_file, tree_write, tree_read, tree_entries, tree_end_file };
+static const struct holder tree = { tree_make_dir, tree_make_file, tree_open_file, tree_write,
+                                    tree_read,     tree_entries,   tree_end_file };
 
 /* ---- A folder, as of tmpfs */
 
@@ -205,7 +212,8 @@ static const char *folder_entries(const struct node *node, uint64_t *count) {
 
 static void folder_end_file(void) { close(file); }
 
-static const struct holder of_folder = { folder_make_dir, folder_make_file, folder_open_file, folder_write, folder_read, folder_entries, folder_end_file };
+static const struct holder of_folder = { folder_make_dir, folder_make_file, folder_open_file, folder_write,
+                                         folder_read,     folder_entries,   folder_end_file };
 
 /* ---- The list, and the files of the disk */
 
@@ -226,7 +234,7 @@ static void read_list(const char *path) {
         if (many == room) nodes = realloc(nodes, (room = 2 * room + 64) * sizeof *nodes);
         if (nodes == NULL) stop(path, "out of memory");
         struct node *node = &nodes[many++];
-        *node = (struct node) { .kind = text[at], .path = text + at + 1, .length = strlen(text + at + 1) };
+        *node = (struct node){ .kind = text[at], .path = text + at + 1, .length = strlen(text + at + 1) };
         at += node->length + 2;
         if (node->kind == 'f') {
             node->size = strtoull(text + at, NULL, 10);

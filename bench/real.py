@@ -27,7 +27,9 @@ def read_list(path):
     nodes, words = [], iter(words)
     for word in words:
         is_dir, path = word[:1] == b"d", word[1:]
-        nodes.append(Node(is_dir, path.decode("utf-8", "surrogateescape"), folder + path, 0 if is_dir else int(next(words))))
+        nodes.append(
+            Node(is_dir, path.decode("utf-8", "surrogateescape"), folder + path, 0 if is_dir else int(next(words)))
+        )
     nodes[0].is_in = True
     return nodes
 
@@ -141,7 +143,11 @@ def holder_of(what, limits, folder):
         import atomfs
 
         tree = atomfs.Tree(limits=atomfs.Limits[limits])
-        return OfTree(tree) if what == "tree" else BeginningAgain(tree, tree.checkpoint if what == "checkpoints" else tree.forget)
+        return (
+            OfTree(tree)
+            if what == "tree"
+            else BeginningAgain(tree, tree.checkpoint if what == "checkpoints" else tree.forget)
+        )
     if what == "folder":
         return Folder(os, open, folder)
     if what == "MemoryFS":
@@ -266,7 +272,14 @@ def main():
         clocks.append(time.process_time())
         held.append(most_held())
     again = getattr(played.holder, "times", 0), getattr(played.holder, "seconds", 0.0)
-    print("used", played.calls, *(f"{end - begin:.6f}" for begin, end in zip(clocks, clocks[1:])), *held, again[0], f"{again[1]:.6f}")
+    print(
+        "used",
+        played.calls,
+        *(f"{end - begin:.6f}" for begin, end in zip(clocks, clocks[1:])),
+        *held,
+        again[0],
+        f"{again[1]:.6f}",
+    )
 
 
 main()

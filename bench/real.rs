@@ -1,5 +1,5 @@
-// Plays a list of bench/real into the tree of plain.rs, its limits raised (--cfg large), and reads all back: real LIST. What a list is,
-// and what is printed: real.c.
+// Plays a list of bench/real into the tree of plain.rs, its limits raised (--cfg large), and reads all back: real LIST.
+// What a list is, and what is printed: real.c.
 #[allow(dead_code)]
 mod plain {
     include!("plain.rs");
@@ -65,7 +65,8 @@ mod plain {
             }
         }
 
-        /// Makes all, each directory before what is in it, and answers how many calls that were, and how much is in each.
+        /// Makes all, each directory before what is in it, and answers how many calls that were, and how much is in
+        /// each.
         fn make(tree: &mut Tree, list: &List, piece: &mut [u8]) -> usize {
             let mut calls = 0;
             for node in &list.nodes[1..] {
@@ -111,7 +112,8 @@ mod plain {
             for (at, node) in list.nodes.iter().enumerate() {
                 let is_same = if node.is_dir {
                     calls += 1;
-                    matches!(tree.find(&node.path), Ok(found) if tree.dir(found).is_ok_and(|entries| entries.len() == node.held))
+                    let entries = tree.find(&node.path).and_then(|found| tree.dir(found));
+                    entries.is_ok_and(|entries| entries.len() == node.held)
                 } else {
                     let reads = compared(tree, list, node, pieces);
                     calls += reads.unwrap_or(1);
@@ -124,7 +126,8 @@ mod plain {
             calls
         }
 
-        /// Notes of each directory how many entries it has: a node is in the last directory before it with one name less.
+        /// Notes of each directory how many entries it has: a node is in the last directory before it with one name
+        /// less.
         fn count_entries(nodes: &mut [Listed]) {
             let mut above: Vec<usize> = Vec::new();
             for at in 0..nodes.len() {
@@ -141,7 +144,13 @@ mod plain {
 
         fn most_held() -> String {
             let status = std::fs::read_to_string("/proc/self/status").unwrap();
-            status.lines().find_map(|line| line.strip_prefix("VmHWM:")).unwrap().trim_end_matches("kB").trim().to_string()
+            status
+                .lines()
+                .find_map(|line| line.strip_prefix("VmHWM:"))
+                .unwrap()
+                .trim_end_matches("kB")
+                .trim()
+                .to_string()
         }
 
         pub fn play(path: &str) {
@@ -161,7 +170,8 @@ mod plain {
             note(&mut clocks);
             calls += back(&mut tree, &list, &mut pieces);
             note(&mut clocks);
-            let seconds: Vec<String> = clocks.windows(2).map(|two| format!("{:.6}", (two[1] - two[0]) as f64 / 1e6)).collect();
+            let seconds: Vec<String> =
+                clocks.windows(2).map(|two| format!("{:.6}", (two[1] - two[0]) as f64 / 1e6)).collect();
             println!("used {calls} {} {} 0 0", seconds.join(" "), held.join(" "));
         }
     }

@@ -1,6 +1,7 @@
 // A std::sync::RwLock round the tree of plain.rs: what the observers of crates/bench are measured against.
 //
-// rwlock READS: the reads a second of 1, 2 and 4 readers, so many each, beside a writer that sleeps 100 microseconds between two calls.
+// rwlock READS: the reads a second of 1, 2 and 4 readers, so many each, beside a writer that sleeps 100 microseconds
+// between two calls.
 #[allow(dead_code)]
 mod plain {
     include!("plain.rs");
@@ -53,7 +54,9 @@ mod plain {
         /// How long so many readers take.
         pub fn timed(readers: u64, reads: u64) -> Duration {
             let mut tree = Tree::new();
-            for call in [Call::Mkdir(b"/a".to_vec()), Call::Mkdir(b"/a/b".to_vec()), Call::Mknod(FILE.to_vec()), write()] {
+            for call in
+                [Call::Mkdir(b"/a".to_vec()), Call::Mkdir(b"/a/b".to_vec()), Call::Mknod(FILE.to_vec()), write()]
+            {
                 tree.apply(&call);
             }
             let (tree, reading) = (RwLock::new(tree), AtomicU64::new(readers));

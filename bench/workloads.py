@@ -29,7 +29,9 @@ def few(calls):
         elif kind < 0.28:
             lines.append(f"truncate {draw.choice(files or ['/x'])} {draw.randrange(200)}")
         elif kind < 0.45:
-            lines.append(f"write {draw.choice(files or ['/x'])} {draw.randrange(200)} {draw.randbytes(draw.randrange(1, 100)).hex()}")
+            lines.append(
+                f"write {draw.choice(files or ['/x'])} {draw.randrange(200)} {draw.randbytes(draw.randrange(1, 100)).hex()}"
+            )
         elif kind < 0.67:
             lines.append(f"read {draw.choice(files or ['/x'])} {draw.randrange(100)} {draw.randrange(300)}")
         elif kind < 0.72:
@@ -137,7 +139,11 @@ def exchanges(calls):
     draw = random.Random(8)
     dirs = [f"/top{above}/dir{number}" for above in range(8) for number in range(16)]
     files = [f"{path}/file{number}" for path in dirs for number in range(8)]
-    lines = [f"mkdir /top{above}" for above in range(8)] + [f"mkdir {path}" for path in dirs] + [f"mknod {path}" for path in files]
+    lines = (
+        [f"mkdir /top{above}" for above in range(8)]
+        + [f"mkdir {path}" for path in dirs]
+        + [f"mknod {path}" for path in files]
+    )
     while len(lines) < calls:
         kind, file = draw.random(), draw.choice(files)
         if kind < 0.2:
@@ -156,7 +162,17 @@ def exchanges(calls):
 def threads(count, calls):
     """So many threads, each with so many calls over few names, for drawn schedules."""
     draw, lines = random.Random(3), ["atomfs 1"]
-    kinds = ["mkdir /a", "mknod /a/b", "stat /a/b", "write /a/b 0 6869", "read /a/b 0 8", "readdir /a", "rename /a /c", "unlink /c/b", "rename /c /a"]
+    kinds = [
+        "mkdir /a",
+        "mknod /a/b",
+        "stat /a/b",
+        "write /a/b 0 6869",
+        "read /a/b 0 8",
+        "readdir /a",
+        "rename /a /c",
+        "unlink /c/b",
+        "rename /c /a",
+    ]
     for number in range(count):
         lines += [f"thread t{number}", *(draw.choice(kinds) for _ in range(calls))]
     return "\n".join([*lines, "schedule", "finish", ""]).encode()

@@ -4,95 +4,32 @@ The functions are those of embed/atomfs.h, lines and texts those of docs/FORMATS
 holds the interpreter's lock (`PyDLL`), so threads may share a `Tree`. Programs use the package of bindings/python.
 """
 import ctypes
-import enum
+import importlib.util
 import os
+import pathlib
 
+_PATH = pathlib.Path(__file__).resolve().parent.parent / "bindings" / "python" / "src" / "atomfs" / "_header.py"
+_SPEC = importlib.util.spec_from_file_location("atomfs_header", _PATH)
+# What the header declares, as embed/header.py has written it for Python.
+header = importlib.util.module_from_spec(_SPEC)
+_SPEC.loader.exec_module(header)
+Status, Did, Schedule, Found, Tell = header.Status, header.Did, header.By, header.Found, header.Tell
+FAILED, VERSION, Handle, Stat = header.FAILED, header.VERSION, header.Handle, header.CStat
 
-class Status(enum.IntEnum):
-    """What a function of the library answers."""
-
-    OK = 0
-    TOO_SMALL = 1
-    UNTOLD = 2
-    WAITS = 3
-    CLOSED = 4
-    ALREADY_OPEN = 5
-    BAD_LIMIT = 6
-    NO_MEMORY = 7
-    NO_SEAT = 8
-    SEAT_BUSY = 9
-    FULL = 10
-    NO_REPLY = 11
-    UNDER_WAY = 12
-    BAD_VERSION = 13
-    NULL = 14
-    BAD_LENGTH = 15
-    BAD_HEADER = 16
-    BAD_LINE = 17
-    BAD_THREAD = 18
-    THREAD_TWICE = 19
-    BAD_PATH = 20
-    BAD_NUMBER = 21
-    BAD_HEX = 22
-    NO_SCHEDULE = 23
-    BAD_WORD = 24
-    TOO_LARGE = 25
-    BAD_REPLY = 26
-    BAD_START = 27
-    PATH_NOT_ABSOLUTE = 28
-    PATH_NUL = 29
-    PATH_NAME_TOO_LONG = 30
-    PATH_TOO_MANY_NAMES = 31
-    PATH_DOT = 32
-    PATH_TRAILING_SLASH = 33
-    NO_CALL = 34
-    BAD_CHOICE = 35
-
-
-# From this status on a call failed, and the rest is the number of its error.
-FAILED = 128
 # By this number a whole text is drawn.
 WHOLE = 2**64 - 1
 # No tree has a seat of this number.
 NO_SEAT = 2**64 - 1
 
 
-class Did(enum.IntEnum):
-    """What a step did."""
-
-    IDLE = 0
-    TAKE = 1
-    WAIT = 2
-    LET_GO = 3
-    HELP = 4
-    COMMIT = 5
-    CARRY_OUT = 6
-    RETURN = 7
-
-
-class Schedule(enum.IntEnum):
-    """By which schedule a script runs."""
-
-    GIVEN = 0
-    ROUND_ROBIN = 1
-    SEEDED = 2
-
-
-class Found(enum.IntEnum):
-    """What came of a history."""
-
-    LAWFUL = 0
-    NO_ORDER = 1
-    NO_HISTORY = 2
-    UNKNOWN = 3
-
-
-class Tell(enum.IntEnum):
-    """What is told of a history that is not lawful."""
-
-    LINE = 0
-    FRONT = 1
-    WORDS = 2
+# What stands in the place of a type of the header, by ctypes.
+TYPES = {
+    **{"Byte": ctypes.c_uint8, "Word": ctypes.c_uint32, "Size": ctypes.c_size_t, "Number": ctypes.c_uint64},
+    **{"Bytes": ctypes.c_char_p, "Room": ctypes.c_char_p, "HandleAt": ctypes.POINTER(Handle)},
+    **{"ByteAt": ctypes.POINTER(ctypes.c_uint8), "SizeAt": ctypes.POINTER(ctypes.c_size_t)},
+    **{"NumberAt": ctypes.POINTER(ctypes.c_uint64), "StatAt": ctypes.POINTER(Stat)},
+    "RequestAt": ctypes.POINTER(header.Request),
+}
 
 
 class Error(Exception):
@@ -103,65 +40,18 @@ class Error(Exception):
         self.status, self.about = Status(status), about
 
 
-class Handle(ctypes.Structure):
-    _fields_ = [("is_open", ctypes.c_uint8), ("most", ctypes.c_uint32), ("at", ctypes.c_void_p)]
-
-
-class Stat(ctypes.Structure):
-    """What stands at a path: whether a directory, and how many entries or bytes it has."""
-
-    _fields_ = [("is_dir", ctypes.c_uint8), ("size", ctypes.c_uint64)]
-
-
 class Library:
     """The shared object at a path."""
 
     def __init__(self, path):
         self.lib = ctypes.PyDLL(path)
-        handle, size, number = ctypes.POINTER(Handle), ctypes.c_size_t, ctypes.c_uint64
-        sizes, numbers = ctypes.POINTER(size), ctypes.POINTER(number)
-        text, told = [ctypes.c_char_p, size], [ctypes.c_char_p, size, sizes]
-        for name, arguments in {
-            "open": [handle, size],
-            "open_with": [handle, size, ctypes.c_uint8],
-            "open_from": [handle, size, ctypes.c_uint8, *text, sizes],
-            "open_at": [handle, size, handle, numbers],
-            "close": [handle],
-            "seat": [handle, numbers],
-            "begin": [handle, number, *text, numbers],
-            "step": [handle, number, ctypes.POINTER(ctypes.c_uint8), numbers],
-            "step_any": [handle, numbers, ctypes.POINTER(ctypes.c_uint8), numbers],
-            "call": [handle, number, *text, *told, numbers],
-            "reply": [handle, number, *told],
-            "journal": [handle, size, *told, sizes],
-            "opening": [handle, *told],
-            "checkpoint": [handle, *told, numbers],
-            "forget": [handle, numbers],
-            "keep": [handle, ctypes.c_uint32],
-            "verdict": [handle, numbers, ctypes.POINTER(ctypes.c_uint8)],
-            "tree": [handle, *told],
-            **{name: [handle, number, *text, numbers] for name in ("mkdir", "mknod", "unlink", "rmdir")},
-            **{name: [handle, number, *text, *text, numbers] for name in ("rename", "exchange")},
-            "stat": [handle, number, *text, ctypes.POINTER(Stat), numbers],
-            "readdir": [handle, number, *text, *told, numbers],
-            "list": [handle, number, *text, *text, ctypes.c_uint32, *told, numbers],
-            "read": [handle, number, *text, number, *told, numbers],
-            "write": [handle, number, *text, number, *text, numbers, numbers],
-            "truncate": [handle, number, *text, number, numbers],
-            "reply_names": [handle, number, *text, *told],
-            "run": [*text, *told],
-            "check": [*text, *told],
-            "trace": [*text, ctypes.c_uint8, number, ctypes.c_uint8, *told],
-            "draw": [*text, ctypes.c_uint8, number, number, *told],
-            "schedule": [*text, ctypes.c_uint8, number, *told],
-            "seeds": [*text, number, number, *told],
-            "linearize": [*text, number, ctypes.c_uint8, *told, ctypes.POINTER(ctypes.c_uint8)],
-            "explain": [*text, *told],
-            "check_path": [*text, ctypes.c_uint8],
-        }.items():
-            function = getattr(self.lib, "atomfs_" + name)
-            function.argtypes, function.restype = arguments, ctypes.c_uint8
-            setattr(self, "atomfs_" + name, function)
+        for name, declared in vars(header.Functions).items():
+            # An archive of the proved functions alone has no others.
+            if not name.startswith("_") and hasattr(self.lib, f"atomfs_{name}"):
+                function = getattr(self.lib, f"atomfs_{name}")
+                kinds = [TYPES[kind] for one, kind in declared.__annotations__.items() if one != "return"]
+                function.argtypes, function.restype = kinds, ctypes.c_uint8
+                setattr(self, f"atomfs_{name}", function)
 
     def text(self, ask, room=4096):
         """The text that a function tells, with as much room as it turns out to want."""

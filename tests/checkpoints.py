@@ -116,17 +116,23 @@ def chain(name, names):
 
 def deep():
     """A tree of 120 directories, each in the one before, made of two branches by a rename; behind it an empty directory."""
-    return [[*chain("a", 60), *chain("b", 60), f"rename /b {'/a' * 60}/c", "mkdir /z"], ["stat /z", f"readdir {'/a' * 60}/c"]]
+    return [
+        [*chain("a", 60), *chain("b", 60), f"rename /b {'/a' * 60}/c", "mkdir /z"],
+        ["stat /z", f"readdir {'/a' * 60}/c"],
+    ]
 
 
 def full():
     """A directory with as many entries as it may have, and a file with as many bytes."""
-    return [[f"mknod /f{number}" for number in range(model.ENTRIES[1])] + [f"truncate /f9 {model.BYTES[1]}"], ["mknod /g", "stat /f9", "write /f9 65535 ff"]]
+    return [
+        [f"mknod /f{number}" for number in range(model.ENTRIES[1])] + [f"truncate /f9 {model.BYTES[1]}"],
+        ["mknod /g", "stat /f9", "write /f9 65535 ff"],
+    ]
 
 
 class Checkpoints(harness.Case):
     def look(self, given, wanted):
-        self.same(given, run(given, "run"), wanted)
+        self.same(given, run(given, "run"), harness.with_line(wanted, given))
         if wanted.output:
             self.same(wanted.output, run(wanted.output, "check"), Outcome(0, b"lawful\n"))
 
@@ -139,8 +145,14 @@ class Checkpoints(harness.Case):
         for words in (("trace",), ("trace", "--every"), ("draw",)):
             came = run(given, *words)
             if harness.compares:
-                count = came.output.splitlines().count(b"checkpoint, the next call is #1") + came.output.count(b'<g class="checkpoint">')
-                self.same(given, (came.status, came.message, bool(came.output), count), (wanted.status, wanted.message, bool(wanted.output), checkpoints))
+                count = came.output.splitlines().count(b"checkpoint, the next call is call 1") + came.output.count(
+                    b'<g class="checkpoint">'
+                )
+                self.same(
+                    given,
+                    (came.status, came.message, bool(came.output), count),
+                    (wanted.status, harness.with_line(wanted, given).message, bool(wanted.output), checkpoints),
+                )
                 if words[0] == "trace":
                     self.same(given, came.output.partition(b"\ntree\n")[2], wanted.output.partition(b"\ntree\n")[2])
 
@@ -152,24 +164,41 @@ class Checkpoints(harness.Case):
         opening = "atomfs-journal 3", "start", "dir /"
         end = "begun 0 committed 0 returned 0"
         rows = (
-            ("back at the root alone", (*MADE_AND_REMOVED, "schedule", "t*12 !checkpoint"), (*opening, "entries", "tree", "dir /", end)),
-            ("more than the root", (*ONE_CALL, "schedule", "t*5 !checkpoint"), (*opening, "dir /a", "entries", "tree", "dir /", "dir /a", end)),
+            (
+                "back at the root alone",
+                (*MADE_AND_REMOVED, "schedule", "t*12 !checkpoint"),
+                (*opening, "entries", "tree", "dir /", end),
+            ),
+            (
+                "more than the root",
+                (*ONE_CALL, "schedule", "t*5 !checkpoint"),
+                (*opening, "dir /a", "entries", "tree", "dir /", "dir /a", end),
+            ),
         )
-        self.each(((name, script(*lines, version=2), Outcome(0, text_of(*wanted))) for name, lines, wanted in rows), self.look)
+        self.each(
+            ((name, script(*lines, version=2), Outcome(0, text_of(*wanted))) for name, lines, wanted in rows), self.look
+        )
 
     def test_drawn_pieces(self):
         """What is drawn has a stream of its own."""
         rows = ((f"script_{number}", drawn_pieces(number), ("", "finish")[number % 2]) for number in range(SCRIPTS))
-        self.each(((name, in_pieces(pieces, word), Outcome(0, piece_text(pieces))) for name, pieces, word in rows), self.look)
+        self.each(
+            ((name, in_pieces(pieces, word), Outcome(0, piece_text(pieces))) for name, pieces, word in rows), self.look
+        )
 
     def test_large_trees(self):
-        self.each(((tree.__name__, in_pieces(tree()), Outcome(0, piece_text(tree()))) for tree in (deep, full)), self.look)
+        self.each(
+            ((tree.__name__, in_pieces(tree()), Outcome(0, piece_text(tree()))) for tree in (deep, full)), self.look
+        )
 
     def test_other_schedules(self):
         """They take no words, and so no checkpoint."""
         words = (("run", "--robin"), ("run", "--seed", "7"), ("seeds", "--seed", "7", "--runs", "3"), ("threads",))
         given, without = (script(*TWO_THREADS, "schedule", *word) for word in (("t*2", "!checkpoint"), ()))
-        self.each(((" ".join(asked), asked) for asked in words), lambda asked: self.same(given, run(given, *asked), run(without, *asked)))
+        self.each(
+            ((" ".join(asked), asked) for asked in words),
+            lambda asked: self.same(given, run(given, *asked), run(without, *asked)),
+        )
 
     def test_a_million(self):
         """Where no call has begun since the last one, a checkpoint copies no tree."""

@@ -4,16 +4,22 @@ what compiles the unproved program is another one there: standin.py.
 import contextlib
 import os
 import pathlib
+import pty
 import re
 import shlex
 import shutil
 import subprocess
 import tempfile
 import unittest
+import unittest.mock
 
 import costs
+import grammar
 import harness
 import model
+import packages
+import progress
+import unproved
 from documents import EXAMPLES, PAGES, spans, table
 from harness import ROOT, Case
 from worked import TOUR
@@ -31,10 +37,22 @@ namer*2 mover*5 writer*2 mover writer*17
 """
 COMMITS = """\
 7 namer#1 commits, adds /a%20b
-11 writer#3 commits, adds /work
-24 mover#2 commits, moves /work to /done
-29 namer#5 commits, moves /a%20b to /%C3%A9
-36 writer#4 commits, fails ENOENT
+11 writer#1 commits, adds /work
+24 mover#1 commits, moves /work to /done
+29 namer#2 commits, moves /a%20b to /%C3%A9
+36 writer#2 commits, fails ENOENT
+"""
+
+# A program that answers requests with their words, and one of them never.
+SLOW = """\
+import sys
+with open(sys.stdin.buffer.readline().decode().strip(), "wb") as answers:
+    while line := sys.stdin.buffer.readline():
+        size, word = line[:-1].decode().split("\\t")
+        while word == "endless":
+            pass
+        answers.write(b"0 %d 0\\n%s" % (len(word), word.encode()))
+        answers.flush()
 """
 
 
@@ -50,7 +68,11 @@ class Clean(Case):
         cls.compiled = cls.folder / "compiled"
         cls.compiled.touch()
         own = {name: value for name, value in os.environ.items() if name not in ("ATOMFS", "LIBATOMFS", "ROW", "CI")}
-        stand_in = {"PROVED": os.path.abspath(harness.program()), "COMPILED": str(cls.compiled), "RT": shutil.which("rt") or "/bin/false"}
+        stand_in = {
+            "PROVED": os.path.abspath(harness.program()),
+            "COMPILED": str(cls.compiled),
+            "RT": shutil.which("rt") or "/bin/false",
+        }
         cls.environment = own | stand_in | {"PATH": f"{tools}:{own['PATH']}"}
 
     def typed(self, command):
@@ -96,7 +118,9 @@ class Clean(Case):
         found = set()
         for path in (*PAGES, *TOUR.glob("*.*")):
             text = path.read_text()
-            typed = spans(text) + [line.lstrip("# ") for line in text.splitlines() if line.lstrip("# ").startswith("examples/run ")]
+            typed = spans(text) + [
+                line.lstrip("# ") for line in text.splitlines() if line.lstrip("# ").startswith("examples/run ")
+            ]
             found.update(command for command in typed if re.fullmatch(r"examples/run [a-z]+( .*)?", command))
         for command in sorted(found):
             words, reads, writes = re.fullmatch(r"examples/run ([^<>]+?)(?: < (\S+))?(?: > (\S+))?", command).groups("")
@@ -106,7 +130,11 @@ class Clean(Case):
     def test_from_a_seed_to_a_picture(self):
         """From drawn runs to a kept one, one command after the other: the later ones read what the earlier ones wrote."""
         script = "< examples/moved_ancestor.script"
-        self.same("seeds", self.succeeds(f"examples/run seeds --seed 1 --runs 3 {script}"), "seed 1 lawful\nseed 2 lawful\nseed 3 lawful\n")
+        self.same(
+            "seeds",
+            self.succeeds(f"examples/run seeds --seed 1 --runs 3 {script}"),
+            "seed 1 lawful\nseed 2 lawful\nseed 3 lawful\n",
+        )
         self.same("schedule", self.succeeds(f"examples/run schedule --seed 7 {script} > kept.script"), "")
         self.same("kept.script", (self.clone / "kept.script").read_text().split("\nschedule\n")[1], WORDS)
         kept = self.succeeds("examples/run run < kept.script")
@@ -132,12 +160,77 @@ class Clean(Case):
 
     def test_each_word(self):
         """`examples/run` takes every command that the program has."""
-        words = re.findall(r"^  (\w+) ", self.succeeds("examples/run help").split("Commands:\n")[1].split("\n\n")[0], re.M)
+        words = re.findall(
+            r"^  (\w+) ", self.succeeds("examples/run help").split("Commands:\n")[1].split("\n\n")[0], re.M
+        )
         self.assertIn("trace", words)
         self.each(((word, word) for word in words if word != "help"), self.word)
 
     def word(self, word):
         self.assertIn(f"Usage: atomfs {word}", self.succeeds(f"examples/run {word} --help"))
+
+    def test_versions(self):
+        """A script of each version runs, and a journal of each is refused as one."""
+        self.each(((header.decode(), header.decode()) for header in grammar.SCRIPTS), self.script_of)
+        self.each(((header.decode(), header.decode()) for header in grammar.JOURNALS), self.journal_of)
+
+    def script_of(self, header):
+        text = f"{header}\nthread a\nmkdir /a\nschedule\nfinish\n"
+        told = self.succeeds(f"printf %s {shlex.quote(text)} | examples/run")
+        self.same(header, told, harness.run(text.encode(), "run").output.decode())
+
+    def journal_of(self, header):
+        done = self.typed(f"echo {shlex.quote(header)} | examples/run")
+        told = (
+            "atomfs: line 1: BadHeader\nexamples/run: standard input: this is a journal: examples/run check reads it\n"
+        )
+        self.same(header, (done.returncode, done.stdout, done.stderr), (3, "", told))
+
+    def test_other_header(self):
+        """A script of no version is refused with the headers that there are."""
+        done = self.typed("echo atomfs 4 | examples/run")
+        last = done.stderr.splitlines()[-1].rpartition(": ")[2]
+        named = [span.encode() for span in spans(last)]
+        self.same("atomfs 4", (done.returncode, named), (3, list(grammar.SCRIPTS)))
+
+    def test_seconds(self):
+        """While a program is compiled a line says how many seconds that has taken: on a terminal in one line, which is gone at the end, else in lines."""
+        ask = "import subprocess, unproved; process = subprocess.Popen(('sleep', '2.6')); unproved.wait(process, lambda seconds: f'compiles: {seconds} s', 1)"
+        words = {"cwd": ROOT / "tests", "stdin": subprocess.DEVNULL}
+        lines = subprocess.run(("python3", "-c", ask), stderr=subprocess.PIPE, text=True, check=True, **words).stderr
+        self.same("in lines", lines, "compiles: 1 s\ncompiles: 2 s\n")
+        ours, theirs = pty.openpty()
+        subprocess.run(("python3", "-c", ask), stderr=theirs, check=True, **words)
+        os.close(theirs)
+        width = len("compiles: 1 s")
+        self.same("on a terminal", progress.told_on(ours), f"\rcompiles: 1 s\rcompiles: 2 s\r{'':{width}}\r".encode())
+        os.close(ours)
+
+    def test_limit(self):
+        """A program that takes too many processor-seconds is stopped: what it answered is judged, and the rest is left out."""
+        batch = unproved.Batch(seconds=1)
+        program = self.folder / "slow"
+        program.write_text(SLOW)
+        with unittest.mock.patch.object(unproved, "started", lambda crate: ["python3", str(program)]):
+            batch.collect(
+                ["module"], lambda module: [batch.record((word,), b"") for word in ("one", "two", "endless", "more")]
+            )
+        self.same("what is said", batch.told().partition(":")[0], "2 of 4 requests are answered")
+        self.same("an answer", batch.answer(("two",), b""), harness.Outcome(0, b"two", b""))
+        for word in ("endless", "more"):
+            with self.assertRaisesRegex(unittest.SkipTest, "had taken its 1 processor-seconds"):
+                batch.answer((word,), b"")
+
+    def test_many(self):
+        """Without a proved program `examples/many` runs the unproved one here, and sends no other machine any."""
+        packages.wanted("parallel")
+        done = self.typed("examples/many/seeds examples/one_name.script 1 3")
+        self.same("here", (done.returncode, done.stdout), (0, "seed 1 lawful\nseed 2 lawful\nseed 3 lawful\n"))
+        self.assertIn("so this run is unproved", done.stderr)
+        done = self.typed("examples/many/seeds elsewhere examples/one_name.script 1 3")
+        self.same("elsewhere", (done.returncode, done.stdout), (2, ""))
+        if "rsync is not" not in done.stderr:
+            self.assertIn("other machines get no other: examples/run --proved builds it", done.stderr)
 
     def test_moved_ancestor(self):
         """The example shows what its row says: the file is written below the directory that has moved."""
@@ -145,7 +238,10 @@ class Clean(Case):
         (write,) = re.findall(r"^begin (\d+) .* write /work/today/notes", text, re.M)
         (rename,) = re.findall(r"^begin (\d+) .* rename /work /done", text, re.M)
         entries = text.splitlines()
-        places = [entries.index(entry) for entry in (f"commit {write}", f"commit {rename}", f"return {rename} ok", f"return {write} wrote 5")]
+        places = [
+            entries.index(entry)
+            for entry in (f"commit {write}", f"commit {rename}", f"return {rename} ok", f"return {write} wrote 5")
+        ]
         self.same("the order of the entries", places, sorted(places))
         self.assertIn("file /done/first/notes 6e6f746573", entries)
 
@@ -155,14 +251,14 @@ class Clean(Case):
             self.succeeds("examples/run examples/one_name.script")
             self.succeeds("examples/run seeds --seed 1 --runs 2 < examples/one_name.script")
         before = self.compiled.read_text().splitlines()
-        self.same("what was compiled", sorted(before), ["atomfs", "atomfs_run"])
+        self.same("what was compiled", sorted(before), ["atomfs"])
         source = self.clone / "crates" / "fs_sched" / "src" / "lib.rt"
         text = source.read_text()
         with contextlib.ExitStack() as after:
             after.callback(source.write_text, text)
             source.write_text(f"{text}// Changed.\n")
             self.succeeds("examples/run examples/one_name.script")
-        self.same("what is compiled behind a change", self.compiled.read_text().splitlines()[len(before) :], ["atomfs_run"])
+        self.same("what is compiled after a change", self.compiled.read_text().splitlines()[len(before) :], ["atomfs"])
         self.succeeds("examples/run examples/one_name.script")
         self.same("what is compiled as it was before", len(self.compiled.read_text().splitlines()), len(before) + 1)
 
@@ -177,30 +273,50 @@ class Costs(Case):
     @staticmethod
     def parts(*processors):
         kinds = costs.PROOFS, costs.LIBRARY, costs.TESTS, costs.TESTS
-        return [costs.Part(f"part {number}", kind, 10.0, taken) for number, (kind, taken) in enumerate(zip(kinds, processors))]
+        return [
+            costs.Part(f"part {number}", kind, 10.0, taken)
+            for number, (kind, taken) in enumerate(zip(kinds, processors))
+        ]
 
     def test_told(self):
-        self.each((
-            ("from nothing", (14_000.0, 300.0, 60.0, 40.0), costs.FROM_NOTHING, "240.0", None),
-            ("too much from nothing", (14_000.0, 300.0, 60.0, 46.0), costs.FROM_NOTHING, "240.1", self.TOO_MUCH),
-            ("too much, and some kept", (15_000.0, 300.0, 60.0, 40.0), self.KEPT, "256.7", self.TOO_MUCH),
-            ("some kept", (600.0, 300.0, 60.0, 40.0), self.KEPT, "16.7", self.LESS),
-        ), self.look)
+        self.each(
+            (
+                ("from nothing", (14_000.0, 300.0, 60.0, 40.0), costs.FROM_NOTHING, "240.0", None),
+                ("too much from nothing", (14_000.0, 300.0, 60.0, 46.0), costs.FROM_NOTHING, "240.1", self.TOO_MUCH),
+                ("too much, and some kept", (15_000.0, 300.0, 60.0, 40.0), self.KEPT, "256.7", self.TOO_MUCH),
+                ("some kept", (600.0, 300.0, 60.0, 40.0), self.KEPT, "16.7", self.LESS),
+            ),
+            self.look,
+        )
 
     def look(self, processors, work, minutes, last):
         lines = list(costs.told(self.parts(*processors), work))
         sums = [" ".join(line.split()) for line in lines[4:8]]
         kinds = (costs.PROOFS, processors[0]), (costs.LIBRARY, processors[1]), (costs.TESTS, sum(processors[2:]))
-        self.same("the sums", sums, [*(f"in all {taken} processor-seconds {kind}" for kind, taken in kinds), f"in all {minutes} processor-minutes; {work}"])
+        self.same(
+            "the sums",
+            sums,
+            [
+                *(f"in all {taken} processor-seconds {kind}" for kind, taken in kinds),
+                f"in all {minutes} processor-minutes; {work}",
+            ],
+        )
         self.same("what follows", lines[8:], [last] if last else [])
 
     def test_work(self):
         """How much `rt ci` did is read from its last line but one."""
         of = "rt: ok; handles allowed: none; must-fail edits: 3 refused; "
-        self.each((
-            ("from nothing", f"{of}{costs.FROM_NOTHING}\n", costs.FROM_NOTHING),
-            ("some kept", f"{of}{self.KEPT}; the others are kept from earlier runs of the same files on this machine\n", self.KEPT),
-        ), lambda line, work: self.same(line, re.search(costs.WORK, line)[0], work))
+        self.each(
+            (
+                ("from nothing", f"{of}{costs.FROM_NOTHING}\n", costs.FROM_NOTHING),
+                (
+                    "some kept",
+                    f"{of}{self.KEPT}; the others are kept from earlier runs of the same files on this machine\n",
+                    self.KEPT,
+                ),
+            ),
+            lambda line, work: self.same(line, re.search(costs.WORK, line)[0], work),
+        )
 
     def test_measured(self):
         """The processors of what ended below are counted, and waiting is not."""

@@ -27,7 +27,20 @@ from atomfs import Did, Status
 MOST_NODES = 1_048_576
 # The calls of a paragraph have fewer steps together.
 MOST_STEPS = 1_000
-CALLS = ("mkdir", "mknod", "unlink", "rmdir", "rename", "exchange", "stat", "readdir", "list", "read", "write", "truncate")
+CALLS = (
+    "mkdir",
+    "mknod",
+    "unlink",
+    "rmdir",
+    "rename",
+    "exchange",
+    "stat",
+    "readdir",
+    "list",
+    "read",
+    "write",
+    "truncate",
+)
 # What a step did, and whether that is about a node or a call. Else the number that is told is 0.
 STEPS = {
     Did.IDLE: ("idle", False),
@@ -148,7 +161,9 @@ class Stage:
         return number, self.told[number]
 
     def rounds(self, count, calls):
-        replies = [self.ran(0, call.replace("#", str(number)))[1] for number in range(int(count)) for call in calls.split("; ")]
+        replies = [
+            self.ran(0, call.replace("#", str(number)))[1] for number in range(int(count)) for call in calls.split("; ")
+        ]
         return f"{replies.count('ok')} ok"
 
     def on_open(self, limit, rest):
@@ -245,7 +260,10 @@ def functions(handle):
         "tree": told,
         "close": (),
     }
-    return {name: functools.partial(getattr(harness.library(), f"atomfs_{name}"), handle, *those) for name, those in arguments.items()}
+    return {
+        name: functools.partial(getattr(harness.library(), f"atomfs_{name}"), handle, *those)
+        for name, those in arguments.items()
+    }
 
 
 class Handles(harness.Case):
@@ -265,11 +283,19 @@ class Handles(harness.Case):
         """A handle is open behind a limit that is good, and closed behind another."""
         handle = atomfs.Handle()
         self.opens(f"open {limit}", handle, limit, wanted)
-        self.answers(f"open {limit}; close", harness.library().atomfs_close(handle), Status.OK if wanted == Status.OK else Status.CLOSED)
+        self.answers(
+            f"open {limit}; close",
+            harness.library().atomfs_close(handle),
+            Status.OK if wanted == Status.OK else Status.CLOSED,
+        )
 
     def test_limits(self):
         good, bad = (1, MOST_NODES), (0, MOST_NODES + 1, 2**64 - 1)
-        self.each([(str(limit), limit, Status.OK) for limit in good] + [(str(limit), limit, Status.BAD_LIMIT) for limit in bad], self.is_limit)
+        self.each(
+            [(str(limit), limit, Status.OK) for limit in good]
+            + [(str(limit), limit, Status.BAD_LIMIT) for limit in bad],
+            self.is_limit,
+        )
 
     def is_open_already(self, limit):
         """A tree is as it was where its handle is opened once more."""
@@ -279,7 +305,11 @@ class Handles(harness.Case):
                 stage.answer(line)
             self.opens(given, stage.tree.handle, limit, Status.ALREADY_OPEN)
             self.is_at(given, stage.tree, b"begin 1 0 mkdir /a\ncommit 1\nreturn 1 ok\n", b"tree\ndir /\ndir /a\n")
-            self.same(f"{given}; steps, a call", [stage.answer(line) for line in ("0", "1", "mkdir /b")], ["idle", "NO_SEAT", "FULL"])
+            self.same(
+                f"{given}; steps, a call",
+                [stage.answer(line) for line in ("0", "1", "mkdir /b")],
+                ["idle", "NO_SEAT", "FULL"],
+            )
 
     def test_an_open_handle(self):
         self.each([(str(limit), limit) for limit in (2, 9, 0, MOST_NODES + 1)], self.is_open_already)
@@ -316,18 +346,31 @@ class Handles(harness.Case):
     def test_two_handles(self):
         """What one is asked leaves the tree of the other."""
         with Stage() as one, Stage() as other:
-            for stage, lines in ((one, ("open 9 2", "0 mkdir /a", "0")), (other, ("open 9 1", "mknod /b")), (one, ("0 end",))):
+            for stage, lines in (
+                (one, ("open 9 2", "0 mkdir /a", "0")),
+                (other, ("open 9 1", "mknod /b")),
+                (one, ("0 end",)),
+            ):
                 for line in lines:
                     stage.answer(line)
             self.is_at("one", one.tree, b"begin 1 0 mkdir /a\ncommit 1\nreturn 1 ok\n", b"tree\ndir /\ndir /a\n")
-            self.is_at("the other", other.tree, b"begin 1 0 mknod /b\ncommit 1\nreturn 1 ok\n", b"tree\ndir /\nfile /b -\n")
+            self.is_at(
+                "the other", other.tree, b"begin 1 0 mknod /b\ncommit 1\nreturn 1 ok\n", b"tree\ndir /\nfile /b -\n"
+            )
 
 
 JOURNAL = b"begin 1 0 readdir /\ncommit 1\nreturn 1 names\n"
 SCRIPT = b"atomfs 1\nthread m\nreaddir /\nschedule\nfinish\n"
 RUN = b"atomfs-journal 1\n" + JOURNAL + b"tree\ndir /\nbegun 1 committed 1 returned 1\n"
 # The texts that functions tell of a tree on which `readdir /` has returned, and of SCRIPT and RUN.
-TOLD = {"reply": b"names", "journal": JOURNAL, "tree": b"tree\ndir /\n", "call": b"names", "run": RUN, "check": b"lawful\n"}
+TOLD = {
+    "reply": b"names",
+    "journal": JOURNAL,
+    "tree": b"tree\ndir /\n",
+    "call": b"names",
+    "run": RUN,
+    "check": b"lawful\n",
+}
 
 
 def told(tree, name):
@@ -367,8 +410,16 @@ class Rooms(harness.Case):
                 self.tells(told(tree, name), text, most, most)
 
     def test(self):
-        rooms = {"more": lambda size: size + 2, "as much": lambda size: size, "less": lambda size: size - 1, "none": lambda size: 0}
-        self.each([(f"{name}, {how}", name, room(len(text))) for name, text in TOLD.items() for how, room in rooms.items()], self.look)
+        rooms = {
+            "more": lambda size: size + 2,
+            "as much": lambda size: size,
+            "less": lambda size: size - 1,
+            "none": lambda size: 0,
+        }
+        self.each(
+            [(f"{name}, {how}", name, room(len(text))) for name, text in TOLD.items() for how, room in rooms.items()],
+            self.look,
+        )
 
 
 if __name__ == "__main__":

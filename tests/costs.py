@@ -9,7 +9,12 @@ MOST_MINUTES = 240
 # What `rt ci` says where nothing was kept from an earlier run. Else it says how much of its work was done.
 FROM_NOTHING = "every proof and must-fail edit was done in this run"
 WORK = rf"{FROM_NOTHING}|done in this run: [^;]*"
-PROOFS, LIBRARY, PROGRAM, TESTS = "proofs, wrong bodies and checks in Rattle", "the library for C", "the program, unproved", "the tests of tests/"
+PROOFS, LIBRARY, PROGRAM, TESTS = (
+    "proofs, wrong bodies and checks in Rattle",
+    "the library for C",
+    "the program, unproved",
+    "the tests of tests/",
+)
 
 
 class Part(typing.NamedTuple):

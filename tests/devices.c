@@ -30,14 +30,12 @@ static ssize_t moved(int descriptor, long call, const struct iovec *parts, int c
         parts++;
         count--;
     }
-    if (count <= 0)
-        return 0;
+    if (count <= 0) return 0;
     if (good[descriptor] > 0) {
         good[descriptor]--;
         return syscall(call, descriptor, parts->iov_base, 1);
     }
-    if (descriptor == 1 && takes_nothing)
-        return 0;
+    if (descriptor == 1 && takes_nothing) return 0;
     errno = EIO;
     return -1;
 }
@@ -51,11 +49,11 @@ ssize_t writev(int descriptor, const struct iovec *parts, int count) {
 }
 
 ssize_t read(int descriptor, void *bytes, size_t size) {
-    struct iovec part = {bytes, size};
+    struct iovec part = { bytes, size };
     return descriptor == 0 ? moved(0, SYS_read, &part, 1) : syscall(SYS_read, descriptor, bytes, size);
 }
 
 ssize_t write(int descriptor, const void *bytes, size_t size) {
-    struct iovec part = {(void *)bytes, size};
+    struct iovec part = { (void *)bytes, size };
     return descriptor == 1 ? moved(1, SYS_write, &part, 1) : syscall(SYS_write, descriptor, bytes, size);
 }

@@ -9,6 +9,7 @@ import signal
 import tempfile
 import unittest
 
+import harness
 from harness import DATA, ROOT, Case, Outcome, compiled, spawned, takes_a_process
 
 ONE_CALL = DATA / "worked" / "runs" / "first_mkdir"
@@ -21,12 +22,29 @@ READING = (
     (("threads", "--journal"), SCRIPT.replace(b"t*5", b"t*2"), TEXT.partition(b"tree\n")[0]),
     (("check",), TEXT, b"lawful\n"),
     (("check", "--json"), TEXT, b'{"lawful":true}\n'),
-    (("seeds", "--seed", "7", "--runs", "2", "--json"), SCRIPT, b'{"seed":7,"lawful":true}\n{"seed":8,"lawful":true}\n'),
-    (("find", "--where", "tree dir /a", "--seed", "7", "--runs", "2", "--json"), SCRIPT, b'{"seed":7,"script":"' + SCRIPT.partition(b"schedule\n")[0].replace(b"\n", b"\\n") + b'schedule\\nt*5\\n"}\n'),
-    (("trace",), TEXT, b"atomfs-trace 1\n1 0#1 begins mkdir /a\n2 0#1 commits, adds /a\n3 0#1 returns ok\n" + TEXT[TEXT.index(b"tree\n") :]),
+    (
+        ("seeds", "--seed", "7", "--runs", "2", "--json"),
+        SCRIPT,
+        b'{"seed":7,"lawful":true}\n{"seed":8,"lawful":true}\n',
+    ),
+    (
+        ("find", "--where", "tree dir /a", "--seed", "7", "--runs", "2", "--json"),
+        SCRIPT,
+        b'{"seed":7,"script":"' + SCRIPT.partition(b"schedule\n")[0].replace(b"\n", b"\\n") + b'schedule\\nt*5\\n"}\n',
+    ),
+    (
+        ("trace",),
+        TEXT,
+        b"atomfs-trace 2\n1 call 1 on seat 0 begins mkdir /a\n2 call 1 on seat 0 commits, adds /a\n3 call 1 on seat 0 returns ok\n"
+        + TEXT[TEXT.index(b"tree\n") :],
+    ),
 )
 DOT = b"Dot: a name in a path is `.` or `..`\n\nIn a script, for    stat /a/../b\nwrite               stat /b\nbecause             `.` and `..` are no names\n"
-WRITING = (*READING, (("--version",), b"", b"atomfs 0.3.0\n"), (("explain", "Dot"), b"", DOT))
+WRITING = (
+    *READING,
+    (("--version",), b"", f"atomfs {harness.declared().version}\n".encode()),
+    (("explain", "Dot"), b"", DOT),
+)
 PRINTING = (*WRITING, (("--help",), b"", (DATA / "help" / "atomfs").read_bytes()))
 READ_FAILED, WRITE_FAILED = b"atomfs: read failed\n", b"atomfs: write failed\n"
 
@@ -65,14 +83,28 @@ class ByteByByte(Case):
         self.ends(words, given, Outcome(5, written[:good], WRITE_FAILED), WRITES=good, TAKES_NOTHING="")
 
     def of_each_write(self, look):
-        self.each(((f"{words[0]} {good}", words, given, written, good) for words, given, written in WRITING for good in range(len(written))), look)
+        self.each(
+            (
+                (f"{words[0]} {good}", words, given, written, good)
+                for words, given, written in WRITING
+                for good in range(len(written))
+            ),
+            look,
+        )
 
     def test_that_all_is_well(self):
         self.each(((words[0], words, given, written) for words, given, written in PRINTING), self.well)
 
     def test_each_read_that_fails(self):
         """The one at the end of the input too."""
-        self.each(((f"{words[0]} {good}", words, given, good) for words, given, _ in READING for good in range(len(given) + 1)), self.read_fails)
+        self.each(
+            (
+                (f"{words[0]} {good}", words, given, good)
+                for words, given, _ in READING
+                for good in range(len(given) + 1)
+            ),
+            self.read_fails,
+        )
 
     def test_each_write_that_fails(self):
         self.of_each_write(self.write_fails)
@@ -85,13 +117,18 @@ class OfTheSystem(Case):
     """Devices as a system has them."""
 
     def write_fails(self, words, given, **other):
-        self.same(f"atomfs {' '.join(words)}\n{given.decode()}", spawned(words, given, **other), Outcome(5, b"", WRITE_FAILED))
+        self.same(
+            f"atomfs {' '.join(words)}\n{given.decode()}", spawned(words, given, **other), Outcome(5, b"", WRITE_FAILED)
+        )
 
     def read_fails(self, words, **other):
         self.same(f"atomfs {' '.join(words)}", spawned(words, None, **other), Outcome(5, b"", READ_FAILED))
 
     def each_printing(self, **other):
-        self.each(((words[0], words, given) for words, given, _ in PRINTING), lambda words, given: self.write_fails(words, given, **other))
+        self.each(
+            ((words[0], words, given) for words, given, _ in PRINTING),
+            lambda words, given: self.write_fails(words, given, **other),
+        )
 
     def each_reading(self, **other):
         self.each(((words[0], words) for words, *_ in READING), lambda words: self.read_fails(words, **other))
@@ -113,7 +150,10 @@ class OfTheSystem(Case):
         """Where the signal of that limit is ignored, what fits is written."""
         for words, given, written in PRINTING:
             with tempfile.TemporaryFile() as file:
-                limited = lambda: (signal.signal(signal.SIGXFSZ, signal.SIG_IGN), resource.setrlimit(resource.RLIMIT_FSIZE, (5, 5)))
+                limited = lambda: (
+                    signal.signal(signal.SIGXFSZ, signal.SIG_IGN),
+                    resource.setrlimit(resource.RLIMIT_FSIZE, (5, 5)),
+                )
                 self.write_fails(words, given, stdout=file, preexec_fn=limited)
                 file.seek(0)
                 self.same(f"atomfs {' '.join(words)}", file.read(), written[:5])

@@ -18,12 +18,24 @@ import unittest
 
 import harness
 import model
+import unproved
 from harness import DATA, ROOT, Case, Outcome, run
 from promised import promises
 
 README, EXAMPLES, DOCS = ROOT / "README.md", ROOT / "examples" / "README.md", ROOT / "docs"
 FORMATS, SPECIFICATION, BELIEVE, CHANGING, CHOOSING, EMBEDDING, LINEARIZE, SPEED, THREADS = (
-    DOCS / f"{name}.md" for name in ("FORMATS", "SPECIFICATION", "BELIEVE", "CHANGING", "CHOOSING", "EMBEDDING", "LINEARIZE", "SPEED", "THREADS")
+    DOCS / f"{name}.md"
+    for name in (
+        "FORMATS",
+        "SPECIFICATION",
+        "BELIEVE",
+        "CHANGING",
+        "CHOOSING",
+        "EMBEDDING",
+        "LINEARIZE",
+        "SPEED",
+        "THREADS",
+    )
 )
 CRATES = ROOT / "crates"
 OF_CRATES = sorted(CRATES.glob("*/README.md"))
@@ -34,8 +46,8 @@ PAGES = ROOT / "CHANGELOG.md", *NOW
 HELPED = DATA / "worked" / "runs" / "helped_mkdir"
 # What `atomfs schedule --robin` writes of it.
 BY_ROBIN = b"atomfs 1\nthread m\nmkdir /a\nmkdir /a/d\nmkdir /a/d/x\nthread r\nrename /a /b\nschedule\nm r m r m r m r m r m r m r m*8\n"
-# README is read in five minutes, the page of a crate in one, and all pages in two hours.
-MOST_WORDS, MOST_OF_A_CRATE, MOST_OF_ALL = 900, 140, 25_000
+# README is read in seven minutes, the first tutorial in five, the page of a crate in one.
+MOST_WORDS, MOST_OF_A_CRATE = {README: 1_450, DOCS / "FIRST-RACE.md": 1_000}, 140
 
 
 def by_path(pages):
@@ -45,7 +57,8 @@ def by_path(pages):
 
 def blocks(page, language=""):
     """The fenced blocks of a page in a language."""
-    return re.findall(rf"^```{language}\n(.*?)^```$", page.read_text(), re.M | re.S)
+    fenced = re.findall(r"^```(\w*)\n(.*?)^```$", page.read_text(), re.M | re.S)
+    return [block for of, block in fenced if of == language]
 
 
 def prose(page):
@@ -76,7 +89,9 @@ def source(name):
 
 def constants(name):
     """The numbers that a source names."""
-    return {name: int(value.replace("_", "")) for name, value in re.findall(r"const (\w+): \w+ = ([\d_]+);", source(name))}
+    return {
+        name: int(value.replace("_", "")) for name, value in re.findall(r"const (\w+): \w+ = ([\d_]+);", source(name))
+    }
 
 
 def body_of(name, enum):
@@ -97,8 +112,16 @@ def number(text):
 # What stands for a word in a line or a command of a page, and the words that are put there.
 FILLED = {
     **{"PATH": ("/a", "/b"), "NUMBER": ("1", "2"), "HEX": ("6869",), "ERRNO": ("ENOENT",)},
-    **{"p": ("/a",), "q": ("/b",), "after": ("/b",), "offset": ("1",), "count": ("2",), "bytes": ("6869",), "size": ("1",)},
-    **{"N": ("7",), "K": ("3",), "KIND": ("TrailingSlash",), "WHAT": ("'not helped m#3'",)},
+    **{
+        "p": ("/a",),
+        "q": ("/b",),
+        "after": ("/b",),
+        "offset": ("1",),
+        "count": ("2",),
+        "bytes": ("6869",),
+        "size": ("1",),
+    },
+    **{"N": ("7",), "K": ("3",), "KIND": ("TrailingSlash",), "FILE": ("-",), "WHAT": ("'not helped m#3'",)},
 }
 
 
@@ -151,7 +174,9 @@ class Pages(Page):
     """What every page names is there."""
 
     # What a page names and no repository has: what is built, what stands for a name, and the files that a reader makes.
-    ELSEWHERE = re.compile(r"(dist|lib|include|bin|PREFIX)/.*|.*/out/.*|.*\.\..*|proofs/MODULE/FUNCTION|call\.(c|rs|py)|kept\.(script|svg)")
+    ELSEWHERE = re.compile(
+        r"(dist|lib|include|bin|PREFIX)/.*|.*/out/.*|.*\.\..*|proofs/MODULE/FUNCTION|call\.(c|rs|py)|(kept|race)\.(script|svg)"
+    )
     A_PATH = re.compile(r"\w[\w.-]*(/[\w.-]+)+|\w+\.(md|rt|antt|py|c|h|rs|script|journal|text|edit)")
 
     @staticmethod
@@ -195,13 +220,12 @@ class Pages(Page):
         paths = [word for word in words if self.A_PATH.fullmatch(word) and not self.ELSEWHERE.fullmatch(word)]
         self.same(page.name, [path for path in paths if not self.ends() & {path, f"{path}.antt"}], [])
 
-    def test_length_of_readme(self):
-        words = len(README.read_text().split())
-        self.same("README.md, in words", words if words > MOST_WORDS else MOST_WORDS, MOST_WORDS)
+    def test_lengths(self):
+        self.each(((page.name, page, most) for page, most in MOST_WORDS.items()), self.look_at_length)
 
-    def test_length_of_all(self):
-        words = sum(len(page.read_text().split()) for page in PAGES)
-        self.same("all pages, in words", max(words, MOST_OF_ALL), MOST_OF_ALL)
+    def look_at_length(self, page, most):
+        words = len(page.read_text().split())
+        self.same(f"{page.name}, in words", max(words, most), most)
 
     def test_of_crates(self):
         """A crate's page is short, says what for and where to enter, and its paths are those of the crate, or begin with the name of another."""
@@ -211,9 +235,74 @@ class Pages(Page):
         text = page.read_text()
         words = len(text.split())
         self.same(f"{page.parent.name}, in words", max(words, MOST_OF_A_CRATE), MOST_OF_A_CRATE)
-        self.same("its head and its leads", re.findall(r"^# .*|\*\*(?:For|Enter)\*\*", text, re.M), [f"# {page.parent.name}", "**For**", "**Enter**"])
+        self.same(
+            "its head and its leads",
+            re.findall(r"^# .*|\*\*(?:For|Enter)\*\*", text, re.M),
+            [f"# {page.parent.name}", "**For**", "**Enter**"],
+        )
         paths = [span for span in spans(text) if re.match(r"(src|specs|proofs)/", span)]
         self.same("its paths that are not there", [path for path in paths if not (page.parent / path).exists()], [])
+
+
+class Sizes(Page):
+    """How large a crate is. Contracts go with the proofs, and so do ghost lines: neither is counted, nor are comments and blank lines."""
+
+    MOST_LINES, MOST_FUNCTIONS = 1_500, 100
+    # What begins a clause or a ghost line, which may go on over more lines.
+    UNCOUNTED = re.compile(r"(requires|ensures|decreases|(pub )?ghost)\b")
+    FUNCTION = re.compile(r"^ *(?:pub(?:\(\w+\))? )?(?:const )?(?:unsafe )?(?:extern \"C\" )?fn \w+", re.M)
+    # Functions that are there to be proved: laws and worked examples.
+    PROOFS = "laws.rt", "examples.rt"
+    # Crates below this heading of crates.txt measure and check the product, and have as many functions as they have rows.
+    BESIDE = "# No part of the product"
+
+    @staticmethod
+    def opened(line):
+        """How many brackets a line opens beyond those that it closes."""
+        return sum(map(line.count, "{(")) - sum(map(line.count, "})"))
+
+    def lines(self, text):
+        """How many lines of a source are counted."""
+        counted, depth, goes_on = 0, 0, False
+        for line in map(str.strip, text.splitlines()):
+            if depth or goes_on or self.UNCOUNTED.match(line):
+                depth += self.opened(line)
+                goes_on = depth == 0 and not line.endswith((";", "}", ","))
+            elif line and not line.startswith("//"):
+                counted += 1
+        return counted
+
+    def test_lines(self):
+        """The rule by which lines are counted."""
+        text = """//! A file.
+ghost use A.{
+    b,
+};
+
+/// Answers one.
+fn one() -> u8
+    requires { x ≡ y }
+    ensures named {
+        result ≡ 1
+    }
+{
+    // Why.
+    1
+}
+"""
+        self.same(text, self.lines(text), 4)
+
+    def test_crates(self):
+        product, _, _ = (ROOT / "crates.txt").read_text().partition(self.BESIDE)
+        names = re.findall(r"^(\w+)[^:\n]*:", product, re.M)
+        self.each(((name, name) for name in names), self.look_at_crate)
+
+    def look_at_crate(self, name):
+        texts = [(path, path.read_text()) for path in (ROOT / "crates" / name / "src").rglob("*.rt")]
+        lines = sum(self.lines(text) for _, text in texts)
+        functions = sum(len(self.FUNCTION.findall(text)) for path, text in texts if path.name not in self.PROOFS)
+        self.same(f"{name}, in lines", max(lines, self.MOST_LINES), self.MOST_LINES)
+        self.same(f"{name}, in functions", max(functions, self.MOST_FUNCTIONS), self.MOST_FUNCTIONS)
 
 
 class Named(Page):
@@ -223,7 +312,7 @@ class Named(Page):
     NO_SOURCE = ".md", ".svg", "documents.py"
     # What pages name of others: commands and their words, the standard libraries, other packages and their tests; and what stands for a word.
     OF_OTHERS = re.compile(
-        r"[0-9a-f]{7}|MODULE|FUNCTION|PREFIX|CALLNO|plant|ulimit|rpath|linux_x86_64|manylinux\w*|CMAKE_PREFIX_PATH|LD_LIBRARY_PATH|NotImplementedError|(up|down)load|test_(up|down)load_\d|settimes|created|modified"
+        r"[0-9a-f]{7}|MODULE|FUNCTION|PREFIX|CALLNO|plant|ulimit|rpath|linux_x86_64|manylinux\w*|CMAKE_PREFIX_PATH|LD_LIBRARY_PATH|NotImplementedError|(up|down)load|test_(up|down)load_\d|settimes|created|modified|SystemRandom|datetime|localtime|urandom|uuid4?"
     )
     # Names of the standard libraries, by their paths.
     OF_LIBRARIES = re.compile(r"(std|thread)::.*")
@@ -234,7 +323,11 @@ class Named(Page):
         """The text of each source by its path."""
         texts = {}
         for folder, folders, files in os.walk(ROOT):
-            folders[:] = [name for name in folders if not name.startswith(".") and name not in ("out", "dist", "__pycache__", "target", "build")]
+            folders[:] = [
+                name
+                for name in folders
+                if not name.startswith(".") and name not in ("out", "dist", "__pycache__", "target", "build")
+            ]
             for name in files:
                 path = pathlib.Path(folder, name)
                 texts[path.relative_to(ROOT)] = "" if name.endswith(cls.NO_SOURCE) else path.read_text(errors="replace")
@@ -256,7 +349,9 @@ class Named(Page):
                 owners = path.stem, path.parts[1]
                 names = re.findall(r"\bpub (?:const|struct|enum|trait|type) (\w+)", text)
                 functions = [function.name for function in promises.functions_of(text, "")]
-                found |= {f"{owner}::{name}" for owner in owners for name in (*names, *functions, path.stem)} | set(functions)
+                found |= {f"{owner}::{name}" for owner in owners for name in (*names, *functions, path.stem)} | set(
+                    functions
+                )
                 for name, body in re.findall(r"enum (\w+)[^{]*\{(.*?)^\}", text, re.M | re.S):
                     found |= {f"{name}::{variant}" for variant in re.findall(r"^    (\w+)", body, re.M)}
         return found
@@ -267,13 +362,27 @@ class Named(Page):
     def look(self, page):
         shown = spans(prose(page))
         words = {word for span in shown for word in re.findall(r"\w+", span) if not self.OF_LIBRARIES.match(span)}
-        lost = [word for word in sorted(words - self.words()) if not word.isdigit() and not self.OF_OTHERS.fullmatch(word)]
+        lost = [
+            word
+            for word in sorted(words - self.words() - self.own_words(page))
+            if not word.isdigit() and not self.OF_OTHERS.fullmatch(word)
+        ]
         self.same("words that no source has", [word for word in lost if not self.is_part(word)], [])
         self.same("paths of no function or type", [span for span in shown if not self.is_there(span)], [])
 
+    @staticmethod
+    def own_words(page):
+        """What a page itself names in its examples in Python, which are run."""
+        return set(re.findall(r"\w+", "".join(blocks(page, "python"))))
+
     def is_part(self, word):
         """Whether it begins or ends with an underline, as words do that are named by one part."""
-        return word.endswith("_") and any(one.startswith(word) for one in self.words()) or word.startswith("_") and any(one.endswith(word) for one in self.words())
+        return (
+            word.endswith("_")
+            and any(one.startswith(word) for one in self.words())
+            or word.startswith("_")
+            and any(one.endswith(word) for one in self.words())
+        )
 
     def is_there(self, span):
         """Whether a path of names ends at a function, a type or a variant, or stands so in a source."""
@@ -286,64 +395,85 @@ class Shown(Page):
     """The examples of pages are files that are run elsewhere, or parts of them."""
 
     def test_worked_example(self):
-        """Its script, and its run text; README has lines of its trace in the place of that."""
-        self.each(by_path((README, FORMATS)), self.look_at_worked_example)
-
-    def look_at_worked_example(self, page):
-        script, text, *_ = blocks(page)
-        self.agrees(page.name, script, HELPED.with_suffix(".script").read_text())
+        """Its script and its run text; README has lines of its trace."""
+        script, text, *_ = blocks(FORMATS)
+        self.agrees("its script", script, HELPED.with_suffix(".script").read_text())
+        self.agrees("its run text", text, HELPED.with_suffix(".text").read_text())
+        *_, part = blocks(README)
         trace = (DATA / "traces" / "helped_mkdir.trace").read_text()
-        due = re.search(rf"^{re.escape(text)}", trace, re.M) if page == README else None
-        self.agrees(page.name, text, due[0] if due else HELPED.with_suffix(".text").read_text())
+        self.agrees("its trace", part, part if f"\n{part}" in trace else trace)
 
-    def test_examples_of_readme(self):
-        """Before each stands what it prints. examples/embed/run runs it, and compares."""
+    def test_example_of_readme(self):
+        """Before the one in C stands what it prints. examples/embed/run runs it, and compares."""
         runs = (ROOT / "examples" / "embed" / "run").read_text()
-        for language in ("python", "c"):
-            said = re.findall(rf"it prints `(.*)`:\n\n```{language}\n", README.read_text())
-            self.agrees(f"in {language}", said, re.findall(rf'^prints readme_{language} README\.md "(.*?)" ', runs, re.M))
+        said = re.findall(r"this prints `(.*)`:\n\n```c\n", README.read_text())
+        self.agrees("in C", said, re.findall(r'^prints readme_c README\.md "(.*?)" ', runs, re.M))
 
     def test_archive_of_readme(self):
         """The archive that README unpacks is the one that embed/build makes."""
-        version = re.search('#define ATOMFS_VERSION "(.*)"', (ROOT / "embed" / "atomfs.h").read_text())[1]
+        version = harness.declared().version
         named = set(re.findall(r"atomfs-[\d.]*\d-[\w-]+", README.read_text()))
         self.agrees("the archive", sorted(named), [f"atomfs-{version}-x86_64-linux"])
 
     # The blocks of each page in a language, how many there are, and the file that has them run or compared; a drawing has none.
     BLOCKS = (
-        ("README.md", "", 4, "tests/documents.py, tests/histories.py"),
-        ("README.md", "python", 1, "examples/embed/run"),
+        ("README.md", "", 3, "tests/documents.py, tests/recorders.py, tests/tutorials.py"),
+        ("README.md", "python", 1, "tests/tutorials.py"),
         ("README.md", "c", 1, "examples/embed/run"),
+        ("docs/FIRST-RACE.md", "", 3, "tests/tutorials.py"),
+        ("docs/FIRST-RACE.md", "python", 5, "tests/tutorials.py"),
+        ("docs/FIRST-RACE.md", "sh", 1, None),
         ("docs/EMBEDDING.md", "c", 1, "examples/embed/run"),
         ("bindings/python/README.md", "python", 1, "examples/embed/run"),
         ("bindings/rust/README.md", "rust", 1, "examples/embed/run"),
         ("docs/THREADS.md", "rust", 2, "tests/documents.py"),
         ("docs/BELIEVE.md", "", 1, "tests/documents.py"),
         ("docs/FORMATS.md", "", 3, "tests/documents.py"),
-        ("docs/LINEARIZE.md", "", 1, "tests/histories.py"),
+        ("docs/LINEARIZE.md", "", 2, "tests/histories.py"),
         ("docs/ARCHITECTURE.md", "", 1, "tests/documents.py"),
         ("docs/MACHINE.md", "", 2, None),
         ("examples/tour/README.md", "", 2, "tests/worked.py"),
+        ("docs/RACES.md", "", 1, "bindings/python/tests/test_races.py"),
+        ("docs/RACES.md", "python", 4, "bindings/python/tests/test_races.py"),
+        ("examples/races/README.md", "", 1, "bindings/python/tests/test_races.py"),
     )
 
     def test_each_block(self):
         """Each is one that some test runs or compares, or a drawing."""
-        found = collections.Counter((str(page.relative_to(ROOT)), language) for page in PAGES for language in re.findall(r"^```(\w*)\n.*?^```$", page.read_text(), re.M | re.S))
-        self.agrees("the blocks of pages", sorted((*where, number) for where, number in found.items()), sorted((page, language, number) for page, language, number, _ in self.BLOCKS))
+        found = collections.Counter(
+            (str(page.relative_to(ROOT)), language)
+            for page in PAGES
+            for language in re.findall(r"^```(\w*)\n.*?^```$", page.read_text(), re.M | re.S)
+        )
+        self.agrees(
+            "the blocks of pages",
+            sorted((*where, number) for where, number in found.items()),
+            sorted((page, language, number) for page, language, number, _ in self.BLOCKS),
+        )
         runs = re.findall(r"^example (\S+) (\w+) ", (ROOT / "examples" / "embed" / "run").read_text(), re.M)
-        self.agrees("those that are run", sorted(runs), sorted((page, language) for page, language, _, by in self.BLOCKS if by == "examples/embed/run"))
+        self.agrees(
+            "those that are run",
+            sorted(runs),
+            sorted((page, language) for page, language, _, by in self.BLOCKS if by == "examples/embed/run"),
+        )
 
     def test_headline(self):
         """The clauses that docs/BELIEVE.md shows are those of `Core::run`."""
         (clauses,) = blocks(BELIEVE)
         (run_of,) = (function for function in promises.public(CRATES / "fs_core") if function.name == "Core::run")
-        due = [f"ensures {clause.name} {{ {clause.text} }}" for clause in run_of.ensures if clause.name in ("lawful", "spelled")]
+        due = [
+            f"ensures {clause.name} {{ {clause.text} }}"
+            for clause in run_of.ensures
+            if clause.name in ("linearizable", "spelled")
+        ]
         self.agrees("BELIEVE", clauses.splitlines(), due)
 
     def test_excerpts(self):
         """Each block in Rust stands in the source to which the page leads before it."""
         found = re.findall(r"\]\((\S+\.rt)\)((?:(?!^```).)*?)^```rust\n(.*?)^```$", THREADS.read_text(), re.M | re.S)
-        self.agrees("the examples in Rust with a link before them", [shown for _, _, shown in found], blocks(THREADS, "rust"))
+        self.agrees(
+            "the examples in Rust with a link before them", [shown for _, _, shown in found], blocks(THREADS, "rust")
+        )
         self.each(((link, link, shown) for link, _, shown in found), self.look_at_excerpt)
 
     def look_at_excerpt(self, link, shown):
@@ -362,12 +492,39 @@ class Faults(Page):
     TEXTS = {
         "script": ("run", ["atomfs 1", "thread t", "stat /a", "schedule", "t*9 finish"]),
         "journal": ("check", ["atomfs-journal 1", "begin 1 0 readdir /", "commit 1", "return 1 names"]),
-        "start": ("check", ["atomfs-journal 2", "start", "dir /", "dir /a", "file /a/f 6869", "entries", "begin 1 0 readdir /", "commit 1", "return 1 names a"]),
+        "start": (
+            "check",
+            [
+                "atomfs-journal 2",
+                "start",
+                "dir /",
+                "dir /a",
+                "file /a/f 6869",
+                "entries",
+                "begin 1 0 readdir /",
+                "commit 1",
+                "return 1 names a",
+            ],
+        ),
     }
     # The line that each row of a word replaces, in their order.
     LINES = {
-        **{"BadHeader": (1, 1), "BadLine": (2, 3, 3, 3, 2, 3), "BadThread": (2, 2), "ThreadTwice": (3,), "NotAbsolute": (3, 2), "Nul": (3,)},
-        **{"NameTooLong": (3,), "TooManyNames": (3,), "Dot": (3,), "TrailingSlash": (3,), "BadNumber": (3, 3, 3), "BadHex": (3, 3, 4)},
+        **{
+            "BadHeader": (1, 1),
+            "BadLine": (2, 3, 3, 3, 2, 3),
+            "BadThread": (2, 2),
+            "ThreadTwice": (3,),
+            "NotAbsolute": (3, 2),
+            "Nul": (3,),
+        },
+        **{
+            "NameTooLong": (3,),
+            "TooManyNames": (3,),
+            "Dot": (3,),
+            "TrailingSlash": (3,),
+            "BadNumber": (3, 3, 3),
+            "BadHex": (3, 3, 4),
+        },
         **{"NoSchedule": (4,), "BadWord": (5, 5, 5), "TooLarge": (5,), "BadReply": (4, 4), "BadStart": (2, 3, 4, 5, 6)},
     }
     # The program writes another message in its place.
@@ -377,14 +534,19 @@ class Faults(Page):
     @staticmethod
     def named():
         """The faults that the sources name: of words, and of paths."""
-        kinds, paths = (re.findall(r'#\[error\("([A-Z]\w+)', source(name)) for name in ("fs_words/src/fault.rt", "fs_names/src/fault.rt"))
+        kinds, paths = (
+            re.findall(r'#\[error\("([A-Z]\w+)', source(name))
+            for name in ("fs_words/src/fault.rt", "fs_names/src/fault.rt")
+        )
         return kinds, [path for path in paths if path != Faults.OF_NO_TEXT]
 
     def rows(self):
         """Of each row the command that reads its text."""
         _, paths = self.named()
         for word, numbers in self.LINES.items():
-            for number, (kind, refused, instead) in zip(numbers, self.ROW.findall((EXPLAINED / word).read_text()), strict=True):
+            for number, (kind, refused, instead) in zip(
+                numbers, self.ROW.findall((EXPLAINED / word).read_text()), strict=True
+            ):
                 command, lines = self.TEXTS["start" if word == "BadStart" else kind]
                 fault = f"BadPath {word}" if word in paths else word
                 refused = [] if refused.startswith("nothing") else [refused]
@@ -397,7 +559,8 @@ class Faults(Page):
 
     def look(self, command, lines, number, fault, refused, instead):
         given = self.with_line(lines, number, refused)
-        self.same(given, run(given, command), Outcome(3, b"", f"atomfs: line {number}: {fault}\n".encode()))
+        wanted = Outcome(3, b"", f"atomfs: line {number}: {fault}\n".encode())
+        self.same(given, run(given, command), harness.with_line(wanted, given))
         given = self.with_line(lines, number, instead)
         status, output, message = run(given, command)
         self.same(given, (status, message), (0, b""))
@@ -419,7 +582,11 @@ class Faults(Page):
         self.agrees("the checks of paths", sorted(checks), sorted(paths))
         self.same("the faults with a row", sorted(self.LINES), sorted({*kinds, *paths} - {"BadPath", self.OF_NO_TEXT}))
         begun = {path.name: path.read_text().count("In a ") for path in EXPLAINED.iterdir()}
-        self.same("how many rows each text has", {name: rows for name, rows in begun.items() if rows}, {word: len(lines) for word, lines in self.LINES.items()})
+        self.same(
+            "how many rows each text has",
+            {name: rows for name, rows in begun.items() if rows},
+            {word: len(lines) for word, lines in self.LINES.items()},
+        )
 
 
 def explanations():
@@ -439,10 +606,20 @@ class Explained(Page):
         self.same(f"atomfs explain {word}", run(b"", "explain", word), Outcome(0, explanations()[word]))
 
     def test_meanings(self):
-        means = {spans(fault)[0].split(" ")[-1]: meaning for fault, meaning, _ in table(FORMATS, "Fault", "Means", "Line")}
+        means = {
+            spans(fault)[0].split(" ")[-1]: meaning for fault, meaning, _ in table(FORMATS, "Fault", "Means", "Line")
+        }
         means |= {spans(kind)[0]: wrong for _, kind, wrong in table(SPECIFICATION, "Number", "Kind", "What is wrong")}
-        found = {spans(line)[0]: meaning for line, _, meaning in table(LINEARIZE, "It writes", "Status", "Proved (`linearize` `answer`, `fault`)") if spans(line)}
-        means |= {"none": found["none PLACE CALL"], "unknown": found["unknown PLACE"], "ReturnUnbegun": means["CommitUnbegun"]}
+        found = {
+            spans(line)[0]: meaning
+            for line, _, meaning, _ in table(LINEARIZE, "It writes", "Status", "Says", "Proved by `linearize`")
+            if spans(line)
+        }
+        means |= {
+            "none": found["none PLACE CALL"],
+            "unknown": found["unknown PLACE"],
+            "ReturnUnbegun": means["CommitUnbegun"],
+        }
         shown = {word: text.decode().splitlines()[0] for word, text in explanations().items()}
         self.agrees("what the words mean", {word: f"{word}: {meaning}" for word, meaning in means.items()}, shown)
 
@@ -450,7 +627,11 @@ class Explained(Page):
         """As a message has them."""
         for path in spans(re.search(r"^\| `BadPath` and .*", FORMATS.read_text(), re.M)[0])[1:]:
             texts = explanations()
-            self.same(f"atomfs explain BadPath {path}", run(b"", "explain", "BadPath", path), Outcome(0, texts["BadPath"] + b"\n" + texts[path]))
+            self.same(
+                f"atomfs explain BadPath {path}",
+                run(b"", "explain", "BadPath", path),
+                Outcome(0, texts["BadPath"] + b"\n" + texts[path]),
+            )
 
 
 class Grammar(Page):
@@ -475,7 +656,11 @@ class Grammar(Page):
 
     def look_at_reply(self, entry):
         given = text_of("atomfs-journal 1", entry)
-        self.same(given, run(given, "check"), Outcome(1, b"fault 1 ReturnUncommitted\n", text_of(f"atomfs: line 2: {entry}; no call 1 has begun")))
+        self.same(
+            given,
+            run(given, "check"),
+            Outcome(1, b"fault 1 ReturnUncommitted\n", text_of(f"atomfs: line 2: {entry}; no call 1 has begun")),
+        )
 
 
 class Commands(Page):
@@ -483,16 +668,20 @@ class Commands(Page):
 
     def due(self):
         """What comes of a command on the worked example."""
-        text, robin, drawn = (HELPED.with_suffix(ending).read_bytes() for ending in (".text", ".robin.text", ".drawn.text"))
+        text, robin, drawn = (
+            HELPED.with_suffix(ending).read_bytes() for ending in (".text", ".robin.text", ".drawn.text")
+        )
         helps = {name: (DATA / "help" / name).read_bytes() for name in ("atomfs", "run")}
-        version = re.search(r'VERSION: &str = "(.*)"', source("fs_arguments/src/cli.rt"))[1]
+        version = harness.declared().version
         return {
             "run": text,
             "run --robin": robin,
             "run --seed 7": drawn,
             "seeds --seed 7 --runs 3": b"seed 7 lawful\nseed 8 lawful\nseed 9 lawful\n",
             "outcomes --seed 7 --runs 3": b"3 seed 7 tree 84901e4addb59faf\n",
-            "find --where 'not helped m#3' --seed 7 --runs 3": run(HELPED.with_suffix(".script").read_bytes(), "schedule", "--seed", "7").output,
+            "find --where 'not helped m#3' --seed 7 --runs 3": run(
+                HELPED.with_suffix(".script").read_bytes(), "schedule", "--seed", "7"
+            ).output,
             "shrink --where 'not helped m#3'": b"atomfs 1\nthread m\nmkdir /a/d/x\nthread r\nschedule\n",
             "tree": text[text.index(b"tree\n") :].rpartition(b"begun ")[0],
             "threads": b"lawful calls 4\n",
@@ -519,24 +708,45 @@ class Commands(Page):
         shown = [filled(command).removeprefix("atomfs ") for row in rows for command in self.shown(row[0])]
         self.each(((words, words) for words in shown), self.look)
         self.agrees("the commands of FORMATS", sorted(shown), sorted(self.due()))
-        _, *named = spans(re.search("^The program .*", README.read_text(), re.M)[0])
-        self.agrees("the commands of README", sorted(named), sorted({words.split(" ")[0] for words in shown if words[0] != "-"} - {"help"}))
+        named = spans(re.search("The program `atomfs` runs scripts (.*)", README.read_text())[1])
+        self.agrees(
+            "the commands of README",
+            sorted(named),
+            sorted({words.split(" ")[0] for words in shown if words[0] != "-"} - {"help"}),
+        )
 
     def look(self, words):
         told = {"find": b"atomfs: seed 7\n", "shrink": b"atomfs: calls 1, words 0, where not helped m#1\n"}
         said = told.get(words.split(" ")[0], b"")
-        self.same(f"atomfs {words}", run(example_for(words), *shlex.split(words)), Outcome(0, self.due().get(words, b"no such command"), said))
+        self.same(
+            f"atomfs {words}",
+            run(example_for(words), *shlex.split(words)),
+            Outcome(0, self.due().get(words, b"no such command"), said),
+        )
 
     def test_of_examples(self):
         """What examples/README.md says that each command prints."""
-        kinds = ("examples/run check < (.*)", self.look_at_journal), (r"examples/run (\S*)", self.look_at_script), ("cd (.*) && rt run", self.look_at_crate)
+        kinds = (
+            ("examples/run check < (.*)", self.look_at_journal),
+            (r"examples/run (\S*)", self.look_at_script),
+            ("cd (.*) && rt run", self.look_at_crate),
+        )
         rows = ((spans(runs)[0], prints) for _, _, runs, prints in table(EXAMPLES, "File", "Shows", "Run", "Prints"))
-        found = [(command, look, named[1], prints) for command, prints in rows for kind, look in kinds if (named := re.fullmatch(kind, command))]
+        found = [
+            (command, look, named[1], prints)
+            for command, prints in rows
+            for kind, look in kinds
+            if (named := re.fullmatch(kind, command))
+        ]
         self.each(found, lambda look, named, prints: look(named, prints))
 
     def look_at_journal(self, journal, prints):
         status = re.search(r"status (\d)", prints)
-        self.same(journal, run((ROOT / journal).read_bytes(), "check")[:2], (int(status[1]) if status else 0, text_of(spans(prints)[0])))
+        self.same(
+            journal,
+            run((ROOT / journal).read_bytes(), "check")[:2],
+            (int(status[1]) if status else 0, text_of(spans(prints)[0])),
+        )
 
     def look_at_script(self, script, _):
         status, output, _ = run((ROOT / script).read_bytes(), "run")
@@ -572,7 +782,13 @@ class Commands(Page):
     def look_at_row(self, row, told):
         case = Explained("test_each_kind")
         case.row = row
-        end = {"cwd": ROOT, "stdin": subprocess.DEVNULL, "capture_output": True, "text": True, "timeout": harness.MOST_SECONDS}
+        end = {
+            "cwd": ROOT,
+            "stdin": subprocess.DEVNULL,
+            "capture_output": True,
+            "text": True,
+            "timeout": harness.MOST_SECONDS,
+        }
         done = subprocess.run(["bash", "-c", case.alone()], **end)
         self.same(case.alone(), (done.returncode, done.stderr.splitlines()[-1]), (0, told))
 
@@ -592,24 +808,49 @@ class Commands(Page):
 
     def test_examples_run_refuses(self):
         """What can be told without the program is told at once."""
-        self.each((
-            ("a script that is not there", ("examples/none",), b"", 2, "examples/run: cannot read examples/none: No such file or directory"),
-            ("a folder", ("examples",), b"", 2, "examples/run: cannot read examples: Is a directory"),
-            ("an option that is none", ("--fast",), b"", 2, "usage: examples/run [--proved] [SCRIPT ..]"),
-            ("no header", ("examples/one_name.script", "README.md"), b"", 3, "atomfs: line 1: BadHeader"),
-            ("no header on standard input", (), b"mkdir /a\n", 3, "atomfs: line 1: BadHeader"),
-        ), self.look_at_refusal)
+        self.each(
+            (
+                (
+                    "a script that is not there",
+                    ("examples/none",),
+                    b"",
+                    2,
+                    "examples/run: cannot read examples/none: No such file or directory",
+                ),
+                ("a folder", ("examples",), b"", 2, "examples/run: cannot read examples: Is a directory"),
+                ("an option that is none", ("--fast",), b"", 2, "usage: examples/run [--proved] [SCRIPT ..]"),
+                ("no header", ("examples/one_name.script", "README.md"), b"", 3, "atomfs: line 1: BadHeader"),
+                ("no header on standard input", (), b"mkdir /a\n", 3, "atomfs: line 1: BadHeader"),
+            ),
+            self.look_at_refusal,
+        )
 
     def test_examples_run_names_commands(self):
         """Its usage names each command of the program."""
-        usage = subprocess.run((ROOT / "examples" / "run", "--help"), cwd=ROOT, capture_output=True, text=True, timeout=harness.MOST_SECONDS).stdout
+        usage = subprocess.run(
+            (ROOT / "examples" / "run", "--help"),
+            cwd=ROOT,
+            capture_output=True,
+            text=True,
+            timeout=harness.MOST_SECONDS,
+        ).stdout
         (named,) = re.findall(r"^COMMAND is [^:]*: ([^:]*) or --version:$", usage, re.M)
         commands = re.findall(r"^  (\w+)  ", (DATA / "help" / "atomfs").read_text().partition("Options:")[0], re.M)
         self.agrees("the commands of examples/run", sorted(re.split(r",\s", named)), sorted(commands))
 
     def look_at_refusal(self, words, given, status, message):
-        done = subprocess.run((ROOT / "examples" / "run", *words), cwd=ROOT, input=given, capture_output=True, timeout=harness.MOST_SECONDS)
-        self.same(f"examples/run {' '.join(words)}", (done.returncode, done.stderr.decode().splitlines()[0]), (status, message))
+        done = subprocess.run(
+            (ROOT / "examples" / "run", *words),
+            cwd=ROOT,
+            input=given,
+            capture_output=True,
+            timeout=harness.MOST_SECONDS,
+        )
+        self.same(
+            f"examples/run {' '.join(words)}",
+            (done.returncode, done.stderr.decode().splitlines()[0]),
+            (status, message),
+        )
 
     def test_logic_of_the_kit(self):
         """README names the logic by which all is proved. The letter of the kit before it may be another."""
@@ -617,7 +858,73 @@ class Commands(Page):
             self.skipTest("the command rt is not on the path")
         version = subprocess.run(["rt", "version"], capture_output=True, text=True, timeout=harness.MOST_SECONDS).stdout
         logic = re.compile(r"logic [0-9a-f]{16}")
-        self.agrees("the kit's logic", [span for span in spans(README.read_text()) if logic.fullmatch(span)], logic.findall(version)[:1])
+        self.agrees(
+            "the kit's logic",
+            [span for span in spans(README.read_text()) if logic.fullmatch(span)],
+            logic.findall(version)[:1],
+        )
+
+
+class Corners(Page):
+    """What sentences of docs/FORMATS.md and docs/LINEARIZE.md say of inputs that have two faults, or that end early."""
+
+    UNBEGUN = text_of("atomfs-journal 1", "begin 1 0 mkdir /a", "return 1 failed ENOENT", "return 9 ok")
+    OPEN = text_of("atomfs-journal 1", "begin 2 1 mkdir /b", "begin 1 0 mkdir /a", "commit 1")
+    LEFT = text_of("atomfs 1", "thread a", "mkdir /a", "mkdir /b", "schedule", "a*2")
+    WRONG = text_of("atomfs 1", "thread a", "mkdr /a", "schedule")
+    ROWS = (
+        (
+            LINEARIZE,
+            "A fault is reported even if a `none` comes before it",
+            UNBEGUN,
+            ("linearize",),
+            1,
+            b"fault 3 ReturnUnbegun\n",
+        ),
+        (
+            FORMATS,
+            "so is `list` in a text of version 1 or 2",
+            LEFT.replace(b"mkdir /b", b"list / / 1"),
+            ("run",),
+            3,
+            b"",
+        ),
+        (
+            FORMATS,
+            "If both texts have a fault, that of the script is reported.",
+            WRONG,
+            ("run", "--from", str(README)),
+            3,
+            b"",
+        ),
+        (
+            FORMATS,
+            "It has no lines `thread`",
+            OPEN,
+            ("trace",),
+            0,
+            b"atomfs-trace 2\n1 call 2 on seat 1 begins mkdir /b\n",
+        ),
+        (
+            FORMATS,
+            "in the order in which these calls began",
+            OPEN,
+            ("trace",),
+            0,
+            b"left call 2 on seat 1 mkdir /b\nleft call 1 on seat 0 mkdir /a\ntree\n",
+        ),
+        (FORMATS, "`atomfs tree` still ends with status 0", LEFT, ("tree",), 0, b"tree\ndir /\n"),
+    )
+
+    def test_each(self):
+        self.each(((sentence, page, sentence, *rest) for page, sentence, *rest in self.ROWS), self.look)
+
+    def look(self, page, sentence, given, words, status, part):
+        self.agrees(page.name, sentence in page.read_text(), True)
+        came = run(given, *words)
+        self.same(words, (came.status, part in came.output), (status, True))
+        if status == 3:
+            self.assertRegex(came.message, rb"\Aatomfs: line \d: BadLine\n")
 
 
 class EachCommand(Page):
@@ -633,19 +940,38 @@ class EachCommand(Page):
         r"rt|cc|python3|pip|cmake|cargo|rt (check|ci|run|plant|tidy|fmt|verdict|must-fail|doc|version).*|cc -I dist/include .*|cc main\.c \$\(.*|pip install --no-index .*|tar xf atomfs-.*|git show .*|cd \S+"
     )
     # The words that stand for others.
-    PUT = {"CRATE": "fs_graph", "NAME": "fs_graph", "COMMAND": "run", "CALL": "1", "TREE": str(DATA / "starts" / "moved.tree"), **dict.fromkeys(("SCRIPT", "A", "B", "C"), "examples/one_name.script")}
+    PUT = {
+        "CRATE": "fs_graph",
+        "NAME": "fs_graph",
+        "COMMAND": "run",
+        "CALL": "1",
+        "TREE": str(DATA / "starts" / "moved.tree"),
+        **dict.fromkeys(("SCRIPT", "A", "B", "C"), "examples/one_name.script"),
+    }
     # What stands for an input.
     INPUTS = None, "FILE", "SCRIPT", "INPUT", "A", "kept.script"
     # What the program says of the first words of a command.
-    IN_PART = re.compile(rb"error: (the following required arguments were not provided:|a value is required for .* but none was supplied)\n")
-    # What takes longer than a test may, or is the gate, or run by tests/many.py: that it is there and can be run is looked at.
-    LONG = re.compile(r"(\.ci/run|tests/run|bench/\w+|embed/\w+|examples/many/\w+)(?: .*)?")
+    IN_PART = re.compile(
+        rb"error: (the following required arguments were not provided:|a value is required for .* but none was supplied)\n"
+    )
+    # What takes longer than a test may, or is the gate, or run by tests/many.py, tests/recorders.py or the tests of a package: that it is there and can be run is looked at.
+    LONG = re.compile(
+        r"(?:python3 )?(\.ci/run|tests/run|bench/\w+|embed/\w+|examples/many/\w+|examples/record/record\.py|examples/races/\w+\.py)(?: .*)?"
+    )
 
     @classmethod
     def shown(cls, page):
         text = page.read_text()
-        lines = [line.removeprefix("$ ") for block in re.findall(r"^```(?:sh|text)?\n(.*?)^```$", text, re.M | re.S) for line in block.splitlines()]
-        found = [line for line in (*spans(prose(page)), *lines) if cls.COMMAND.fullmatch(line) and not cls.NO_COMMAND.fullmatch(line)]
+        lines = [
+            line.removeprefix("$ ")
+            for block in re.findall(r"^```(?:sh|text)?\n(.*?)^```$", text, re.M | re.S)
+            for line in block.splitlines()
+        ]
+        found = [
+            line
+            for line in (*spans(prose(page)), *lines)
+            if cls.COMMAND.fullmatch(line) and not cls.NO_COMMAND.fullmatch(line)
+        ]
         return list(dict.fromkeys(re.sub(r"^cd \S+ && ", "", line) for line in found))
 
     def rows(self):
@@ -660,7 +986,10 @@ class EachCommand(Page):
 
     def look(self, command):
         kinds = (
-            (r"(?:atomfs|examples/run(?: --proved)?)((?: -?-?[a-zA-Z0-9.][^<>]*)?)(?: < (\S+))?(?: > \S+)?", self.look_at_program),
+            (
+                r"(?:atomfs|examples/run(?: --proved)?)((?: -?-?[a-zA-Z0-9.][^<>]*)?)(?: < (\S+))?(?: > \S+)?",
+                self.look_at_program,
+            ),
             (r"(tests/promises(?: .*)?)", self.look_at_promises),
             (r"(ROW=.* )?python3 (tests/\w+\.py) ?(.*)", self.look_at_module),
         )
@@ -668,17 +997,24 @@ class EachCommand(Page):
             if named := re.fullmatch(pattern, command):
                 return look(*named.groups())
         if named := self.LONG.fullmatch(command):
-            return self.same("whether it is there", os.access(ROOT / named[1], os.X_OK), True)
+            wanted = os.R_OK if command.startswith("python3 ") else os.X_OK
+            return self.same("whether it is there", os.access(ROOT / named[1], wanted), True)
         self.same("whether it is one of others", self.OF_OTHERS.fullmatch(command) is not None, True)
 
     def look_at_program(self, words, given):
         """The program takes these words, or words that begin so; what it prints is looked at where a page says so."""
         words = [self.PUT.get(word, word) for word in shlex.split(filled(words.strip())) if word != ".."]
         if not words or (ROOT / words[0]).exists():
-            return self.same("the scripts that are not there", [word for word in words if not (ROOT / word).exists()], [])
+            return self.same(
+                "the scripts that are not there", [word for word in words if not (ROOT / word).exists()], []
+            )
         outcome = run((ROOT / given).read_bytes() if given not in self.INPUTS else example_for(words[0]), *words)
         # A check tells what is wrong beside the verdict, a search the seed that it found, and `shrink` what is left.
-        is_told = self.IN_PART.match(outcome.message) or outcome.output.startswith(b"fault ") or words[0] in ("find", "shrink")
+        is_told = (
+            self.IN_PART.match(outcome.message)
+            or outcome.output.startswith(b"fault ")
+            or words[0] in ("find", "shrink")
+        )
         message = b"" if is_told else outcome.message
         self.same("what it tells", message, b"")
 
@@ -708,7 +1044,10 @@ class Definitions:
             if place not in seen and name in definitions:
                 seen.add(place)
                 self.found[module].add(definitions[name])
-                left += [(module, word) if word in definitions else imports.get(word, place) for word in self.words(definitions[name])]
+                left += [
+                    (module, word) if word in definitions else imports.get(word, place)
+                    for word in self.words(definitions[name])
+                ]
 
     @staticmethod
     def imports(text):
@@ -761,15 +1100,21 @@ class Believed(Sentences):
     """What docs/BELIEVE.md counts: the definitions behind the headline, over their own references."""
 
     # What the models of a timeline, a core and a store name.
-    MODELS = ("fs_timeline.specs.Timeline", "TimelineValue"), ("fs_core.specs.CoreValues", "CoreValue"), ("fs_places.specs.Plains", "plains")
+    MODELS = (
+        ("fs_timeline.specs.Timeline", "TimelineValue"),
+        ("fs_core.specs.CoreValues", "CoreValue"),
+        ("fs_places.specs.Plains", "plains"),
+    )
 
     def setUp(self):
-        self.headline = of_headline(("lawful", "spelled"), self.MODELS)
+        self.headline = of_headline(("linearizable", "spelled"), self.MODELS)
 
     def test_files(self):
         """So many lines of each file are used, of those that it has."""
         shown = [(spans(file)[0], lines) for _, file, _, lines in table(BELIEVE, "", "File", "Says", "Lines")]
-        used = {f"{module.replace('.', '/')}.antt": sum(map(len, found)) for module, found in self.headline.found.items()}
+        used = {
+            f"{module.replace('.', '/')}.antt": sum(map(len, found)) for module, found in self.headline.found.items()
+        }
         self.agrees("the files of the headline", sorted(file for file, _ in shown), sorted(used))
         self.each(((file, file, lines, used[file]) for file, lines in shown), self.look)
 
@@ -778,10 +1123,31 @@ class Believed(Sentences):
 
     def test_sums(self):
         definitions, files, lines, comments = self.headline.counts()
-        self.says(BELIEVE, f"They use {definitions} definitions of {files} files, {lines} lines, {comments} of them comments")
-        self.says(README, f"To check us, read {files} files of definitions, {lines - comments} lines")
-        definitions, files, lines, comments = of_headline(("lawful",), self.MODELS[:1]).counts()
-        self.says(BELIEVE, f"the first clause alone uses {definitions} of {files} files, {lines} lines, {comments} of them comments")
+        self.says(
+            BELIEVE, f"They use {definitions} definitions of {files} files, {lines} lines, {comments} of them comments"
+        )
+        self.says(README, f"read {files} files of definitions with {lines - comments} lines")
+        definitions, files, lines, comments = of_headline(("linearizable",), self.MODELS[:1]).counts()
+        self.says(
+            BELIEVE,
+            f"the first clause alone uses {definitions} of {files} files, {lines} lines, {comments} of them comments",
+        )
+
+    def test_linearizable(self):
+        """The functions that have the clause in the words of Herlihy and Wing are those that the page names."""
+        named = spans(
+            re.search(r"^The clause `linearizable` of `Core::run` is also on .*", BELIEVE.read_text(), re.M)[0]
+        )
+        found = [
+            function.name
+            for crate in ("fs_core", "fs_share")
+            for function in promises.public(CRATES / crate)
+            if "linearizable" in [clause.name for clause in function.ensures]
+        ]
+        shown = [span for span in named if "::" in span or span == "close_told"]
+        self.agrees(
+            "BELIEVE", sorted(shown), sorted(name.replace("AtomFs::close_told", "close_told") for name in found)
+        )
 
     def test_memory(self):
         """The lines of what counts refused memory."""
@@ -794,6 +1160,48 @@ class Believed(Sentences):
         inside = {path for path in files if "code" in path.parts}
         self.same("what uses glue", [str(path) for path in files - inside if ".specs.code." in path.read_text()], [])
 
+    # The declaration of a type with its fields or variants, and the model of one.
+    TYPE = r"^(?:pub(?:\([^)]*\))? )?(?:struct|enum) (\w+)[^{;(]*(?:\{(.*?)^\}|\((.*?)\);|\{([^\n]*)\})"
+    MODEL = r"^impl(?:<.*>)? Model for (\w+)[^{]*\{\n.*?ghost view = \{(.*?)\};"
+
+    def models_of_a_core(self):
+        """What the model of each type of which a core is made uses, with its module, that is in none of the files of the headline."""
+        parts, models = collections.defaultdict(str), {}
+        for crate in unproved.stands_on("fs_core"):
+            for path in (CRATES / crate / "src").rglob("*.rt"):
+                text = re.sub(r"//.*", "", path.read_text())
+                for name, *bodies in re.findall(self.TYPE, text, re.M | re.S):
+                    parts[name] += "".join(bodies)
+                imports = Definitions.imports(text)
+                for name, view in re.findall(self.MODEL, text, re.M | re.S):
+                    words = re.findall(r"(?<![\w.])\w+", view)
+                    used = sorted({imports[word] for word in words if word in imports})
+                    models[name] = [
+                        (at, word) for at, word in used if at.startswith("fs_") and at not in self.headline.found
+                    ]
+        seen, left = set(), ["Core"]
+        while left:
+            name = left.pop()
+            if name in parts and name not in seen:
+                seen.add(name)
+                left += re.findall(r"\b[A-Z]\w+", parts[name])
+        self.assertGreater(len(seen), 40)
+        return {name: models[name] for name in seen if models.get(name)}
+
+    def test_models(self):
+        """The models of the types of a core that use more than the files of the headline, and by which functions they are tied."""
+        rows = table(BELIEVE, "Type", "Is seen by", "In", "Which is tied to what a caller gets by")
+        shown = sorted((name, spans(seen), spans(file)) for names, seen, file, _ in rows for name in spans(names))
+        found = [
+            (
+                name,
+                sorted(word for _, word in used),
+                list(dict.fromkeys(f"{module.replace('.', '/')}.antt" for module, _ in used)),
+            )
+            for name, used in self.models_of_a_core().items()
+        ]
+        self.agrees("the models", shown, sorted(found))
+
     @staticmethod
     def size(paths):
         """How many definitions, files and lines there are, but for pages that only hand on or name others."""
@@ -805,11 +1213,22 @@ class Believed(Sentences):
 
     def test_sizes(self):
         """What need not be read is about as long as the page says: each number is right within a twentieth."""
-        specs, proofs, bodies = (list(CRATES.glob(pattern)) for pattern in ("*fs*/specs/**/*.antt", "*fs*/proofs/**/*.antt", "*fs*/src/**/*.rt"))
+        specs, proofs, bodies = (
+            list(CRATES.glob(pattern))
+            for pattern in ("*fs*/specs/**/*.antt", "*fs*/proofs/**/*.antt", "*fs*/src/**/*.rt")
+        )
         lines = [sum(len(path.read_text().splitlines()) for path in paths) for paths in (proofs, bodies)]
         rows = (
-            ("definitions", r"All `specs/` together are some ([\d,]+) definitions of ([\d,]+) files, ([\d,]+) lines", self.size(specs)),
-            ("glue", r"of its crate: some ([\d,]+) definitions of ([\d,]+) files, ([\d,]+) lines", self.size(path for path in specs if "code" in path.parts)),
+            (
+                "definitions",
+                r"All `specs/` together are some ([\d,]+) definitions of ([\d,]+) files, ([\d,]+) lines",
+                self.size(specs),
+            ),
+            (
+                "glue",
+                r"of its crate: some ([\d,]+) definitions of ([\d,]+) files, ([\d,]+) lines",
+                self.size(path for path in specs if "code" in path.parts),
+            ),
             ("proofs", r"All of `proofs/`: some ([\d,]+) files, ([\d,]+) lines", (len(proofs), lines[0])),
             ("bodies", r"The bodies of functions: some ([\d,]+) lines of ([\d,]+) files", (lines[1], len(bodies))),
         )
@@ -846,8 +1265,22 @@ def is_example(path):
 def beside():
     """The files beside the product that a change of it may touch: programs that are none of it, tests, benches, and what stands on the library for C."""
     crates = [path for crate in CRATES.iterdir() if "fs" not in crate.name for path in (crate / "src").rglob("*.rt")]
-    folders = "tests/*.*", "tests/data/texts/*", "tests/data/transcripts/*", "bench/*", "embed/*", "examples/embed/*", "bindings/*/*.md", "bindings/*/*/**/*"
-    files = (path for pattern in folders for path in ROOT.glob(pattern) if path.is_file() and path.suffix not in (".pyc", ".so") and "target" not in path.parts)
+    folders = (
+        "tests/*.*",
+        "tests/data/texts/*",
+        "tests/data/transcripts/*",
+        "bench/*",
+        "embed/*",
+        "examples/embed/*",
+        "bindings/*/*.md",
+        "bindings/*/*/**/*",
+    )
+    files = (
+        path
+        for pattern in folders
+        for path in ROOT.glob(pattern)
+        if path.is_file() and path.suffix not in (".pyc", ".so") and "target" not in path.parts
+    )
     return [*crates, *files]
 
 
@@ -857,7 +1290,10 @@ WORDS = {"ListAfter": "list"}
 
 def calls():
     """The calls by their words, with their names as constructors."""
-    return {WORDS.get(name, name.lower()): name for name in re.findall(r"^    (\w+)\(", body_of("fs_calls/src/call.rt", "Call"), re.M)}
+    return {
+        WORDS.get(name, name.lower()): name
+        for name in re.findall(r"^    (\w+)\(", body_of("fs_calls/src/call.rt", "Call"), re.M)
+    }
 
 
 @functools.cache
@@ -865,16 +1301,33 @@ def naming_call(call):
     """The files that a further call like this one touches: those that name it as a constructor, and beside the product those that have its word."""
     name = calls()[call]
     parts = {"source": "src", "definitions": "specs", "proofs": "proofs"}
-    found = {part: [path for path in product(folder) if not is_example(path) and re.search(rf"\b{name}\b", code_at(path))] for part, folder in parts.items()}
+    found = {
+        part: [path for path in product(folder) if not is_example(path) and re.search(rf"\b{name}\b", code_at(path))]
+        for part, folder in parts.items()
+    }
     has_word = re.compile(rf"\b{name}\b|[\"']{call}[ \"']|\b(def |fn |atomfs_){call}\b|CALL_{call.upper()}\b")
     return found | {"beside the product": [path for path in beside() if has_word.search(text_at(path))]}
 
 
 def limits():
     """The limits by their constants, and those that each set of limits has, of trees and of texts, which are three numbers each."""
-    of_texts = "fs_words/src/limits.rt", "fs_script/src/limits.rt", "fs_sched/src/schedule.rt", "fs_sched/src/seeding.rt"
-    of_searches = "fs_outcomes/src/running.rt", "fs_find/src/finding.rt", "fs_shrink/src/limits.rt", "fs_recorded/src/linearizing.rt"
-    found = {name: [value] for file in ("fs_names/src/limits.rt", *of_texts, *of_searches) for name, value in constants(file).items()}
+    of_texts = (
+        "fs_words/src/limits.rt",
+        "fs_script/src/limits.rt",
+        "fs_sched/src/schedule.rt",
+        "fs_sched/src/seeding.rt",
+    )
+    of_searches = (
+        "fs_outcomes/src/running.rt",
+        "fs_find/src/finding.rt",
+        "fs_shrink/src/limits.rt",
+        "fs_recorded/src/linearizing.rt",
+    )
+    found = {
+        name: [value]
+        for file in ("fs_names/src/limits.rt", *of_texts, *of_searches)
+        for name, value in constants(file).items()
+    }
     return found | harness.limits_of_sets() | harness.limits_of_texts()
 
 
@@ -892,7 +1345,10 @@ def naming_limit(limit):
 
 def printed(found):
     """Lists of files under their heads."""
-    return "".join(f"{head}: {len(paths)} files\n" + "".join(f"  {path.relative_to(ROOT)}\n" for path in sorted(paths)) for head, paths in found.items())
+    return "".join(
+        f"{head}: {len(paths)} files\n" + "".join(f"  {path.relative_to(ROOT)}\n" for path in sorted(paths))
+        for head, paths in found.items()
+    )
 
 
 class Touched(Sentences):
@@ -900,16 +1356,90 @@ class Touched(Sentences):
 
     # Where calls and limits stand that no compiler and no prover points to.
     HAVE = (
-        *(("rename", file) for file in ("crates/fs_calls/src/table.rt", "crates/fs_calls/specs/Rows.antt", "crates/fs_machine/specs/Moves.antt", "tests/model.py", "embed/atomfs.h")),
-        *(("PATH_LIMIT", file) for file in ("crates/fs_walk/src/walk.rt", "crates/fs_names/specs/Keys.antt", "tests/data/explained/TooManyNames")),
-        *(("path_limit", file) for file in ("crates/fs_names/specs/Reading.antt", "crates/fs_text/specs/Fits.antt", "tests/data/explained/TooManyNames")),
-        *(("entry_limit", file) for file in ("crates/fs_calls/specs/Forms.antt", "crates/fs_calls/specs/Examples.antt", "crates/fs_rows/specs/Rows.antt", "tests/data/transcripts/trees")),
-        *(("NODE_LIMIT", file) for file in ("crates/fs_nodes/src/store.rt", "crates/fs_names/specs/Limits.antt", "embed/atomfs.h", "docs/SPECIFICATION.md")),
-        *(("node_limit", file) for file in ("crates/fs_laws/specs/Events.antt", "tests/core.py", "bindings/rust/src/limits.rs")),
-        *(("TEXT_LIMIT", file) for file in ("crates/fs_io/src/source.rt", "crates/fs_words/src/headers.rt", "docs/FORMATS.md", "tests/data/explained/TooLarge")),
-        *(("text_limit", file) for file in ("crates/fs_words/specs/Headers.antt", "crates/fs_script/specs/Laws.antt", "docs/FORMATS.md", "tests/data/explained/TooLarge")),
-        *(("call_limit", file) for file in ("crates/fs_script/src/draft.rt", "crates/fs_script/specs/Limits.antt", "bindings/python/src/atomfs/_script.py", "docs/FORMATS.md")),
-        *(("file_limit", file) for file in ("crates/fs_names/specs/Limits.antt", "crates/fs_calls/specs/Examples.antt", "tests/data/transcripts/trees", "embed/atomfs.h")),
+        *(
+            ("rename", file)
+            for file in (
+                "crates/fs_calls/src/table.rt",
+                "crates/fs_calls/specs/Rows.antt",
+                "crates/fs_machine/specs/Moves.antt",
+                "tests/model.py",
+                "embed/atomfs.h",
+            )
+        ),
+        *(
+            ("PATH_LIMIT", file)
+            for file in (
+                "crates/fs_walk/src/walk.rt",
+                "crates/fs_names/specs/Keys.antt",
+                "tests/data/explained/TooManyNames",
+            )
+        ),
+        *(
+            ("path_limit", file)
+            for file in (
+                "crates/fs_names/specs/Reading.antt",
+                "crates/fs_text/specs/Fits.antt",
+                "tests/data/explained/TooManyNames",
+            )
+        ),
+        *(
+            ("entry_limit", file)
+            for file in (
+                "crates/fs_calls/specs/Forms.antt",
+                "crates/fs_calls/specs/Examples.antt",
+                "crates/fs_rows/specs/Rows.antt",
+                "tests/data/transcripts/trees",
+            )
+        ),
+        *(
+            ("NODE_LIMIT", file)
+            for file in (
+                "crates/fs_nodes/src/store.rt",
+                "crates/fs_names/specs/Limits.antt",
+                "embed/atomfs.h",
+                "docs/SPECIFICATION.md",
+            )
+        ),
+        *(
+            ("node_limit", file)
+            for file in ("crates/fs_laws/specs/Events.antt", "tests/core.py", "bindings/rust/src/limits.rs")
+        ),
+        *(
+            ("TEXT_LIMIT", file)
+            for file in (
+                "crates/fs_io/src/source.rt",
+                "crates/fs_words/src/headers.rt",
+                "docs/FORMATS.md",
+                "tests/data/explained/TooLarge",
+            )
+        ),
+        *(
+            ("text_limit", file)
+            for file in (
+                "crates/fs_words/specs/Headers.antt",
+                "crates/fs_script/specs/Laws.antt",
+                "docs/FORMATS.md",
+                "tests/data/explained/TooLarge",
+            )
+        ),
+        *(
+            ("call_limit", file)
+            for file in (
+                "crates/fs_script/src/draft.rt",
+                "crates/fs_script/specs/Limits.antt",
+                "bindings/python/src/atomfs/_script.py",
+                "docs/FORMATS.md",
+            )
+        ),
+        *(
+            ("file_limit", file)
+            for file in (
+                "crates/fs_names/specs/Limits.antt",
+                "crates/fs_calls/specs/Examples.antt",
+                "tests/data/transcripts/trees",
+                "embed/atomfs.h",
+            )
+        ),
     )
 
     def test_known_places(self):
@@ -917,12 +1447,22 @@ class Touched(Sentences):
 
     def look(self, what, file):
         found = naming_call(what) if what in calls() else naming_limit(what)
-        self.same(f"{file} is touched by a change of {what}", ROOT / file in {path for paths in found.values() for path in paths}, True)
+        self.same(
+            f"{file} is touched by a change of {what}",
+            ROOT / file in {path for paths in found.values() for path in paths},
+            True,
+        )
 
     def test_counts(self):
         """How many files of the product name a call of each form."""
-        node, entry, pair = (sum(len(naming_call(call)[part]) for part in ("source", "definitions", "proofs")) for call in ("truncate", "rmdir", "rename"))
-        self.says(CHANGING, f"a node touches {node} files of the product (`truncate`), an entry {entry} (`rmdir`), a pair {pair} (`rename`)")
+        node, entry, pair = (
+            sum(len(naming_call(call)[part]) for part in ("source", "definitions", "proofs"))
+            for call in ("truncate", "rmdir", "rename")
+        )
+        self.says(
+            CHANGING,
+            f"a node touches {node} files of the product (`truncate`), an entry {entry} (`rmdir`), a pair {pair} (`rename`)",
+        )
 
     def test_every_call(self):
         """docs/CHANGING.md lists the sources that have a case for each call."""
@@ -932,15 +1472,31 @@ class Touched(Sentences):
         for span in spans(listed):
             folder = span if span.endswith("/") else folder
             shown += [] if span.endswith("/") else [span if "/" in span else f"{folder}{span}"]
-        self.agrees("the sources with a case for each call", sorted(shown), sorted(str(path.relative_to(CRATES)) for path in found))
+        self.agrees(
+            "the sources with a case for each call",
+            sorted(shown),
+            sorted(str(path.relative_to(CRATES)) for path in found),
+        )
 
     def test_code_alone(self):
         """A comment and an import name nothing, nor does an example."""
-        texts = "//! Call::Rename\n", "use fs_calls::{\n    Call,\n    Rename,\n};\n", "let call = Call::Rename(a, b); // so\n"
-        self.agrees("what is code", [re.sub(NO_CODE[".rt"], "", text, flags=re.M).count("Rename") for text in texts], [0, 0, 1])
+        texts = (
+            "//! Call::Rename\n",
+            "use fs_calls::{\n    Call,\n    Rename,\n};\n",
+            "let call = Call::Rename(a, b); // so\n",
+        )
+        self.agrees(
+            "what is code", [re.sub(NO_CODE[".rt"], "", text, flags=re.M).count("Rename") for text in texts], [0, 0, 1]
+        )
         texts = "-- Rename\n", "use Rattle.fs_calls.{Rename}\n", "reserves (Rename p q) = false -- so\n"
-        self.agrees("what is defined", [re.sub(NO_CODE[".antt"], "", text, flags=re.M).count("Rename") for text in texts], [0, 0, 1])
-        files = [path for call in calls() for part in ("source", "definitions", "proofs") for path in naming_call(call)[part]]
+        self.agrees(
+            "what is defined",
+            [re.sub(NO_CODE[".antt"], "", text, flags=re.M).count("Rename") for text in texts],
+            [0, 0, 1],
+        )
+        files = [
+            path for call in calls() for part in ("source", "definitions", "proofs") for path in naming_call(call)[part]
+        ]
         self.agrees("examples", [path for path in files if path.stem.lower() == "examples"], [])
 
     def test_commands(self):
@@ -948,10 +1504,18 @@ class Touched(Sentences):
         commands = Commands.of_a_shell(r"python3 tests/documents\.py --\w+ \w+")
         self.same("commands", len(commands) >= 2, True)
         self.each(commands, self.look_at_command)
-        self.each((("--names", "--names", "renam", calls()), ("--limit", "--limit", "NODES", limits())), self.look_at_refusal)
+        self.each(
+            (("--names", "--names", "renam", calls()), ("--limit", "--limit", "NODES", limits())), self.look_at_refusal
+        )
 
     def asked(self, *words):
-        done = subprocess.run(["python3", "tests/documents.py", *words], cwd=ROOT, capture_output=True, text=True, timeout=harness.MOST_SECONDS)
+        done = subprocess.run(
+            ["python3", "tests/documents.py", *words],
+            cwd=ROOT,
+            capture_output=True,
+            text=True,
+            timeout=harness.MOST_SECONDS,
+        )
         return Outcome(done.returncode, done.stdout, done.stderr)
 
     def look_at_command(self, command):
@@ -960,7 +1524,9 @@ class Touched(Sentences):
         self.same(command, self.asked(option, word), Outcome(0, printed(found), ""))
 
     def look_at_refusal(self, option, word, known):
-        self.same(f"{option} {word}", self.asked(option, word), Outcome(2, "", f"{word} is none of {', '.join(known)}\n"))
+        self.same(
+            f"{option} {word}", self.asked(option, word), Outcome(2, "", f"{word} is none of {', '.join(known)}\n")
+        )
 
 
 class Guarantees(Sentences):
@@ -979,7 +1545,9 @@ class Guarantees(Sentences):
     def look_at_crate(self, crate, words):
         of = {}
         for function in promises.public(CRATES / crate):
-            of[function.name] = of[f"{pathlib.Path(function.file).stem}::{function.name}"] = [clause.name for clause in function.ensures]
+            of[function.name] = of[f"{pathlib.Path(function.file).stem}::{function.name}"] = [
+                clause.name for clause in function.ensures
+            ]
         groups = []
         for word in words:
             if word in of or not groups:
@@ -987,7 +1555,11 @@ class Guarantees(Sentences):
             else:
                 groups[-1][1].append(word)
         for function, clauses in groups:
-            self.same(f"the clauses of {function}", [clause for clause in clauses or ["only"] if clause not in of.get(function, ())], [])
+            self.same(
+                f"the clauses of {function}",
+                [clause for clause in clauses or ["only"] if clause not in of.get(function, ())],
+                [],
+            )
 
     def test_wrong_bodies(self):
         """Each has an edit in its crate, a function of a check that is called, or a test in Python, behind the name of the crate or file."""
@@ -1020,10 +1592,17 @@ class Guarantees(Sentences):
         return (CRATES / place / "must-fail" / f"{name}.edit").exists()
 
     def test_budget(self):
-        self.says(DOCS / "DECISIONS.md", f"at most {self.MOST_EDITS}, at most {self.MOST_OF_A_CRATE} in a crate, and three or none")
+        self.says(
+            DOCS / "DECISIONS.md",
+            f"at most {self.MOST_EDITS}, at most {self.MOST_OF_A_CRATE} in a crate, and three or none",
+        )
         edits = collections.Counter(path.parts[-3] for path in CRATES.glob("*/must-fail/*.edit"))
         self.same("the edits of all crates", max(edits.total(), self.MOST_EDITS), self.MOST_EDITS)
-        beyond = {crate: number for crate, number in edits.items() if not self.LEAST_OF_A_CRATE <= number <= self.MOST_OF_A_CRATE}
+        beyond = {
+            crate: number
+            for crate, number in edits.items()
+            if not self.LEAST_OF_A_CRATE <= number <= self.MOST_OF_A_CRATE
+        }
         self.same("those of a crate", beyond, {})
 
 
@@ -1035,35 +1614,58 @@ class Listed(Page):
         """The crates of the product, and which of them each names."""
         lines = (line.split(":") for line in (ROOT / "crates.txt").read_text().splitlines() if not line.startswith("#"))
         named = {crate.split()[0]: below.split() for crate, below in lines}
-        return {crate: [one for one in below if one in named] for crate, below in named.items() if re.match("fs_|atomfs", crate)}
+        return {
+            crate: [one for one in below if one in named]
+            for crate, below in named.items()
+            if re.match("fs_|atomfs", crate)
+        }
 
     def test_libraries(self):
         """Each crate names the libraries that crates.txt lists for it."""
         for line in (ROOT / "crates.txt").read_text().splitlines():
             crate, _, libraries = line.partition(":")
             if not line.startswith("#"):
-                files = [path for path in (CRATES / crate.split()[0]).rglob("*") if path.suffix in (".rt", ".antt") and "out" not in path.parts]
+                files = [
+                    path
+                    for path in (CRATES / crate.split()[0]).rglob("*")
+                    if path.suffix in (".rt", ".antt") and "out" not in path.parts
+                ]
                 words = set(re.findall(r"\w+", "\n".join(path.read_text() for path in files)))
                 self.agrees(crate, [name for name in libraries.split() if name not in words], [])
 
     def test_trusted_libraries(self):
         """docs/BELIEVE.md has each library of the kit that a crate names, but the core library."""
         lines = [line.split(":") for line in (ROOT / "crates.txt").read_text().splitlines() if not line.startswith("#")]
-        used = {name for _, below in lines for name in below.split()} - {crate.split()[0] for crate, _ in lines} - {"core"}
+        used = (
+            {name for _, below in lines for name in below.split()} - {crate.split()[0] for crate, _ in lines} - {"core"}
+        )
         said = re.search(r"^- The statements of the kit's crates .*", BELIEVE.read_text(), re.M)[0]
         self.agrees("the kit's crates", sorted(spans(said)), sorted(used))
 
     def test_picture_of_the_crates(self):
         """Each crate of the product is in the picture, on a line above all those on which it stands."""
         picture = blocks(DOCS / "ARCHITECTURE.md")[0]
-        lines = {crate: line for line, shown in enumerate(picture.splitlines()) for crate in re.findall(r"\b(?:fs_|atomfs)\w*", shown)}
+        lines = {
+            crate: line
+            for line, shown in enumerate(picture.splitlines())
+            for crate in re.findall(r"\b(?:fs_|atomfs)\w*", shown)
+        }
         self.agrees("the crates of the picture", sorted(lines), sorted(self.product()))
-        below = [f"{crate} on {one}" for crate, named in self.product().items() for one in named if lines[one] <= lines[crate]]
+        below = [
+            f"{crate} on {one}"
+            for crate, named in self.product().items()
+            for one in named
+            if lines[one] <= lines[crate]
+        ]
         self.agrees("what stands on a crate that is not below it", [], below)
 
     def test_laws(self):
         """docs/MACHINE.md has each law of the machine and of its runs, by the name of the function that states it."""
-        laws = [name for crate in ("fs_machine", "fs_laws", "fs_numbers") for name in re.findall(r"^pub fn (\w+)\(", source(f"{crate}/src/laws.rt"), re.M)]
+        laws = [
+            name
+            for crate in ("fs_machine", "fs_laws", "fs_numbers")
+            for name in re.findall(r"^pub fn (\w+)\(", source(f"{crate}/src/laws.rt"), re.M)
+        ]
         shown = [name for names, _ in table(DOCS / "MACHINE.md", "Law", "Says") for name in spans(names)]
         self.agrees("the laws", sorted(shown), sorted(laws))
 
@@ -1071,8 +1673,12 @@ class Listed(Page):
         """The numbers of errors, and of the kinds of a verdict."""
         cells = [cell for row in table(SPECIFICATION, "Number", "Error", "Number", "Error") for cell in row]
         errors = sorted((int(value), error) for value, error in zip(cells[::2], cells[1::2]) if value)
-        self.agrees("errors", errors, [(value, error.upper()) for value, error in variants("fs_calls/src/errno.rt", "Errno")])
-        kinds = [(int(value), spans(kind)[0]) for value, kind, _ in table(SPECIFICATION, "Number", "Kind", "What is wrong")]
+        self.agrees(
+            "errors", errors, [(value, error.upper()) for value, error in variants("fs_calls/src/errno.rt", "Errno")]
+        )
+        kinds = [
+            (int(value), spans(kind)[0]) for value, kind, _ in table(SPECIFICATION, "Number", "Kind", "What is wrong")
+        ]
         self.agrees("kinds", kinds, variants("fs_timeline/src/verdict.rt", "FaultKind"))
 
     def test_messages(self):
@@ -1080,27 +1686,49 @@ class Listed(Page):
         said = re.search(r"^Messages go to .*", FORMATS.read_text(), re.M)[0]
         statuses = re.findall(r"^  (\d)  ", (DATA / "help" / "atomfs").read_text(), re.M)
         self.agrees("the statuses", re.findall(r"\b(\d): ", said), [status for status in statuses if status != "0"])
-        sources = "".join(source(f"{crate}/src/fault.rt") for crate in ("fs_verdict", "fs_threads", "fs_trace", "fs_find", "fs_draw", "fs_replay"))
-        told = re.findall(r'#\[error\("(?!CALL is )([^"]*\w \w[^"]*|full)"', sources) + re.findall(r'"atomfs: ([^"]*\bhas it\b[^"]*)"', source("fs_command/src/status.rt"))
+        sources = "".join(
+            source(f"{crate}/src/fault.rt")
+            for crate in ("fs_verdict", "fs_threads", "fs_trace", "fs_find", "fs_draw", "fs_replay")
+        )
+        told = re.findall(r'#\[error\("(?!CALL is )([^"]*\w \w[^"]*|full)"', sources) + re.findall(
+            r'"atomfs: ([^"]*\bhas it\b[^"]*)"', source("fs_command/src/status.rt")
+        )
         messages = [re.sub(r"\{\w*\}", "N", message) for message in told]
         self.agrees("the messages", sorted(set(spans(said)) - {"atomfs: ", "line N: KIND"}), sorted(messages))
 
     def test_library(self):
         """The functions of embed/atomfs.h, and its statuses after which something has changed."""
-        header = (ROOT / "embed" / "atomfs.h").read_text()
         calls = [name for _, cell in table(EMBEDDING, "To", "Call") for name in spans(cell)]
-        self.agrees("the functions", sorted(calls), sorted(re.findall(r"^uint8_t (\w+)\(", header, re.M)))
+        self.agrees(
+            "the functions",
+            sorted(calls),
+            sorted(
+                f"atomfs_{name}"
+                for name, function in harness.declared().functions.items()
+                if function.answers == "uint8_t"
+            ),
+        )
         shown = [spans(status)[0] for status, *_ in table(EMBEDDING, "Status", "Means", "What to do")]
+        header = (ROOT / "embed" / "atomfs.h").read_text()
         before = header[: header.index("From here to ATOMFS_FAILED nothing has changed")]
-        self.agrees("the statuses", shown, re.findall(r"^    (ATOMFS_\w+) = \d+,", before, re.M))
+        self.agrees("the statuses", shown, re.findall(r"^    (ATOMFS_\w+) =\s+\d+,", before, re.M))
 
 
 class Numbers(Sentences):
     """Numbers in sentences and tables of pages, and where else they stand."""
 
     def test_limits_of_trees(self):
-        rows = {spans(name)[0]: sets for _, *sets, name in table(SPECIFICATION, "What", "`V1`", "`V2`", "`V3`", "Named by")}
-        named = {"path_names": "path_limit", "name": "name_limit", "entries": "entry_limit", "file": "file_limit", "read": "read_limit", "nodes": "node_limit"}
+        rows = {
+            spans(name)[0]: sets for _, *sets, name in table(SPECIFICATION, "What", "`V1`", "`V2`", "`V3`", "Named by")
+        }
+        named = {
+            "path_names": "path_limit",
+            "name": "name_limit",
+            "entries": "entry_limit",
+            "file": "file_limit",
+            "read": "read_limit",
+            "nodes": "node_limit",
+        }
         told = {limit: [*map(number, rows[f"Limits::{what}"])] for what, limit in named.items()}
         self.agrees("the sets of limits", told, harness.limits_of_sets())
         names, reads = constants("fs_names/src/limits.rt")["LIST_LIMIT"], told["read_limit"]
@@ -1109,19 +1737,21 @@ class Numbers(Sentences):
         first, second, third = ({what: sets[at] for what, sets in told.items()} for at in range(3))
         self.says(SPECIFICATION, f"No call answers more than {names} names")
         self.says(SPECIFICATION, f"A **path** is a key of at most {third['path_limit']:,} names")
-        told_of = f"{third['entry_limit']:,} entries in a directory, paths of {third['path_limit']:,} names, {third['node_limit']:,} nodes"
-        self.says(README, f"names of {third['name_limit']} bytes, files of {third['file_limit']:,}, {told_of}")
-        told_of = f"files of {second['file_limit']:,}, {second['entry_limit']} entries, {second['path_limit']} names, {second['node_limit']:,} nodes"
-        self.says(README, f"by `atomfs 2`, `Limits.V2` names of {second['name_limit']}, {told_of}")
-        self.says(README, f"by `atomfs 1`, `atomfs_open` names of {first['name_limit']}, files of {first['file_limit']:,}")
+        told_of = f"{third['entry_limit']:,} entries in a directory, {third['node_limit']:,} nodes"
+        self.says(README, f"names of {third['name_limit']} bytes, files of {third['file_limit'] >> 30} GiB, {told_of}")
         told_of = f"{third['file_limit']:,} bytes in a file, {third['name_limit']} in a name"
         self.says(CHOOSING, f"{third['entry_limit']:,} entries in a directory, {told_of}")
-        self.says(CHOOSING, f"{second['entry_limit']} entries, {second['file_limit']:,} bytes and {second['name_limit']}")
+        self.says(
+            CHOOSING, f"{second['entry_limit']} entries, {second['file_limit']:,} bytes and {second['name_limit']}"
+        )
         self.says(SPECIFICATION, f"A **name** is 1 to {third['name_limit']} bytes")
         words = f"more than {first['name_limit']} bytes, in a text of version 2 more than {second['name_limit']}, of version 3 more than {third['name_limit']}"
         self.says(FORMATS, f"a name in a path has {words}")
         header = (ROOT / "embed" / "atomfs.h").read_text()
-        nodes = {f"ATOMFS{which}_NODE_LIMIT": sets["node_limit"] for which, sets in (("", first), ("", second), ("_V3", third))}
+        nodes = {
+            f"ATOMFS{which}_NODE_LIMIT": sets["node_limit"]
+            for which, sets in (("", first), ("", second), ("_V3", third))
+        }
         due = {**nodes, "ATOMFS_LIST_LIMIT": names, "ATOMFS_READ_LIMIT": max(reads)}
         self.agrees("embed/atomfs.h", {name: number(re.search(f"#define {name} (.*)", header)[1]) for name in due}, due)
 
@@ -1159,20 +1789,28 @@ class Numbers(Sentences):
         rows = (
             (EXAMPLES, f"`tests/data/worked` has {len(inputs)} more scripts, journals and broken texts"),
             (THREADS, f"There are places for {constants('fs_observe/src/publisher.rt')['READER_PLACES']} observers"),
-            (EMBEDDING, f"`embed/checks.c`, {len((ROOT / 'embed' / 'checks.c').read_text().splitlines())} lines that are not proved"),
+            (
+                EMBEDDING,
+                f"`embed/checks.c`, {len((ROOT / 'embed' / 'checks.c').read_text().splitlines())} lines that are not proved",
+            ),
             (FORMATS, f"It needs a stack of {re.search(r'^STACK = ([0-9]+) . 1024$', stack, re.M)[1]} KiB"),
         )
         self.each(((page.stem, page, sentence) for page, sentence in rows), self.says)
 
     def test_ratios(self):
-        """README's ratios are those of docs/SPEED.md: of times the least and the most, of instructions the middle."""
-        rows = {(spans(job)[0], measure): ratios for job, measure, *ratios in table(SPEED, "Job", "Measure", "Few names", "A tree that grows")}
-        ran, checked = (sum(map(float, rows[f"atomfs {command}", "instructions"])) / 2 for command in ("run", "check"))
-        times = [sorted(re.findall(r"[\d.]+", " ".join(rows[f"atomfs {command}", "time"]))) for command in ("run", "check")]
-        long, checks = (f"{least} to {most}" for least, *_, most in times)
-        self.says(README, f"`atomfs run` takes {long} times as long at {ran:.1f} times the instructions, `atomfs check` {checks} at {checked:.1f}")
+        """README's ratios are those of docs/SPEED.md, the least and the most of times, to a tenth."""
+        rows = {
+            (spans(job)[0], measure): " ".join(ratios)
+            for job, measure, *ratios in table(SPEED, "Job", "Measure", "Few names", "A tree that grows")
+        }
+        times = [
+            sorted(map(float, re.findall(r"[\d.]+", rows[f"atomfs {command}", "time"]))) for command in ("run", "check")
+        ]
+        long, checks = (f"{least:.1f} to {most:.1f} times" for least, *_, most in times)
+        self.says(README, f"`atomfs run` takes {long} as long as a plain, unproved tree in Rust")
+        self.says(README, f"`atomfs check` {checks}")
         throughput = dict(table(SPEED, "Threads", "Throughput"))
-        self.says(README, f"two make {throughput['2']} times as many calls as that tree behind a mutex, four {throughput['4']}")
+        self.says(README, f"two make {throughput['2']} times as many calls, four {throughput['4']} times")
 
 
 def main(option, word):

@@ -7,12 +7,48 @@ LETTERS = "a" * 10 + "b" * 9 + "c"
 LOW = [0] * 1 + [1] * 2 + [2] * 3 + [3] * 10 + [4] * 24
 HIGH = [1] * 14 + [2] * 4 + [3] * 2
 # How many of a hundred calls each is.
-MOVING = {"rename": 40, "mkdir": 16, "mknod": 10, "stat": 6, "write": 6, "unlink": 5, "rmdir": 5, "readdir": 4, "read": 4, "truncate": 4}
+MOVING = {
+    "rename": 40,
+    "mkdir": 16,
+    "mknod": 10,
+    "stat": 6,
+    "write": 6,
+    "unlink": 5,
+    "rmdir": 5,
+    "readdir": 4,
+    "read": 4,
+    "truncate": 4,
+}
 EXCHANGING = {**MOVING, "rename": 8, "exchange": 32}
-CROWDED = {"mkdir": 22, "rename": 16, "exchange": 6, "mknod": 10, "write": 9, "stat": 8, "readdir": 7, "rmdir": 6, "read": 6, "unlink": 5, "truncate": 5}
+CROWDED = {
+    "mkdir": 22,
+    "rename": 16,
+    "exchange": 6,
+    "mknod": 10,
+    "write": 9,
+    "stat": 8,
+    "readdir": 7,
+    "rmdir": 6,
+    "read": 6,
+    "unlink": 5,
+    "truncate": 5,
+}
 # Of the third limits, whose calls are drawn by themselves, and what stands there for two of the three names.
 LONG = {"b": 100 * "c", "c": 255 * "c"}
-LISTING = {"list": 24, "mkdir": 16, "mknod": 16, "rename": 12, "exchange": 5, "write": 5, "stat": 5, "readdir": 5, "rmdir": 4, "read": 3, "unlink": 4, "truncate": 2}
+LISTING = {
+    "list": 24,
+    "mkdir": 16,
+    "mknod": 16,
+    "rename": 12,
+    "exchange": 5,
+    "write": 5,
+    "stat": 5,
+    "readdir": 5,
+    "rmdir": 4,
+    "read": 3,
+    "unlink": 4,
+    "truncate": 2,
+}
 HELPED = {"rename": 28, "exchange": 12, "write": 20, "truncate": 10, "unlink": 14, "above": 8, "mknod": 4, "rmdir": 4}
 # The directories of a tree for moving calls, those above before those below. The last ones, /b and those below it, are mostly left out.
 DIRECTORIES = "/a /a/a /a/b /a/a/a /a/a/b /a/b/a /a/b/b /b /b/a /b/b /b/a/a /b/a/b /b/b/a /b/b/b".split()
@@ -85,7 +121,10 @@ def moving(draw):
 def exchanging(draw):
     """A thread that makes all directories, and two to six threads of three to eight calls that use them, many of which are exchanges."""
     made = [f"mkdir {directory}" for directory in DIRECTORIES] + [f"mknod {path(names(draw, 4))}" for _ in range(4)]
-    return [made, *([moving_call(draw, EXCHANGING) for _ in range(draw.randint(3, 8))] for _ in range(draw.randint(2, 6)))]
+    return [
+        made,
+        *([moving_call(draw, EXCHANGING) for _ in range(draw.randint(3, 8))] for _ in range(draw.randint(2, 6))),
+    ]
 
 
 def helped_call(draw):
@@ -186,5 +225,7 @@ def listing(draw):
 
 def script(threads, schedule="finish", version=1):
     """The script of some threads: t0, t1, t2 and so on."""
-    blocks = "".join(f"thread t{number}\n" + "".join(f"{line}\n" for line in calls) for number, calls in enumerate(threads))
+    blocks = "".join(
+        f"thread t{number}\n" + "".join(f"{line}\n" for line in calls) for number, calls in enumerate(threads)
+    )
     return f"atomfs {version}\n{blocks}schedule\n{schedule}\n"

@@ -1,6 +1,7 @@
 """The library for C as it is built: its typed calls, and calls that break its rules as far as it answers them (typed.c), a tree that threads share
-(shared.c), that some call always goes on, why bytes are no path, its tools over texts, what it finds of histories, its header, what it exports and what is
-packed; the programs of examples/embed in C, Rust and Python, and the examples of docs/EMBEDDING.md and of the packages' pages.
+(shared.c), that some call always goes on, that forgetting costs the same in a large tree (bench/growth.c), why bytes are no path, its tools over texts, what
+it finds of histories, its header, what it exports and what is packed; the programs of examples/embed in C, Rust and Python, and the examples of
+docs/EMBEDDING.md and of the packages' pages.
 
 With LIBATOMFS the programs of this folder take another library: its shared object, beside which the archive stands.
 """
@@ -11,6 +12,7 @@ import random
 import re
 import shutil
 import subprocess
+import sys
 import tarfile
 import tempfile
 import unittest
@@ -22,6 +24,9 @@ import grammar
 import harness
 import histories
 from worked import KINDS
+
+sys.path.insert(0, str(harness.ROOT / "bench"))
+import counting
 
 HEADER = harness.ROOT / "embed" / "atomfs.h"
 TESTS = harness.ROOT / "tests"
@@ -46,13 +51,23 @@ example_c: as docs/EMBEDDING.md says
 example_rust: as bindings/rust/README.md says
 example_python: as bindings/python/README.md says
 readme_c: as README.md says
-readme_python: as README.md says
 """
 
 # How many runs are drawn, and how many events each has before its calls are left standing. A call that has begun returns within so many steps, whatever it does.
 RUNS, EVENTS, STEPS = 200, range(100, 400), 200
 # Of these drawn paths are put together, and how many there are.
-PIECES = [b"/", b"//", b"a", b"b/", b"/.", b"/..", b"/...", b"\0", *(b"/" + size * b"n" for size in (32, 33, 64, 65, 255, 256)), *(names * b"/m" for names in (63, 64, 65))]
+PIECES = [
+    b"/",
+    b"//",
+    b"a",
+    b"b/",
+    b"/.",
+    b"/..",
+    b"/...",
+    b"\0",
+    *(b"/" + size * b"n" for size in (32, 33, 64, 65, 255, 256)),
+    *(names * b"/m" for names in (63, 64, 65)),
+]
 PATHS = 2_000
 
 
@@ -74,7 +89,14 @@ class Programs(harness.Case):
     SECONDS = harness.MOST_SECONDS
     SANITIZED = "-g", "-fno-sanitize-recover=all"
     # No error, and no block that is lost or still in use.
-    MEMCHECK = "valgrind", "-q", "--leak-check=full", "--show-leak-kinds=all", "--errors-for-leak-kinds=all", "--error-exitcode=9"
+    MEMCHECK = (
+        "valgrind",
+        "-q",
+        "--leak-check=full",
+        "--show-leak-kinds=all",
+        "--errors-for-leak-kinds=all",
+        "--error-exitcode=9",
+    )
 
     @classmethod
     def setUpClass(cls):
@@ -86,7 +108,20 @@ class Programs(harness.Case):
         if shutil.which(compiler[0]) is None:
             self.skipTest(f"{compiler[0]} is not on the path")
         program = f"{self.folder}/{name}"
-        words = (*compiler, *STRICT, *flags, "-pthread", "-I", HEADER.parent, TESTS / self.SOURCE, "-x", "none", archive or self.archive, "-o", program)
+        words = (
+            *compiler,
+            *STRICT,
+            *flags,
+            "-pthread",
+            "-I",
+            HEADER.parent,
+            TESTS / self.SOURCE,
+            "-x",
+            "none",
+            archive or self.archive,
+            "-o",
+            program,
+        )
         subprocess.run(words, check=True)
         return program
 
@@ -106,7 +141,10 @@ class Typed(Programs):
         self.each(((name, name, compiler) for name, compiler in LANGUAGES), self.language)
 
     def test_sanitized(self):
-        self.well("typed.c with sanitizers", self.made("sanitized", LANGUAGES[0][1], *self.SANITIZED, "-fsanitize=address,undefined"))
+        self.well(
+            "typed.c with sanitizers",
+            self.made("sanitized", LANGUAGES[0][1], *self.SANITIZED, "-fsanitize=address,undefined"),
+        )
 
     @unittest.skipIf(shutil.which("valgrind") is None, "valgrind is not on the path")
     def test_memcheck(self):
@@ -114,14 +152,26 @@ class Typed(Programs):
 
 
 class Shared(Programs):
-    """tests/shared.c: a tree that 8 threads share, in which each makes 1,000 drawn calls that overlap and help; and its journal is lawful."""
+    """tests/shared.c: a tree that 8 threads share, in which each makes 1,000 drawn calls that overlap and help, threads are cancelled, interrupted, or
+    end in the midst of calls; and its journal is lawful."""
 
     SOURCE, WELL, SECONDS = "shared.c", "a shared tree: as it is to be", 600
     # valgrind runs one thread at a time: a thread that never sleeps would keep the others from their turn for minutes.
     IN_TURN = "--fair-sched=yes"
 
+    def language(self, name, compiler):
+        """All 1,000 calls, cancellations and signals by the first compiler, a fifth of them by each other one."""
+        calls = () if (compiler[0], compiler[1].removeprefix("-std=")) == COMPILERS[0] else ("200",)
+        self.well(name, self.made(name, compiler), *calls)
+
     def test_languages(self):
-        self.each(((f"{compiler} {standard}", f"{compiler}_{standard}", (compiler, f"-std={standard}")) for compiler, standard in COMPILERS), self.language)
+        self.each(
+            (
+                (f"{compiler} {standard}", f"{compiler}_{standard}", (compiler, f"-std={standard}"))
+                for compiler, standard in COMPILERS
+            ),
+            self.language,
+        )
 
     def counted(self, name, *flags):
         """With embed/shared.c compiled into the program: of the library the same functions give way to those."""
@@ -130,7 +180,10 @@ class Shared(Programs):
         return self.made(name, LANGUAGES[1][1], "-DCOUNTED", *flags, archive=weak)
 
     def sanitized(self, sanitizer):
-        self.well(f"shared.c with the sanitizer of {sanitizer}", self.counted(sanitizer, *self.SANITIZED, f"-fsanitize={sanitizer}"))
+        self.well(
+            f"shared.c with the sanitizer of {sanitizer}",
+            self.counted(sanitizer, *self.SANITIZED, f"-fsanitize={sanitizer}"),
+        )
 
     def test_sanitized(self):
         self.each(((sanitizer, sanitizer) for sanitizer in ("thread", "address,undefined")), self.sanitized)
@@ -139,9 +192,32 @@ class Shared(Programs):
     def test_valgrind(self):
         """Helgrind sees what threads do in the proved functions too: nothing but under the lock."""
         program = self.counted("checked", "-g")
-        for name, words, calls in (("memcheck", self.MEMCHECK, "50"), ("helgrind", ("valgrind", "-q", "--tool=helgrind", "--error-exitcode=9"), "20")):
+        for name, words, calls in (
+            ("memcheck", self.MEMCHECK, "50"),
+            ("helgrind", ("valgrind", "-q", "--tool=helgrind", "--error-exitcode=9"), "20"),
+        ):
             with self.subTest(name):
                 self.well(f"shared.c under {name}", *words, self.IN_TURN, program, calls)
+
+
+class Growth(Programs):
+    """bench/growth.c: what a call costs in a tree that forgets does not grow with the tree."""
+
+    SOURCE, KEPT, ROUNDS, SMALL, LARGE, MOST = "../bench/growth.c", 200, 200, 1_000, 8_000, 1.5
+
+    def cost(self, program, nodes):
+        """The instructions of a round of calls, and of forgetting as many calls as it has."""
+        none, some = (
+            counting.counted(program, [str(nodes), str(self.KEPT), str(rounds)], b"").instructions
+            for rounds in (0, self.ROUNDS)
+        )
+        return (some - none) / self.ROUNDS
+
+    @unittest.skipIf(shutil.which("valgrind") is None, "valgrind is not on the path")
+    def test_forgetting(self):
+        program = self.made("growth", LANGUAGES[0][1], "-O2")
+        small, large = (self.cost(program, nodes) for nodes in (self.SMALL, self.LARGE))
+        self.assertLess(large, self.MOST * small)
 
 
 class Progress(harness.Case):
@@ -166,7 +242,11 @@ class Progress(harness.Case):
             returned = [seat for seat, did, _ in came if did == atomfs.Did.RETURN]
             self.same(f"the seats of run {number} whose calls return", sorted(returned), sorted(under_way))
             going = list(itertools.takewhile(lambda step: step[1] != atomfs.Did.IDLE, came))
-            self.same("what came of steps that go on", {step for step in going if step[0] not in under_way or step[1] == atomfs.Did.WAIT}, set())
+            self.same(
+                "what came of steps that go on",
+                {step for step in going if step[0] not in under_way or step[1] == atomfs.Did.WAIT},
+                set(),
+            )
             self.same("what came behind them", set(came[len(going) :]), {(None, atomfs.Did.IDLE, 0)})
             self.same("the verdict", self.library.check(tree.journal()), b"lawful\n")
 
@@ -212,12 +292,16 @@ class Paths(harness.Case):
     def test_drawn(self):
         self.library, self.came = harness.library(), set()
         self.each(((f"path_{number}", number) for number in range(PATHS)), self.look)
-        self.same("the statuses that came", sorted(self.came), [status for status in atomfs.Status if status == atomfs.Status.OK or status.name.startswith("PATH_")])
+        self.same(
+            "the statuses that came",
+            sorted(self.came),
+            [status for status in atomfs.Status if status == atomfs.Status.OK or status.name.startswith("PATH_")],
+        )
 
 
 def refused(came):
     """The status and the line of what the program says of its input."""
-    line, kind = re.fullmatch(rb"atomfs: line (\d+): (\w+).*\n", came.message).groups()
+    line, kind = re.match(rb"atomfs: line (\d+): (\w+).*\n", came.message).groups()
     return KINDS[kind.decode()], int(line)
 
 
@@ -235,24 +319,46 @@ class Tools(harness.Case):
 
     def look(self, words, given, ask):
         came = harness.run(given, *words)
-        self.same(words, harness.told(lambda text: ask(), given), came.output if came.status in (0, 1) and came.output else refused(came))
+        self.same(
+            words,
+            harness.told(lambda text: ask(), given),
+            came.output if came.status in (0, 1) and came.output else refused(came),
+        )
 
     def rows(self):
         library = harness.library()
         runs = harness.DATA / "worked" / "runs"
         texts = {name: (runs / f"{name}.script").read_bytes() for name in self.SCRIPTS}
-        texts |= {"left": b"atomfs 1\nthread t\nmkdir /a\nmkdir /b\nschedule\nt*3\n", "no script": b"atomfs 1\nthread t\nmkdr /a\nschedule\n"}
+        texts |= {
+            "left": b"atomfs 1\nthread t\nmkdir /a\nmkdir /b\nschedule\nt*3\n",
+            "no script": b"atomfs 1\nthread t\nmkdr /a\nschedule\n",
+        }
         for name, text in texts.items():
             for words, by in self.BY:
-                yield f"trace {name} {words}", ("trace", *words), text, lambda text=text, by=by: library.trace(text, *by)
-                yield f"every {name} {words}", ("trace", "--every", *words), text, lambda text=text, by=by: library.trace(text, *by, every=1)
+                yield f"trace {name} {words}", ("trace", *words), text, lambda text=text, by=by: library.trace(
+                    text, *by
+                )
+                yield f"every {name} {words}", (
+                    "trace",
+                    "--every",
+                    *words,
+                ), text, lambda text=text, by=by: library.trace(text, *by, every=1)
                 yield f"draw {name} {words}", ("draw", *words), text, lambda text=text, by=by: library.draw(text, *by)
                 if words:
-                    yield f"schedule {name} {words}", ("schedule", *words), text, lambda text=text, by=by: library.schedule(text, *by)
+                    yield f"schedule {name} {words}", (
+                        "schedule",
+                        *words,
+                    ), text, lambda text=text, by=by: library.schedule(text, *by)
             yield f"around {name}", ("draw", "--around", "1"), text, lambda text=text: library.draw(text, around=1)
-            yield f"seeds {name}", ("seeds", "--seed", "9", "--runs", "3"), text, lambda text=text: library.seeds(text, 9, 3)
+            yield f"seeds {name}", ("seeds", "--seed", "9", "--runs", "3"), text, lambda text=text: library.seeds(
+                text, 9, 3
+            )
         journal = (runs / "helped_rename.text").read_bytes().partition(b"tree\n")[0]
-        for name, text in {"journal": journal, "unlawful": journal.replace(b" ok\n", b" wrote 1\n", 1), "no journal": journal + b"commit 1 2\n"}.items():
+        for name, text in {
+            "journal": journal,
+            "unlawful": journal.replace(b" ok\n", b" wrote 1\n", 1),
+            "no journal": journal + b"commit 1 2\n",
+        }.items():
             yield f"draw {name}", ("draw",), text, lambda text=text: library.draw(text)
         for word in self.WORDS:
             yield f"explain {word}", ("explain", word), b"", lambda word=word: library.explain(word.encode())
@@ -273,7 +379,11 @@ class Histories(harness.Case):
         came = harness.run(given, "linearize", "--limit", str(limit), *words)
         if not came.output:
             return refused(came)
-        found = atomfs.Found.LAWFUL if came.status == 0 else self.FOUND.get(came.output.split(b" ")[0], atomfs.Found.NO_ORDER)
+        found = (
+            atomfs.Found.LAWFUL
+            if came.status == 0
+            else self.FOUND.get(came.output.split(b" ")[0], atomfs.Found.NO_ORDER)
+        )
         self.came.add((tell, found))
         return found, came.output + (re.sub(rb"(?m)^atomfs: ", b"", came.message) if tell == atomfs.Tell.WORDS else b"")
 
@@ -285,7 +395,10 @@ class Histories(harness.Case):
     def rows(self):
         drawn = (histories.history(random.Random(seed)) for seed in range(self.DRAWN))
         texts = {name: given for name, (given, _) in histories.ROWS.items()}
-        texts |= {f"drawn {seed}": histories.text_of((*start, *map(histories.line_of, entries))) for seed, (start, entries) in enumerate(drawn)}
+        texts |= {
+            f"drawn {seed}": histories.text_of((*start, *map(histories.line_of, entries)))
+            for seed, (start, entries) in enumerate(drawn)
+        }
         return ((f"{name} at {limit}", given, limit) for name, given in texts.items() for limit in self.LIMITS)
 
     def test_as_the_program(self):
@@ -317,20 +430,24 @@ class Built(harness.Case):
         self.each(((f"{compiler} {standard}", compiler, standard) for compiler, standard in COMPILERS), self.source)
 
     def exported(self, path, *words):
-        found = subprocess.run(("nm", "--defined-only", *words, path), capture_output=True, text=True, check=True).stdout
+        found = subprocess.run(
+            ("nm", "--defined-only", *words, path), capture_output=True, text=True, check=True
+        ).stdout
         names = re.findall(r" T (\w+)$", found, re.M)
-        declared = re.findall(r"^(?:uint8_t|const char \*) ?(\w+)\(", HEADER.read_text(), re.M)
+        declared = [f"atomfs_{name}" for name in harness.declared().functions]
         self.same(f"what {path.name} exports", sorted(names), sorted(declared))
 
     def test_names(self):
         """The library exports what the header declares, and nothing else."""
         shared = built()
-        self.each((("shared", shared, "-D"), ("archive", shared.with_name("libatomfs.a"), "--extern-only")), self.exported)
+        self.each(
+            (("shared", shared, "-D"), ("archive", shared.with_name("libatomfs.a"), "--extern-only")), self.exported
+        )
 
     def test_archive(self):
         """What embed/build packs, under the version of the header."""
         dist = built().parent.parent
-        version = re.search('#define ATOMFS_VERSION "(.*)"', HEADER.read_text())[1]
+        version = harness.declared().version
         name = f"atomfs-{version}-x86_64-linux"
         with tarfile.open(dist / f"{name}.tar.gz") as archive:
             packed = archive.getnames()
@@ -339,10 +456,21 @@ class Built(harness.Case):
 
 
 class Embedded(harness.Case):
+    def test_asks(self):
+        """Without a word it builds nothing, and says what it would do."""
+        harness.takes_a_process()
+        done = subprocess.run([RUN], capture_output=True, text=True, timeout=harness.MOST_SECONDS)
+        self.same("examples/embed/run", (done.returncode, done.stdout), (2, ""))
+        self.same("what it asks for", re.findall(r"--\w+", done.stderr), ["--prove", "--built"])
+
     def test_each_program(self):
         harness.library()
         done = subprocess.run([RUN, "--built"], capture_output=True, text=True, timeout=10 * harness.MOST_SECONDS)
-        self.same(f"{RUN.relative_to(harness.ROOT)} --built", f"{done.stdout}{done.stderr}status {done.returncode}", f"{SAID}status 0")
+        self.same(
+            f"{RUN.relative_to(harness.ROOT)} --built",
+            f"{done.stdout}{done.stderr}status {done.returncode}",
+            f"{SAID}status 0",
+        )
 
 
 if __name__ == "__main__":

@@ -106,6 +106,10 @@ class Run:
             return f"{verdict.decode()}{text}"
         if wrong := model.fault(text, self.begun):
             return f"{wrong}\n{text}"
-        if (count["took"], count["helped"], count["begun"]) != (count["let go"], count["carried out"], count["returned"]):
+        if (count["took"], count["helped"], count["begun"]) != (
+            count["let go"],
+            count["carried out"],
+            count["returned"],
+        ):
             return f"at rest a call is not done: {dict(count)}\n{text}"
         return None

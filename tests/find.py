@@ -37,7 +37,9 @@ class Script(typing.NamedTuple):
     words: list
 
     def text(self):
-        blocks = "".join(f"thread {name}\n" + "".join(f"{call}\n" for call in calls) for name, calls in self.threads.items())
+        blocks = "".join(
+            f"thread {name}\n" + "".join(f"{call}\n" for call in calls) for name, calls in self.threads.items()
+        )
         return f"atomfs 1\n{blocks}schedule\n{' '.join(self.words)}\n".encode()
 
 
@@ -56,7 +58,7 @@ def seen(names, text, trace):
             commits[calls[number]] = place
         else:
             replies[calls[number]] = " ".join(rest)
-    helped = {calls[number] for number in re.findall(r" helps \w+#(\d+), ", trace.decode())}
+    helped = {call_of(word) for word in re.findall(r" helps (\w+#\d+), ", trace.decode())}
     return Seen(replies, commits, helped, set(lines[at + 1 : -1]))
 
 
@@ -148,10 +150,22 @@ class Words(Case):
         self.each(((name, tuple(shlex.split(words)), *rest) for name, words, *rest in rows), self.ends)
 
     def test_found(self):
-        self.all_end((
-            ("none", "find --where 'tree dir /none' --seed 1 --runs 5", RACE, Outcome(1, b"", b"atomfs: no run of 5 from seed 1 on has it\n")),
-            ("the last seed", "find --where 'not tree dir /none' --seed 9223372036854775807 --runs 1000000", b"atomfs 1\nschedule\n", Outcome(0, b"atomfs 1\nschedule\n", b"atomfs: seed 9223372036854775807\n")),
-        ))
+        self.all_end(
+            (
+                (
+                    "none",
+                    "find --where 'tree dir /none' --seed 1 --runs 5",
+                    RACE,
+                    Outcome(1, b"", b"atomfs: no run of 5 from seed 1 on has it\n"),
+                ),
+                (
+                    "the last seed",
+                    "find --where 'not tree dir /none' --seed 9223372036854775807 --runs 1000000",
+                    b"atomfs 1\nschedule\n",
+                    Outcome(0, b"atomfs 1\nschedule\n", b"atomfs: seed 9223372036854775807\n"),
+                ),
+            )
+        )
 
     def test_bad_words(self):
         """Before any run, and nothing is written."""
@@ -167,13 +181,35 @@ class Words(Case):
             ("tree", LINE), ("tree dir", LINE), ("tree dir a", LINE), ("tree dir /a 00", LINE), ("tree file /a", LINE), ("tree file /a 0", LINE), ("tree link /a", LINE),
         )  # fmt: skip
         for command in (("find", "--seed", "1", "--runs", "5"),):
-            self.each(((f"{command[0]} {number}", (*command, "--where", what), RACE, bad(why)) for number, (what, why) in enumerate(rows)), self.ends)
+            self.each(
+                (
+                    (f"{command[0]} {number}", (*command, "--where", what), RACE, bad(why))
+                    for number, (what, why) in enumerate(rows)
+                ),
+                self.ends,
+            )
             no_call = Outcome(2, b"", b"atomfs: the script has no such call\n")
-            self.each(((f"{command[0]} {what}", (*command, "--where", what), RACE, no_call) for what in ("helped m#3", "helped n#1", "reply m#18446744073709551615 ok", "before m#1 r#2", "not helped M#1")), self.ends)
+            self.each(
+                (
+                    (f"{command[0]} {what}", (*command, "--where", what), RACE, no_call)
+                    for what in (
+                        "helped m#3",
+                        "helped n#1",
+                        "reply m#18446744073709551615 ok",
+                        "before m#1 r#2",
+                        "not helped M#1",
+                    )
+                ),
+                self.ends,
+            )
 
     def test_two_lines(self):
         takes_a_process()
-        self.ends(("find", "--where", "reply m#1 ok\nand helped m#1", "--seed", "1", "--runs", "5"), RACE, Outcome(2, b"", b"atomfs: --where: " + WORDS + b"\n"))
+        self.ends(
+            ("find", "--where", "reply m#1 ok\nand helped m#1", "--seed", "1", "--runs", "5"),
+            RACE,
+            Outcome(2, b"", b"atomfs: --where: " + WORDS + b"\n"),
+        )
 
     def test_readable(self):
         """What words may be."""

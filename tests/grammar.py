@@ -16,7 +16,19 @@ SCRIPTS = {b"atomfs 1": V1, b"atomfs 2": V2, b"atomfs 3": V3}
 JOURNALS = {b"atomfs-journal 1": V1, b"atomfs-journal 2": V1, b"atomfs-journal 3": V2, b"atomfs-journal 4": V3}
 
 CHECKPOINT = b"!checkpoint"
-ERRORS = ("ENOENT", "ENOTDIR", "EEXIST", "ENOTEMPTY", "EISDIR", "EINVAL", "EBUSY", "EPERM", "ENOSPC", "EFBIG", "EOVERFLOW")
+ERRORS = (
+    "ENOENT",
+    "ENOTDIR",
+    "EEXIST",
+    "ENOTEMPTY",
+    "EISDIR",
+    "EINVAL",
+    "EBUSY",
+    "EPERM",
+    "ENOSPC",
+    "EFBIG",
+    "EOVERFLOW",
+)
 
 
 class Fault(Exception):
@@ -100,7 +112,12 @@ READERS = {"PATH": path, "NUMBER": number, "COUNT": count, "HEX": hexadecimal, "
 def forms(*lines):
     """The readers of each form's last words, by its first ones, which stand for themselves."""
     words = [line.split() for line in lines]
-    return {tuple(word.encode() for word in form if word not in READERS): [READERS[word] for word in form if word in READERS] for form in words}
+    return {
+        tuple(word.encode() for word in form if word not in READERS): [
+            READERS[word] for word in form if word in READERS
+        ]
+        for form in words
+    }
 
 
 CALL_FORMS = forms(
@@ -218,7 +235,12 @@ def add_node(nodes, line, limits):
         right = not path and not nodes and content is None
     else:
         parent, siblings = path[:-1], [other for other in nodes if other[:-1] == path[:-1] and other]
-        right = path > next(reversed(nodes)) and nodes.get(parent, b"") is None and len(siblings) < limits.entries and len(content or b"") <= limits.file_bytes
+        right = (
+            path > next(reversed(nodes))
+            and nodes.get(parent, b"") is None
+            and len(siblings) < limits.entries
+            and len(content or b"") <= limits.file_bytes
+        )
     if not right:
         raise Fault("BadStart")
     nodes[path] = content
@@ -313,5 +335,11 @@ class Script:
     def text(self):
         """A script that says the same: each call in canonical form, and each event as a word, unless they are very many."""
         blocks = [line for thread, calls in self.calls.items() for line in (f"thread {thread}", *calls)]
-        words = [word for thread, times in self.events for word in ([thread] * times if times <= 1_000 else [f"{thread}*{times}"])]
-        return "".join(f"{line}\n" for line in (self.header, *blocks, "schedule", *words, *["finish"] * self.finishes)).encode()
+        words = [
+            word
+            for thread, times in self.events
+            for word in ([thread] * times if times <= 1_000 else [f"{thread}*{times}"])
+        ]
+        return "".join(
+            f"{line}\n" for line in (self.header, *blocks, "schedule", *words, *["finish"] * self.finishes)
+        ).encode()

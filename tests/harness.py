@@ -5,6 +5,7 @@ source of it is refused. ROW names the one row that is looked at.
 """
 import contextlib
 import functools
+import importlib.util
 import os
 import pathlib
 import re
@@ -29,6 +30,21 @@ class Outcome(typing.NamedTuple):
     status: int
     output: bytes = b""
     message: bytes = b""
+
+
+@functools.cache
+def reader():
+    """The module that reads embed/atomfs.h."""
+    spec = importlib.util.spec_from_file_location("header", ROOT / "embed" / "header.py")
+    module = importlib.util.module_from_spec(spec)
+    spec.loader.exec_module(module)
+    return module
+
+
+@functools.cache
+def declared():
+    """What embed/atomfs.h declares."""
+    return reader().header()
 
 
 def sources():
@@ -89,6 +105,50 @@ def library():
     return atomfs.Library(library_at())
 
 
+def shown_line(line):
+    """A line as a message shows it: what is no printable ASCII character by an escape, and at most 80 columns."""
+    escapes = {ord("\t"): "\\t", ord("\r"): "\\r", ord("\\"): "\\\\"}
+    text = "".join(escapes.get(byte, chr(byte) if 32 <= byte < 127 else f"\\x{byte:02x}") for byte in line)
+    return text if len(text) <= 80 else text[:77] + "..."
+
+
+# What a text is whose first line is another than it has to be, as a message says it.
+NATURES = (
+    (rb"\xef\xbb\xbf.*", "the text begins with a byte order mark: write it without one"),
+    (rb".*\r", "the lines end with CR LF: write LF alone"),
+    (rb"atomfs-journal [1-4]", "this is a journal: `atomfs check` reads it"),
+    (rb"atomfs [1-3]", "this is a script: `atomfs run` reads it"),
+    (rb"tree", "this is a tree: `atomfs run --from` reads it"),
+    (rb"atomfs-trace .*", "this is a trace, which no command reads"),
+)
+OTHER_LIMITS = "this journal has other limits than the script: give both the same version"
+# How much of a text is kept to show a line of it: one that is cut there is not shown.
+SHOWN_BYTES = 2**16
+
+
+def nature(line, is_tree):
+    """What a text is that begins with a line; as the tree of a run, where it is to be one."""
+    (told,) = [told for form, told in NATURES if re.fullmatch(form, line, re.DOTALL)][:1] or [None]
+    return OTHER_LIMITS if is_tree and told and "journal" in told else told
+
+
+def with_line(wanted, text, is_tree=False):
+    """The outcome of a command that refuses a text by `line N: KIND`: its message shows the line, and says what to have explained."""
+    found = re.fullmatch(rb"atomfs: (?:.*: )?line (\d+): (\w+(?: \w+)?)\n", wanted.message)
+    if wanted.status != 3 or not found:
+        return wanted
+    number, kind = int(found[1]), found[2].decode()
+    kept = text[:SHOWN_BYTES]
+    lines = kept.removesuffix(b"\n").split(b"\n")
+    lines = lines[:-1] if len(text) > SHOWN_BYTES else lines
+    line = lines[number - 1] if number <= len(lines) else b""
+    told = [f"  {shown_line(line)}"] if line else []
+    if kind == "BadHeader":
+        told += filter(None, [nature(line, is_tree) if text else "the text is empty"])
+    told.append(f"`atomfs explain {kind}` says what to write instead")
+    return wanted._replace(message=wanted.message + "".join(f"atomfs: {line}\n" for line in told).encode())
+
+
 def told(ask, given):
     """What a function of the library tells of what it is given: a text, or its status and what that is about."""
     try:
@@ -118,7 +178,9 @@ def run(given, *words):
 def takes_a_process():
     """Skips what looks at a process of the program's own where the program is asked in another way."""
     if answer is not spawned:
-        raise unittest.SkipTest("devices, memory and time of a process are looked at in the program that is proved and built")
+        raise unittest.SkipTest(
+            "devices, memory and time of a process are looked at in the program that is proved and built"
+        )
 
 
 def rows_of(count):
@@ -135,21 +197,31 @@ def asks_of_answers():
 def limits_of_sets():
     """What each set of limits has, by the definition of each limit."""
     source = (ROOT / "crates" / "fs_names" / "src" / "limits.rt").read_text()
-    functions = re.findall(r"ensures \{ result ≡ (\w+_limit) self \}\n    \{\n        match self \{\n(.*?)        \}", source, re.S)
+    functions = re.findall(
+        r"ensures \{ result ≡ (\w+_limit) self \}\n    \{\n        match self \{\n(.*?)        \}", source, re.S
+    )
     told = {limit: re.findall(r"(Limits::V\d(?: \| Limits::V\d)*) => ([\d_]+)", arms) for limit, arms in functions}
     return {limit: [int(value) for sets, value in arms for _ in sets.split("|")] for limit, arms in told.items()}
 
 
 def limits_of_texts():
     """How long a text may be, and how many calls a script has, by each set of limits, by the definition of each."""
-    defined = "".join((ROOT / "crates" / file).read_text() for file in ("fs_words/specs/Headers.antt", "fs_script/specs/Limits.antt"))
-    return {limit: [int(value) for value in re.findall(rf"^{limit} V\d = (\d+)$", defined, re.M)] for limit in ("text_limit", "call_limit")}
+    defined = "".join(
+        (ROOT / "crates" / file).read_text() for file in ("fs_words/specs/Headers.antt", "fs_script/specs/Limits.antt")
+    )
+    return {
+        limit: [int(value) for value in re.findall(rf"^{limit} V\d = (\d+)$", defined, re.M)]
+        for limit in ("text_limit", "call_limit")
+    }
 
 
 def compiled(folder, source, *more):
     """The shared object that `cc` makes of a source in C of tests/."""
     made = f"{folder}/{source}.so"
-    subprocess.run(["cc", "-O2", "-Wall", "-Wextra", "-Werror", "-shared", "-fPIC", "-o", made, ROOT / "tests" / source, *more], check=True)
+    subprocess.run(
+        ["cc", "-O2", "-Wall", "-Wextra", "-Werror", "-shared", "-fPIC", "-o", made, ROOT / "tests" / source, *more],
+        check=True,
+    )
     return made
 
 
@@ -188,7 +260,11 @@ class Case(unittest.TestCase):
         module = pathlib.Path(sys.modules[type(self).__module__].__file__)
         row = f"ROW={shlex.quote(self.row)} " if self.row else ""
         test = f"{type(self).__name__}.{self._testMethodName}"
-        return f"{row}python3 tests/{module.name} {test}" if answer is spawned else f"{row}tests/run --quick {module.stem}.{test}"
+        return (
+            f"{row}python3 tests/{module.name} {test}"
+            if answer is spawned
+            else f"{row}tests/run --quick {module.stem}.{test}"
+        )
 
     def same(self, given, came, wanted):
         """What came of what was given is what was wanted."""

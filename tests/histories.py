@@ -14,11 +14,27 @@ import unittest
 import drawn
 import harness
 import model
-from harness import Outcome, run
+from harness import Outcome, run, with_line
 
 HISTORIES = 1_000
 RUNS = 20
-MAKING = "mkdir", "mkdir", "mknod", "mknod", "unlink", "rmdir", "truncate", "write", "rename", "rename", "exchange", "stat", "stat", "readdir", "read"
+MAKING = (
+    "mkdir",
+    "mkdir",
+    "mknod",
+    "mknod",
+    "unlink",
+    "rmdir",
+    "truncate",
+    "write",
+    "rename",
+    "rename",
+    "exchange",
+    "stat",
+    "stat",
+    "readdir",
+    "read",
+)
 PATHS = "/a", "/b", "/a/a", "/a/b", "/b/a"
 STARTS = (
     ("atomfs-journal 1",),
@@ -97,7 +113,13 @@ def line_of(entry):
 
 def fits(told, reply):
     """Whether a reply is the one of which this is told."""
-    return told == reply or told == "failed ?" and reply.startswith("failed ") or told == "stat dir ?" and reply.startswith("stat dir ")
+    return (
+        told == reply
+        or told == "failed ?"
+        and reply.startswith("failed ")
+        or told == "stat dir ?"
+        and reply.startswith("stat dir ")
+    )
 
 
 def trees(start, entries, whole):
@@ -130,8 +152,14 @@ def has_order(start, entries, whole):
 
 def replied(message):
     """In how many ways all before a return is explained, as a message tells, how many of them give each reply that is told, and whether all are told."""
-    ways, told, rest = re.fullmatch(r"atomfs: (\d+) ways? explains? all before it, and the call could have replied: (.*?)(, \.\.)?\n", message).groups()
-    return int(ways), {reply: int(count) for reply, count in re.findall(r"(?:^|, )(.+?) \((\d+) ways?\)", told)}, not rest
+    ways, told, rest = re.fullmatch(
+        r"atomfs: (\d+) ways? explains? all before it, and the call could have replied: (.*?)(, \.\.)?\n", message
+    ).groups()
+    return (
+        int(ways),
+        {reply: int(count) for reply, count in re.findall(r"(?:^|, )(.+?) \((\d+) ways?\)", told)},
+        not rest,
+    )
 
 
 def without_commits(text):
@@ -165,51 +193,131 @@ ROWS = {
     "an empty history": refused((HEADER,), b"atomfs-journal 1\n", 0),
     "a stat before the mkdir": refused(
         (*BEGUN, "return 2 failed ENOENT", "return 1 ok"),
-        text_of((*BEGUN, "commit 2", "return 2 failed ENOENT", "commit 1", "return 1 ok")), 0,
+        text_of((*BEGUN, "commit 2", "return 2 failed ENOENT", "commit 1", "return 1 ok")),
+        0,
     ),
     "a stat behind it": refused(
         (*BEGUN, "return 2 stat dir 0", "return 1 ok"),
-        text_of((*BEGUN, "commit 1", "commit 2", "return 2 stat dir 0", "return 1 ok")), 0,
+        text_of((*BEGUN, "commit 1", "commit 2", "return 2 stat dir 0", "return 1 ok")),
+        0,
     ),
     "a size that is left open": refused(
         (*BEGUN, "return 2 stat dir ?", "return 1 ok"),
-        text_of((*BEGUN, "commit 1", "commit 2", "return 2 stat dir 0", "return 1 ok")), 0,
+        text_of((*BEGUN, "commit 1", "commit 2", "return 2 stat dir 0", "return 1 ok")),
+        0,
     ),
     "an error that is left open": refused(
         (*BEGUN, "return 1 ok", "return 2 failed ?"),
-        text_of((*BEGUN, "commit 2", "commit 1", "return 1 ok", "return 2 failed ENOENT")), 0,
+        text_of((*BEGUN, "commit 2", "commit 1", "return 1 ok", "return 2 failed ENOENT")),
+        0,
     ),
-    "a reply that nothing explains": unexplained((*BEGUN, "return 2 stat dir 1", "return 1 ok"), 3, 4, "stat /a on seat 1", ways(2, "failed ENOENT (1 way)", "stat dir 0 (1 way)")),
-    "a later reply is held to": unexplained((*BEGUN, "return 1 failed EEXIST", "return 2 stat dir 0"), 3, 4, "mkdir /a on seat 0", one_way("ok")),
-    "an open reply that nothing explains": unexplained((HEADER, "begin 7 0 rmdir /", "", "# none", "return 7 failed ?", "begin 8 0 stat /", "return 8 failed ?"), 4, 7, "stat / on seat 0", one_way("stat dir 0")),
+    "a reply that nothing explains": unexplained(
+        (*BEGUN, "return 2 stat dir 1", "return 1 ok"),
+        3,
+        4,
+        "stat /a on seat 1",
+        ways(2, "failed ENOENT (1 way)", "stat dir 0 (1 way)"),
+    ),
+    "a later reply is held to": unexplained(
+        (*BEGUN, "return 1 failed EEXIST", "return 2 stat dir 0"), 3, 4, "mkdir /a on seat 0", one_way("ok")
+    ),
+    "an open reply that nothing explains": unexplained(
+        (HEADER, "begin 7 0 rmdir /", "", "# none", "return 7 failed ?", "begin 8 0 stat /", "return 8 failed ?"),
+        4,
+        7,
+        "stat / on seat 0",
+        one_way("stat dir 0"),
+    ),
     "ways that give one reply": unexplained(
-        (*BEGUN, "begin 3 2 mkdir /a/b", "return 2 stat dir 7"), 4, 5, "stat /a on seat 1", ways(5, "failed ENOENT (2 ways)", "stat dir 0 (2 ways)", "stat dir 1 (1 way)"),
+        (*BEGUN, "begin 3 2 mkdir /a/b", "return 2 stat dir 7"),
+        4,
+        5,
+        "stat /a on seat 1",
+        ways(5, "failed ENOENT (2 ways)", "stat dir 0 (2 ways)", "stat dir 1 (1 way)"),
     ),
     "calls that do not meet it make no ways": unexplained(
-        (*BEGUN, "begin 3 2 mkdir /b", "return 2 stat dir 1"), 4, 5, "stat /a on seat 1", ways(2, "failed ENOENT (1 way)", "stat dir 0 (1 way)"),
+        (*BEGUN, "begin 3 2 mkdir /b", "return 2 stat dir 1"),
+        4,
+        5,
+        "stat /a on seat 1",
+        ways(2, "failed ENOENT (1 way)", "stat dir 0 (1 way)"),
     ),
     "more replies than are told": unexplained(
-        (HEADER, *(f"begin {at} {at} mkdir /{name}" for at, name in enumerate("abcd")), "begin 9 9 readdir /", "return 9 ok"), 6, 7, "readdir / on seat 9",
-        ways(16, *(f"names{''.join(' ' + name for name in names)} (1 way)" for names in ("", *"abcd", "ab", "ac", "ad", "bc", "bd")), ".."),
+        (
+            HEADER,
+            *(f"begin {at} {at} mkdir /{name}" for at, name in enumerate("abcd")),
+            "begin 9 9 readdir /",
+            "return 9 ok",
+        ),
+        6,
+        7,
+        "readdir / on seat 9",
+        ways(
+            16,
+            *(
+                f"names{''.join(' ' + name for name in names)} (1 way)"
+                for names in ("", *"abcd", "ab", "ac", "ad", "bc", "bd")
+            ),
+            "..",
+        ),
     ),
     "a reply that is cut": unexplained(
-        ("atomfs-journal 2", "start", "dir /", f"file /f {'07' * 200}", "entries", "begin 1 0 read /f 0 200", "return 1 ok"), 2, 7, "read /f 0 200 on seat 0",
+        (
+            "atomfs-journal 2",
+            "start",
+            "dir /",
+            f"file /f {'07' * 200}",
+            "entries",
+            "begin 1 0 read /f 0 200",
+            "return 1 ok",
+        ),
+        2,
+        7,
+        "read /f 0 200 on seat 0",
         one_way(f"bytes {'07' * 117}.."),
     ),
-    "a call that is cut": refused((HEADER, f"begin 1 0 write /a 0 {'00' * 200}", f"return 1 names {'x' * 30} {'y' * 30}"), b"none 2 1\n", 1, f"atomfs: line 3: return 1 names {'x' * 30} {'y' * 30}; call 1 is write /a 0 {'0' * 229}.. on seat 0\natomfs: {one_way('failed ENOENT')}\n".encode()),
-    "a number twice": refused((*BEGUN, "begin 1 2 stat /"), b"fault 3 BeginTwice\n", 1, b"atomfs: line 4: begin 1 2 stat /; call 1 is mkdir /a on seat 0\n"),
-    "a busy seat": refused((*BEGUN, "begin 3 1 stat /"), b"fault 3 SeatBusy\n", 1, b"atomfs: line 4: begin 3 1 stat /; call 3 is stat / on seat 1\n"),
-    "a return without a begin": refused((HEADER, "return 7 ok"), b"fault 1 ReturnUnbegun\n", 1, b"atomfs: line 2: return 7 ok; no call 7 has begun\n"),
-    "a return twice": refused((*BEGUN, "return 2 failed ?", "return 2 failed ?"), b"fault 4 ReturnTwice\n", 1, b"atomfs: line 5: return 2 failed ?; call 2 is stat /a on seat 1\n"),
+    "a call that is cut": refused(
+        (HEADER, f"begin 1 0 write /a 0 {'00' * 200}", f"return 1 names {'x' * 30} {'y' * 30}"),
+        b"none 2 1\n",
+        1,
+        f"atomfs: line 3: return 1 names {'x' * 30} {'y' * 30}; call 1 is write /a 0 {'0' * 229}.. on seat 0\natomfs: {one_way('failed ENOENT')}\n".encode(),
+    ),
+    "a number twice": refused(
+        (*BEGUN, "begin 1 2 stat /"),
+        b"fault 3 BeginTwice\n",
+        1,
+        b"atomfs: line 4: begin 1 2 stat /; call 1 is mkdir /a on seat 0\n",
+    ),
+    "a busy seat": refused(
+        (*BEGUN, "begin 3 1 stat /"),
+        b"fault 3 SeatBusy\n",
+        1,
+        b"atomfs: line 4: begin 3 1 stat /; call 3 is stat / on seat 1\n",
+    ),
+    "a return without a begin": refused(
+        (HEADER, "return 7 ok"), b"fault 1 ReturnUnbegun\n", 1, b"atomfs: line 2: return 7 ok; no call 7 has begun\n"
+    ),
+    "a return twice": refused(
+        (*BEGUN, "return 2 failed ?", "return 2 failed ?"),
+        b"fault 4 ReturnTwice\n",
+        1,
+        b"atomfs: line 5: return 2 failed ?; call 2 is stat /a on seat 1\n",
+    ),
     "a commit": refused((*BEGUN, "commit 1", "return 1 ok"), b"", 3, b"atomfs: line 4: BadLine\n"),
-    "a size of a file that is left open": refused((*BEGUN, "return 2 stat file ?"), b"", 3, b"atomfs: line 4: BadNumber\n"),
-    "up to the tree": refused((*BEGUN, "return 2 failed ENOENT", "tree", "return 2 failed ?"), text_of((*BEGUN, "commit 2", "return 2 failed ENOENT")), 0),
+    "a size of a file that is left open": refused(
+        (*BEGUN, "return 2 stat file ?"), b"", 3, b"atomfs: line 4: BadNumber\n"
+    ),
+    "up to the tree": refused(
+        (*BEGUN, "return 2 failed ENOENT", "tree", "return 2 failed ?"),
+        text_of((*BEGUN, "commit 2", "return 2 failed ENOENT")),
+        0,
+    ),
 }
 
 
 class Histories(harness.Case):
     def answered(self, given, wanted):
-        self.same(given, run(given, "linearize"), wanted)
+        self.same(given, run(given, "linearize"), with_line(wanted, given))
 
     def test_rows(self):
         self.each(((name, *row) for name, row in ROWS.items()), self.answered)
@@ -222,41 +330,134 @@ class Histories(harness.Case):
 
     def test_front(self):
         """With `none` the journal up to that return; what is lawful or a fault is written as ever."""
-        self.each((
-            ("an exact reply", text_of((*BEGUN, "return 2 stat dir 1", "return 1 ok")), text_of((*BEGUN, "return 2 stat dir 1")), b"atomfs: line 4: return 2 stat dir 1; call 2 is stat /a on seat 1; it has not committed\n"),
-            ("an error that is left open", text_of((HEADER, "begin 1 0 stat /", "return 1 failed ?")), text_of((HEADER, "begin 1 0 stat /", "return 1 failed ENOENT")), b"atomfs: line 3: return 1 failed ENOENT; call 1 is stat / on seat 0; it has not committed\n"),
-            ("a size that is left open", text_of((*BEGUN, "return 1 stat dir ?")), text_of((*BEGUN, "return 1 stat dir 0")), b"atomfs: line 4: return 1 stat dir 0; call 1 is mkdir /a on seat 0; it has not committed\n"),
+        self.each(
             (
-                "behind others, from a start tree",
-                text_of(("atomfs-journal 2", "start", "dir /", "dir /b", "entries", "begin 1 0 rmdir /b", "begin 2 1 mkdir /b", "return 2 ok", "begin 3 1 stat /b", "return 3 stat file 0", "return 1 ok")),
-                text_of(("atomfs-journal 2", "start", "dir /", "dir /b", "entries", "begin 1 0 rmdir /b", "begin 2 1 mkdir /b", "commit 1", "commit 2", "return 2 ok", "begin 3 1 stat /b", "return 3 stat file 0")),
-                b"atomfs: line 12: return 3 stat file 0; call 3 is stat /b on seat 1; it has not committed\n",
+                (
+                    "an exact reply",
+                    text_of((*BEGUN, "return 2 stat dir 1", "return 1 ok")),
+                    text_of((*BEGUN, "return 2 stat dir 1")),
+                    b"atomfs: line 4: return 2 stat dir 1; call 2 is stat /a on seat 1; it has not committed\n",
+                ),
+                (
+                    "an error that is left open",
+                    text_of((HEADER, "begin 1 0 stat /", "return 1 failed ?")),
+                    text_of((HEADER, "begin 1 0 stat /", "return 1 failed ENOENT")),
+                    b"atomfs: line 3: return 1 failed ENOENT; call 1 is stat / on seat 0; it has not committed\n",
+                ),
+                (
+                    "a size that is left open",
+                    text_of((*BEGUN, "return 1 stat dir ?")),
+                    text_of((*BEGUN, "return 1 stat dir 0")),
+                    b"atomfs: line 4: return 1 stat dir 0; call 1 is mkdir /a on seat 0; it has not committed\n",
+                ),
+                (
+                    "behind others, from a start tree",
+                    text_of(
+                        (
+                            "atomfs-journal 2",
+                            "start",
+                            "dir /",
+                            "dir /b",
+                            "entries",
+                            "begin 1 0 rmdir /b",
+                            "begin 2 1 mkdir /b",
+                            "return 2 ok",
+                            "begin 3 1 stat /b",
+                            "return 3 stat file 0",
+                            "return 1 ok",
+                        )
+                    ),
+                    text_of(
+                        (
+                            "atomfs-journal 2",
+                            "start",
+                            "dir /",
+                            "dir /b",
+                            "entries",
+                            "begin 1 0 rmdir /b",
+                            "begin 2 1 mkdir /b",
+                            "commit 1",
+                            "commit 2",
+                            "return 2 ok",
+                            "begin 3 1 stat /b",
+                            "return 3 stat file 0",
+                        )
+                    ),
+                    b"atomfs: line 12: return 3 stat file 0; call 3 is stat /b on seat 1; it has not committed\n",
+                ),
             ),
-        ), self.fronts)
+            self.fronts,
+        )
         for name in ("a stat behind it", "a number twice", "a commit"):
             given, wanted = ROWS[name]
-            self.same(given, run(given, "linearize", "--front"), wanted)
+            self.same(given, run(given, "linearize", "--front"), with_line(wanted, given))
 
     def many(self, histories, wanted, words=()):
         """Histories one after the other, of which each begins with its header line."""
         given = b"".join(histories)
-        self.same(given, run(given, "linearize", "--many", *words), wanted)
+        self.same(given, run(given, "linearize", "--many", *words), with_line(wanted, given))
 
     def test_many(self):
-        lawful, none, fault = (ROWS[name][0] for name in ("a size that is left open", "a reply that nothing explains", "a busy seat"))
-        started = text_of(("atomfs-journal 3", "start", "dir /", "entries", "begin 1 0 stat /", "return 1 stat dir 0", "tree", "no line of a journal"))
-        self.each((
-            ("none", (), Outcome(0, b"lawful 0 none 0 fault 0 unknown 0\n")),
-            ("one", (lawful,), Outcome(0, b"lawful 2\nlawful 1 none 0 fault 0 unknown 0\n")),
-            ("lawful ones", (started, lawful, started), Outcome(0, b"lawful 1\nlawful 2\nlawful 1\nlawful 3 none 0 fault 0 unknown 0\n")),
-            ("one that nothing explains", (lawful, none, started), Outcome(1, b"lawful 2\nnone 3 2\nlawful 1\nlawful 2 none 1 fault 0 unknown 0\n")),
-            ("one with a fault", (lawful, b"# one more\n", fault), Outcome(1, b"lawful 2\nfault 3 SeatBusy\nlawful 1 none 0 fault 1 unknown 0\n")),
-            ("one that is not known", (started, none), Outcome(4, b"lawful 1\nunknown 3\nlawful 1 none 0 fault 0 unknown 1\n"), ("--limit", "3")),
-            ("one that is not known, and a fault", (none, fault), Outcome(1, b"unknown 3\nfault 3 SeatBusy\nlawful 0 none 0 fault 1 unknown 1\n"), ("--limit", "2")),
-            ("a fault of the text", (lawful, lawful, text_of((*BEGUN, "commit 1"))), Outcome(3, b"", b"atomfs: line 14: BadLine\n")),
-            ("what comes before a header", (b"# histories\n", lawful), Outcome(3, b"", b"atomfs: line 1: BadHeader\n")),
-            ("no version", (lawful, b"atomfs-journal 5\n"), Outcome(3, b"", b"atomfs: line 6: BadLine\n")),
-        ), self.many)
+        lawful, none, fault = (
+            ROWS[name][0] for name in ("a size that is left open", "a reply that nothing explains", "a busy seat")
+        )
+        started = text_of(
+            (
+                "atomfs-journal 3",
+                "start",
+                "dir /",
+                "entries",
+                "begin 1 0 stat /",
+                "return 1 stat dir 0",
+                "tree",
+                "no line of a journal",
+            )
+        )
+        self.each(
+            (
+                ("none", (), Outcome(0, b"lawful 0 none 0 fault 0 unknown 0\n")),
+                ("one", (lawful,), Outcome(0, b"lawful 2\nlawful 1 none 0 fault 0 unknown 0\n")),
+                (
+                    "lawful ones",
+                    (started, lawful, started),
+                    Outcome(0, b"lawful 1\nlawful 2\nlawful 1\nlawful 3 none 0 fault 0 unknown 0\n"),
+                ),
+                (
+                    "one that nothing explains",
+                    (lawful, none, started),
+                    Outcome(1, b"lawful 2\nnone 3 2\nlawful 1\nlawful 2 none 1 fault 0 unknown 0\n"),
+                ),
+                (
+                    "one with a fault",
+                    (lawful, b"# one more\n", fault),
+                    Outcome(1, b"lawful 2\nfault 3 SeatBusy\nlawful 1 none 0 fault 1 unknown 0\n"),
+                ),
+                (
+                    "one that is not known",
+                    (started, none),
+                    Outcome(4, b"lawful 1\nunknown 3\nlawful 1 none 0 fault 0 unknown 1\n"),
+                    ("--limit", "3"),
+                ),
+                (
+                    "one that is not known, and a fault",
+                    (none, fault),
+                    Outcome(1, b"unknown 3\nfault 3 SeatBusy\nlawful 0 none 0 fault 1 unknown 1\n"),
+                    ("--limit", "2"),
+                ),
+                (
+                    "a fault of the text",
+                    (lawful, lawful, text_of((*BEGUN, "commit 1"))),
+                    Outcome(3, b"", b"atomfs: line 14: BadLine\n"),
+                ),
+                (
+                    "what comes before a header",
+                    (b"# histories\n", lawful),
+                    Outcome(3, b"", b"atomfs: line 1: BadHeader\n"),
+                ),
+                ("no version", (lawful, b"atomfs-journal 5\n"), Outcome(3, b"", b"atomfs: line 6: BadLine\n")),
+            ),
+            self.many,
+        )
 
     def test_limit(self):
         """At one configuration nothing is known."""
@@ -265,14 +466,23 @@ class Histories(harness.Case):
 
     def test_meeting(self):
         """What meets neither the call that returns nor one that meets it is not tried: each such call would double the configurations."""
-        given = text_of((HEADER, *(f"begin {at} {at} mkdir /{name}" for at, name in enumerate("abcdefghijkl")), "begin 20 20 stat /z", "return 20 stat dir 0"))
+        given = text_of(
+            (
+                HEADER,
+                *(f"begin {at} {at} mkdir /{name}" for at, name in enumerate("abcdefghijkl")),
+                "begin 20 20 stat /z",
+                "return 20 stat dir 0",
+            )
+        )
         self.same(given, run(given, "linearize", "--limit", "100")[:2], (1, b"none 14 20\n"))
 
     def explained(self, given, came):
         """A lawful journal, which is the history once its commits are taken out; of what is left open nothing is compared."""
         self.same(given, (came.status, came.message), (0, b""))
         self.same(came.output, run(came.output, "check"), Outcome(0, b"lawful\n"))
-        for told, line in zip(given.decode().splitlines(), without_commits(came.output).decode().splitlines(), strict=True):
+        for told, line in zip(
+            given.decode().splitlines(), without_commits(came.output).decode().splitlines(), strict=True
+        ):
             if told.startswith("return "):
                 _, number, told_reply = told.split(" ", 2)
                 self.same(given, (line.split(" ")[1], fits(told_reply, line.split(" ", 2)[2])), (number, True))
@@ -300,7 +510,10 @@ class Histories(harness.Case):
     def test_every_order_of_lists(self):
         """Of the third limits, with calls that list a directory in pieces."""
         harness.asks_of_answers()
-        drawn_ones = ((f"drawn {seed}", history(random.Random(f"third {seed}"), THIRD_STARTS, LISTING)) for seed in range(THIRD_HISTORIES))
+        drawn_ones = (
+            (f"drawn {seed}", history(random.Random(f"third {seed}"), THIRD_STARTS, LISTING))
+            for seed in range(THIRD_HISTORIES)
+        )
         self.each(((name, *one) for name, one in drawn_ones), self.by_every_order)
 
     def comes_back(self, script):
@@ -310,26 +523,34 @@ class Histories(harness.Case):
 
     def test_runs(self):
         harness.asks_of_answers()
-        rows = [(f"drawn {seed}", drawn.script(drawn.moving(random.Random(seed)), version=2).encode()) for seed in range(RUNS)]
-        rows += [(f"listing {seed}", drawn.script(drawn.listing(random.Random(seed)), version=3).encode()) for seed in range(RUNS // 2)]
+        rows = [
+            (f"drawn {seed}", drawn.script(drawn.moving(random.Random(seed)), version=2).encode())
+            for seed in range(RUNS)
+        ]
+        rows += [
+            (f"listing {seed}", drawn.script(drawn.listing(random.Random(seed)), version=3).encode())
+            for seed in range(RUNS // 2)
+        ]
         self.each(rows, self.comes_back)
 
-    def shown(self, page):
-        """The history that a page shows."""
-        (shown,) = re.findall(r"^printf '(.*)' \| atomfs linearize$", page.read_text(), re.M)
-        return shown.replace("\\n", "\n").encode()
+    @staticmethod
+    def page():
+        """docs/LINEARIZE.md, and the two histories that it shows."""
+        page = (harness.ROOT / "docs" / "LINEARIZE.md").read_text()
+        first, second = re.findall(r"^printf '(.*)' \| atomfs linearize$", page, re.M)
+        return page, *(shown.replace("\\n", "\n").encode() for shown in (first, second))
 
     def test_page(self):
-        """The history that docs/LINEARIZE.md shows is explained."""
+        """The first history of the page is explained."""
         harness.asks_of_answers()
-        given = self.shown(harness.ROOT / "docs" / "LINEARIZE.md")
+        _, given, _ = self.page()
         self.explained(given, run(given, "linearize"))
 
-    def test_readme(self):
-        """Of the one that README shows, it says what is printed."""
-        page = harness.ROOT / "README.md"
-        (due,) = re.findall(r"^It prints `(.*)`: nothing explains", page.read_text(), re.M)
-        self.same("README.md", run(self.shown(page), "linearize")[:2], (1, f"{due}\n".encode()))
+    def test_page_without_order(self):
+        """Of the second one the page says what is printed."""
+        page, _, given = self.page()
+        (due,) = re.findall(r"^It prints `(.*)`: nothing explains", page, re.M)
+        self.same("docs/LINEARIZE.md", run(given, "linearize")[:2], (1, f"{due}\n".encode()))
 
 
 class Long(harness.Case):
@@ -342,7 +563,15 @@ class Long(harness.Case):
         """The processor time that a text of so many open replies takes, of which the first is refused."""
         given = text_of((HEADER, *(f"return {number} failed ?" for number in range(replies, 0, -1))))
         before = resource.getrusage(resource.RUSAGE_CHILDREN)
-        self.same(f"{replies} open replies", run(given, "linearize"), Outcome(1, b"fault 1 ReturnUnbegun\n", f"atomfs: line 2: return {replies} failed ?; no call {replies} has begun\n".encode()))
+        self.same(
+            f"{replies} open replies",
+            run(given, "linearize"),
+            Outcome(
+                1,
+                b"fault 1 ReturnUnbegun\n",
+                f"atomfs: line 2: return {replies} failed ?; no call {replies} has begun\n".encode(),
+            ),
+        )
         after = resource.getrusage(resource.RUSAGE_CHILDREN)
         return after.ru_utime + after.ru_stime - before.ru_utime - before.ru_stime
 

@@ -20,7 +20,19 @@ static void says(const char *what, int line, const void *out, size_t count, cons
 }
 
 /* Linux's numbers of the errors, which the header's statuses are to have. */
-enum { EPERM_ = 1, ENOENT_ = 2, EBUSY_ = 16, EEXIST_ = 17, ENOTDIR_ = 20, EISDIR_ = 21, EINVAL_ = 22, EFBIG_ = 27, ENOSPC_ = 28, ENOTEMPTY_ = 39, EOVERFLOW_ = 75 };
+enum {
+    EPERM_ = 1,
+    ENOENT_ = 2,
+    EBUSY_ = 16,
+    EEXIST_ = 17,
+    ENOTDIR_ = 20,
+    EISDIR_ = 21,
+    EINVAL_ = 22,
+    EFBIG_ = 27,
+    ENOSPC_ = 28,
+    ENOTEMPTY_ = 39,
+    EOVERFLOW_ = 75
+};
 
 #define PATH(text) text, sizeof(text) - 1
 #define FAILS(call, errno_) IS(call, ATOMFS_FAILED + errno_)

@@ -44,7 +44,10 @@ class Counts(Case):
         here = counting.machine()
         counts, block = counting.counts(harness.program()), counting.fitting(counting.kept(), here)
         if not block:
-            print(f"tests/kept.py: for bench/kept.txt:\n\n{counting.Block(here, counting.commit(), counts)}", file=sys.stderr)
+            print(
+                f"tests/kept.py: for bench/kept.txt:\n\n{counting.Block(here, counting.commit(), counts)}",
+                file=sys.stderr,
+            )
             self.skipTest(NO_BLOCK)
         self.same("the jobs of bench/kept.txt", list(block.counts), list(counts))
         self.each(((job, job, count, block) for job, count in counts.items()), self.look)
@@ -63,14 +66,22 @@ class Scripts(Case):
         self.each(((name, name) for name in counting.RUNS), self.look)
 
     def look(self, name):
-        self.same(f"python3 bench/contended.py {name}", contended.scripts()[name], (ROOT / "bench" / f"{name}.script").read_bytes())
+        self.same(
+            f"python3 bench/contended.py {name}",
+            contended.scripts()[name],
+            (ROOT / "bench" / f"{name}.script").read_bytes(),
+        )
 
 
 class Kept(Case):
     """How counts are judged, and how they are kept."""
 
     OLD, OTHER, NEW = (
-        counting.Block((f"kit {kit}", "library glibc 2", "processor x86_64 avx, valgrind-3"), commit, {"run few": few, "misses of run few": few})
+        counting.Block(
+            (f"kit {kit}", "library glibc 2", "processor x86_64 avx, valgrind-3"),
+            commit,
+            {"run few": few, "misses of run few": few},
+        )
         for kit, commit, few in (("a", "0123", 100_000), ("b", "4567 with changes", 7), ("a", "89ab", 90_000))
     )
 
@@ -87,7 +98,9 @@ class Kept(Case):
         """What is written is read again, and a block takes the place of one of the same machine alone."""
         rows = ("none", []), ("one", [self.OLD]), ("two", [self.OLD, self.OTHER])
         self.each(((name, blocks, blocks) for name, blocks in rows), self.look_at_blocks)
-        self.same("a block of the same machine", counting.renewed([self.OTHER, self.OLD], self.NEW), [self.OTHER, self.NEW])
+        self.same(
+            "a block of the same machine", counting.renewed([self.OTHER, self.OLD], self.NEW), [self.OTHER, self.NEW]
+        )
         self.same("a block of another machine", counting.renewed([self.OLD], self.OTHER), [self.OLD, self.OTHER])
 
     def look_at_blocks(self, blocks, wanted):

@@ -17,7 +17,7 @@ import time
 import unittest
 
 import model
-from harness import MOST_SECONDS, Case, Outcome, program, spawned, takes_a_process
+from harness import MOST_SECONDS, SHOWN_BYTES, Case, Outcome, program, spawned, takes_a_process, with_line
 
 TEXT, THREADS, CALLS, EVENTS = 16_777_216, 256, 65_536, 1_000_000
 FILE, ENTRIES, NAME, PATH = 65_536, 256, 32, 64
@@ -102,8 +102,22 @@ def long_names():
     """Calls on as many names as a call answers, and one more, each as long as there are."""
     names = [f"{number:0{THIRD_NAME}}" for number in range(ENTRIES + 1)]
     yield from (f"mknod /{name}" for name in names[:ENTRIES])
-    yield from ("readdir /", f"list / / {ENTRIES}", f"mkdir /{names[0]}", f"mknod /{names[ENTRIES]}", "readdir /", f"list / / {ENTRIES}", f"list / /{names[ENTRIES - 2]} 9")
-    yield from (f"rename /{names[0]} /{names[1]}", f"rename /{names[1]} /{names[0]}", f"exchange /{names[2]} /{names[3]}", f"unlink /{names[ENTRIES]}", "stat /")
+    yield from (
+        "readdir /",
+        f"list / / {ENTRIES}",
+        f"mkdir /{names[0]}",
+        f"mknod /{names[ENTRIES]}",
+        "readdir /",
+        f"list / / {ENTRIES}",
+        f"list / /{names[ENTRIES - 2]} 9",
+    )
+    yield from (
+        f"rename /{names[0]} /{names[1]}",
+        f"rename /{names[1]} /{names[0]}",
+        f"exchange /{names[2]} /{names[3]}",
+        f"unlink /{names[ENTRIES]}",
+        "stat /",
+    )
 
 
 def names_in_order(count):
@@ -142,7 +156,9 @@ def stats(count):
 
 def nodes(count):
     """So many calls that each make a node: 256 directories of at most 256 entries."""
-    return script(f"mkdir /{number}" if number < ENTRIES else f"mknod /{number % ENTRIES}/{number}" for number in range(count))
+    return script(
+        f"mkdir /{number}" if number < ENTRIES else f"mknod /{number % ENTRIES}/{number}" for number in range(count)
+    )
 
 
 def entries(count, *more):
@@ -248,7 +264,9 @@ class Limits(Case):
     def compare(self, words, wanted, room=None):
         status, told, seconds, kilobytes = self.measured(words, room)
         came = Outcome(status, self.end(len(wanted.output) or 4_096), told)
-        self.same(f"atomfs {' '.join(words)}, {self.row}", came, wanted)
+        with open(self.given, "rb") as given:
+            front = given.read(SHOWN_BYTES + 1) if wanted.status == 3 else b""
+        self.same(f"atomfs {' '.join(words)}, {self.row}", came, with_line(wanted, front))
         if self.measures:
             print(f"{self.row}, {words[0]}: status {status}, {seconds:.2f} seconds, {kilobytes} kilobytes", flush=True)
 
@@ -262,15 +280,22 @@ class Limits(Case):
             self.compare(CHECK, LAWFUL)
 
     def whole(self, words, given, wanted):
-        self.same(f"atomfs {' '.join(words)}, {len(given)} bytes", spawned(words, given), wanted)
+        self.same(f"atomfs {' '.join(words)}, {len(given)} bytes", spawned(words, given), with_line(wanted, given))
 
     def test_lengths(self):
         """The last line is a comment that has no end."""
-        for words, header, wanted in ((RUN, EMPTY, EMPTY_RUN), (SEEDS, EMPTY, LAWFUL_SEEDS), (CHECK, b"atomfs-journal 1\n", LAWFUL)):
-            self.each((
-                (f"{words[0]}, {TEXT} bytes", words, header.ljust(TEXT, b"#"), wanted),
-                (f"{words[0]}, {TEXT + 1} bytes", words, header.ljust(TEXT + 1, b"#"), refused(1, "TooLarge")),
-            ), self.whole)
+        for words, header, wanted in (
+            (RUN, EMPTY, EMPTY_RUN),
+            (SEEDS, EMPTY, LAWFUL_SEEDS),
+            (CHECK, b"atomfs-journal 1\n", LAWFUL),
+        ):
+            self.each(
+                (
+                    (f"{words[0]}, {TEXT} bytes", words, header.ljust(TEXT, b"#"), wanted),
+                    (f"{words[0]}, {TEXT + 1} bytes", words, header.ljust(TEXT + 1, b"#"), refused(1, "TooLarge")),
+                ),
+                self.whole,
+            )
 
     def filled(self, words, header, length, wanted):
         """The outcome on a text of so many bytes: behind these lines a comment of bytes zero, of which the file holds none."""
@@ -290,77 +315,167 @@ class Limits(Case):
                 ("atomfs-journal", version + 1, CHECK, STARTED[version], LAWFUL),
             )
         ]
-        self.each((
-            *((f"{name}, {most} bytes", words, header, most, wanted) for name, most, words, header, wanted in of_version),
-            *((f"{name}, {most + 1} bytes", words, header, most + 1, refused(1, "TooLarge")) for name, most, words, header, _ in of_version),
-            (f"atomfs 3, {TEXT + 1} bytes", RUN, EMPTIES[3], TEXT + 1, ran[3]),
-            (f"atomfs 3, drawn, {TEXT + 1} bytes", SEEDS, EMPTIES[3], TEXT + 1, LAWFUL_SEEDS),
-            (f"atomfs 3, on real threads, {TEXT + 1} bytes", ("threads",), EMPTIES[3], TEXT + 1, well("lawful calls 0\n")),
-            (f"atomfs-journal 4, {TEXT + 1} bytes", CHECK, STARTED[3], TEXT + 1, LAWFUL),
-            (f"a history by the third limits, {TEXT + 1} bytes", ("linearize",), STARTED[3], TEXT + 1, well(STARTED[3].decode())),
-            (f"a history by the third limits, {THIRD_TEXT + 1} bytes", ("linearize",), STARTED[3], THIRD_TEXT + 1, refused(1, "TooLarge")),
-            (f"a history by the second limits, {TEXT + 1} bytes", ("linearize",), STARTED[2], TEXT + 1, refused(1, "TooLarge")),
-            (f"a script that is no journal, {TEXT + 1} bytes", CHECK, EMPTIES[3], TEXT + 1, refused(1, "BadHeader")),
-            (f"a journal that is no script, {TEXT + 1} bytes", RUN, STARTED[3], TEXT + 1, refused(1, "BadHeader")),
-            (f"atomfs 4, {TEXT + 1} bytes", RUN, b"atomfs 4\n", TEXT + 1, refused(1, "TooLarge")),
-            (f"atomfs 3 and a space, {TEXT + 1} bytes", RUN, b"atomfs 3 \n", TEXT + 1, refused(1, "TooLarge")),
-            (f"a first line that goes on, {TEXT + 1} bytes", RUN, b"atomfs 3", TEXT + 1, refused(1, "TooLarge")),
-            (f"an empty line first, {TEXT + 1} bytes", RUN, b"\natomfs 3\n", TEXT + 1, refused(1, "TooLarge")),
-        ), self.filled)
+        self.each(
+            (
+                *(
+                    (f"{name}, {most} bytes", words, header, most, wanted)
+                    for name, most, words, header, wanted in of_version
+                ),
+                *(
+                    (f"{name}, {most + 1} bytes", words, header, most + 1, refused(1, "TooLarge"))
+                    for name, most, words, header, _ in of_version
+                ),
+                (f"atomfs 3, {TEXT + 1} bytes", RUN, EMPTIES[3], TEXT + 1, ran[3]),
+                (f"atomfs 3, drawn, {TEXT + 1} bytes", SEEDS, EMPTIES[3], TEXT + 1, LAWFUL_SEEDS),
+                (
+                    f"atomfs 3, on real threads, {TEXT + 1} bytes",
+                    ("threads",),
+                    EMPTIES[3],
+                    TEXT + 1,
+                    well("lawful calls 0\n"),
+                ),
+                (f"atomfs-journal 4, {TEXT + 1} bytes", CHECK, STARTED[3], TEXT + 1, LAWFUL),
+                (
+                    f"a history by the third limits, {TEXT + 1} bytes",
+                    ("linearize",),
+                    STARTED[3],
+                    TEXT + 1,
+                    well(STARTED[3].decode()),
+                ),
+                (
+                    f"a history by the third limits, {THIRD_TEXT + 1} bytes",
+                    ("linearize",),
+                    STARTED[3],
+                    THIRD_TEXT + 1,
+                    refused(1, "TooLarge"),
+                ),
+                (
+                    f"a history by the second limits, {TEXT + 1} bytes",
+                    ("linearize",),
+                    STARTED[2],
+                    TEXT + 1,
+                    refused(1, "TooLarge"),
+                ),
+                (
+                    f"a script that is no journal, {TEXT + 1} bytes",
+                    CHECK,
+                    EMPTIES[3],
+                    TEXT + 1,
+                    refused(1, "BadHeader"),
+                ),
+                (f"a journal that is no script, {TEXT + 1} bytes", RUN, STARTED[3], TEXT + 1, refused(1, "BadHeader")),
+                (f"atomfs 4, {TEXT + 1} bytes", RUN, b"atomfs 4\n", TEXT + 1, refused(1, "TooLarge")),
+                (f"atomfs 3 and a space, {TEXT + 1} bytes", RUN, b"atomfs 3 \n", TEXT + 1, refused(1, "TooLarge")),
+                (f"a first line that goes on, {TEXT + 1} bytes", RUN, b"atomfs 3", TEXT + 1, refused(1, "TooLarge")),
+                (f"an empty line first, {TEXT + 1} bytes", RUN, b"\natomfs 3\n", TEXT + 1, refused(1, "TooLarge")),
+            ),
+            self.filled,
+        )
 
     def test_lengths_through_a_pipe(self):
         """What tells that a text is too long is read, and no more: the one that writes it is left with the rest."""
         piece = b"#" * 999 + b"\n"
         for version, most in ((2, TEXT), (3, THIRD_TEXT)):
-            with self.subTest(f"atomfs {version}"), subprocess.Popen([program(), *RUN], stdin=subprocess.PIPE, stdout=subprocess.PIPE, stderr=subprocess.PIPE) as child:
+            with self.subTest(f"atomfs {version}"), subprocess.Popen(
+                [program(), *RUN], stdin=subprocess.PIPE, stdout=subprocess.PIPE, stderr=subprocess.PIPE
+            ) as child:
                 written = 0
                 with contextlib.suppress(BrokenPipeError):
                     written += child.stdin.write(EMPTIES[version])
                     while written < 2 * most:
                         written += child.stdin.write(piece * 1_000)
                 output, message = child.communicate(timeout=MOST_SECONDS)
-                self.same(f"atomfs {version} without end", Outcome(child.returncode, output, message), refused(1, "TooLarge"))
+                wanted = with_line(refused(1, "TooLarge"), EMPTIES[version])
+                self.same(f"atomfs {version} without end", Outcome(child.returncode, output, message), wanted)
                 self.assertLess(written, most + 4 * len(piece) * 1_000)
 
     def test_scripts(self):
         folders = [f"dir /{number}" for number in sorted(map(str, range(THREADS)))]
         first, last = (alone(number, "stat /", "stat dir 0") for number in (1, CALLS))
-        self.each((
-            (f"{TEXT} bytes", commented(TEXT), RUN, EMPTY_RUN),
-            (f"{TEXT + 1} bytes", commented(TEXT + 1), RUN, refused(1, "TooLarge")),
-            (f"{THREADS} threads", threads(THREADS), RUN, well(finished(THREADS, *folders))),
-            (f"{THREADS} threads, real", threads(THREADS), ("threads",), well(f"lawful calls {THREADS}\n")),
-            (f"{THREADS} threads, drawn", threads(THREADS), SEEDS, LAWFUL_SEEDS),
-            (f"{THREADS + 1} threads", threads(THREADS + 1), RUN, refused(2 * THREADS + 2, "TooLarge")),
-            (f"{CALLS} calls", stats(CALLS), RUN, well(last, finished(CALLS))),
-            (f"{CALLS} calls, on a real thread", stats(CALLS), ("threads",), well(f"lawful calls {CALLS}\n")),
-            (f"{CALLS + 1} calls", stats(CALLS + 1), RUN, refused(CALLS + 3, "TooLarge")),
-            (f"{CALLS} calls by the second limits", by(2, stats(CALLS)), RUN, well(last, finished(CALLS))),
-            (f"{CALLS + 1} calls by the second limits", by(2, stats(CALLS + 1)), RUN, refused(CALLS + 3, "TooLarge")),
-            (f"{EVENTS} events", script(["stat /"], f"t*{EVENTS}"), RUN, well(first, finished(1))),
-            (f"{EVENTS + 1} events", script(["stat /"], f"t*{EVENTS} t"), RUN, refused(5, "TooLarge")),
-        ), self.ends)
+        self.each(
+            (
+                (f"{TEXT} bytes", commented(TEXT), RUN, EMPTY_RUN),
+                (f"{TEXT + 1} bytes", commented(TEXT + 1), RUN, refused(1, "TooLarge")),
+                (f"{THREADS} threads", threads(THREADS), RUN, well(finished(THREADS, *folders))),
+                (f"{THREADS} threads, real", threads(THREADS), ("threads",), well(f"lawful calls {THREADS}\n")),
+                (f"{THREADS} threads, drawn", threads(THREADS), SEEDS, LAWFUL_SEEDS),
+                (f"{THREADS + 1} threads", threads(THREADS + 1), RUN, refused(2 * THREADS + 2, "TooLarge")),
+                (f"{CALLS} calls", stats(CALLS), RUN, well(last, finished(CALLS))),
+                (f"{CALLS} calls, on a real thread", stats(CALLS), ("threads",), well(f"lawful calls {CALLS}\n")),
+                (f"{CALLS + 1} calls", stats(CALLS + 1), RUN, refused(CALLS + 3, "TooLarge")),
+                (f"{CALLS} calls by the second limits", by(2, stats(CALLS)), RUN, well(last, finished(CALLS))),
+                (
+                    f"{CALLS + 1} calls by the second limits",
+                    by(2, stats(CALLS + 1)),
+                    RUN,
+                    refused(CALLS + 3, "TooLarge"),
+                ),
+                (f"{EVENTS} events", script(["stat /"], f"t*{EVENTS}"), RUN, well(first, finished(1))),
+                (f"{EVENTS + 1} events", script(["stat /"], f"t*{EVENTS} t"), RUN, refused(5, "TooLarge")),
+            ),
+            self.ends,
+        )
 
     def test_files_and_folders(self):
         write, past, stat = f"write /f {FILE - 1} ff", f"write /f {FILE} 00", alone(3, "stat /f", f"stat file {FILE}")
         full = [f"file /{number} -" for number in sorted(map(str, range(ENTRIES)))]
-        self.each((
-            (f"{CALLS} nodes and the root", nodes(CALLS), RUN, well(counts(CALLS))),
-            (f"a file of {FILE} bytes", script(["mknod /f", write, "stat /f"]), RUN, well(stat, finished(3, "file /f " + "00" * (FILE - 1) + "ff"))),
-            (f"a file of {FILE + 1} bytes", script(["mknod /f", past]), RUN, well(alone(2, past, "failed EFBIG"), finished(2, "file /f -"))),
-            (f"{ENTRIES} entries", entries(ENTRIES), RUN, well(finished(ENTRIES, *full))),
-            (f"{ENTRIES + 1} entries", entries(ENTRIES + 1), RUN, well(alone(257, "mknod /256", "failed ENOSPC"), finished(257, *full))),
-            ("entries that are there, where no more may be", entries(ENTRIES, "mkdir /0", "mknod /1"), RUN, well(alone(257, "mkdir /0", "failed EEXIST"), alone(258, "mknod /1", "failed EEXIST"), finished(258, *full))),
-        ), self.ends)
+        self.each(
+            (
+                (f"{CALLS} nodes and the root", nodes(CALLS), RUN, well(counts(CALLS))),
+                (
+                    f"a file of {FILE} bytes",
+                    script(["mknod /f", write, "stat /f"]),
+                    RUN,
+                    well(stat, finished(3, "file /f " + "00" * (FILE - 1) + "ff")),
+                ),
+                (
+                    f"a file of {FILE + 1} bytes",
+                    script(["mknod /f", past]),
+                    RUN,
+                    well(alone(2, past, "failed EFBIG"), finished(2, "file /f -")),
+                ),
+                (f"{ENTRIES} entries", entries(ENTRIES), RUN, well(finished(ENTRIES, *full))),
+                (
+                    f"{ENTRIES + 1} entries",
+                    entries(ENTRIES + 1),
+                    RUN,
+                    well(alone(257, "mknod /256", "failed ENOSPC"), finished(257, *full)),
+                ),
+                (
+                    "entries that are there, where no more may be",
+                    entries(ENTRIES, "mkdir /0", "mknod /1"),
+                    RUN,
+                    well(
+                        alone(257, "mkdir /0", "failed EEXIST"),
+                        alone(258, "mknod /1", "failed EEXIST"),
+                        finished(258, *full),
+                    ),
+                ),
+            ),
+            self.ends,
+        )
 
     def test_paths(self):
         name, path = NAME * "n", PATH * "/n"
-        self.each((
-            (f"a name of {NAME} bytes", script([f"mkdir /{name}"]), RUN, well(alone(1, f"mkdir /{name}", "ok"), finished(1, f"dir /{name}"))),
-            (f"a name of {NAME + 1} bytes", script([f"mkdir /{name}n"]), RUN, refused(3, "BadPath NameTooLong")),
-            (f"a path of {PATH} names", script([f"stat {path}"]), RUN, well(alone(1, f"stat {path}", "failed ENOENT"), finished(1))),
-            (f"a path of {PATH + 1} names", script([f"stat {path}/n"]), RUN, refused(3, "BadPath TooManyNames")),
-        ), self.ends)
+        self.each(
+            (
+                (
+                    f"a name of {NAME} bytes",
+                    script([f"mkdir /{name}"]),
+                    RUN,
+                    well(alone(1, f"mkdir /{name}", "ok"), finished(1, f"dir /{name}")),
+                ),
+                (f"a name of {NAME + 1} bytes", script([f"mkdir /{name}n"]), RUN, refused(3, "BadPath NameTooLong")),
+                (
+                    f"a path of {PATH} names",
+                    script([f"stat {path}"]),
+                    RUN,
+                    well(alone(1, f"stat {path}", "failed ENOENT"), finished(1)),
+                ),
+                (f"a path of {PATH + 1} names", script([f"stat {path}/n"]), RUN, refused(3, "BadPath TooManyNames")),
+            ),
+            self.ends,
+        )
 
     def test_third_limits(self):
         """Each at the limit and one past it."""
@@ -370,56 +485,226 @@ class Limits(Case):
         rows = (
             (f"names of {THIRD_NAME} bytes", [*long_names()]),
             (f"a count of {MOST_COUNT}", ["mknod /a", f"list / / {MOST_COUNT}"]),
-            (f"a path of {THIRD_PATH} names", [*chain, f"stat {path}", f"mknod {path[:-2]}/f", f"list {path[:-2]} / 9", "rename /n /m"]),
+            (
+                f"a path of {THIRD_PATH} names",
+                [*chain, f"stat {path}", f"mknod {path[:-2]}/f", f"list {path[:-2]} / 9", "rename /n /m"],
+            ),
             (f"{ENTRIES} entries", [*(f"mknod /{number}" for number in range(ENTRIES)), "readdir /", "list / / 257"]),
-            (f"{ENTRIES + 1} entries", [*(f"mknod /{number}" for number in range(ENTRIES + 1)), "readdir /", "list / / 257", "list / /97 257", "list / /98 257", "rmdir /", "unlink /5", "readdir /"]),
-            (f"{ENTRIES + 1} entries that go", ["mkdir /d", "mkdir /e", *(f"mknod /d/{number}" for number in range(ENTRIES + 1)), "readdir /d", "rename /e /d", "rmdir /d", "rename /d/1 /e/1", "readdir /d", "exchange /d /e", "readdir /e", "list /e /10 3"]),
+            (
+                f"{ENTRIES + 1} entries",
+                [
+                    *(f"mknod /{number}" for number in range(ENTRIES + 1)),
+                    "readdir /",
+                    "list / / 257",
+                    "list / /97 257",
+                    "list / /98 257",
+                    "rmdir /",
+                    "unlink /5",
+                    "readdir /",
+                ],
+            ),
+            (
+                f"{ENTRIES + 1} entries that go",
+                [
+                    "mkdir /d",
+                    "mkdir /e",
+                    *(f"mknod /d/{number}" for number in range(ENTRIES + 1)),
+                    "readdir /d",
+                    "rename /e /d",
+                    "rmdir /d",
+                    "rename /d/1 /e/1",
+                    "readdir /d",
+                    "exchange /d /e",
+                    "readdir /e",
+                    "list /e /10 3",
+                ],
+            ),
             (f"{CALLS} entries", [*(f"mknod /{number}" for number in range(CALLS - 2)), "list / /9999 9", "stat /"]),
-            (f"a file of {THIRD_FILE} bytes", ["mknod /f", f"truncate /f {THIRD_FILE}", "stat /f", f"read /f {edge} 2", f"truncate /f {THIRD_FILE + 1}", "stat /f", "truncate /f 1"]),
-            ("a byte at its end", ["mknod /f", f"write /f {edge} ff", "stat /f", f"write /f {edge} ffff", f"write /f {THIRD_FILE} 00", f"write /f {THIRD_FILE} -", f"read /f {edge - 1} 9", "read /f 0 3", "truncate /f 0"]),
-            (f"reads of {THIRD_READ} bytes", ["mknod /f", mib, f"write /f {THIRD_READ - 1} aabb", f"read /f 0 {THIRD_READ}", f"read /f 0 {THIRD_READ + 1}", f"read /f 1 {2**64 - 1}", f"read /f 2 {THIRD_READ}", "truncate /f 0"]),
+            (
+                f"a file of {THIRD_FILE} bytes",
+                [
+                    "mknod /f",
+                    f"truncate /f {THIRD_FILE}",
+                    "stat /f",
+                    f"read /f {edge} 2",
+                    f"truncate /f {THIRD_FILE + 1}",
+                    "stat /f",
+                    "truncate /f 1",
+                ],
+            ),
+            (
+                "a byte at its end",
+                [
+                    "mknod /f",
+                    f"write /f {edge} ff",
+                    "stat /f",
+                    f"write /f {edge} ffff",
+                    f"write /f {THIRD_FILE} 00",
+                    f"write /f {THIRD_FILE} -",
+                    f"read /f {edge - 1} 9",
+                    "read /f 0 3",
+                    "truncate /f 0",
+                ],
+            ),
+            (
+                f"reads of {THIRD_READ} bytes",
+                [
+                    "mknod /f",
+                    mib,
+                    f"write /f {THIRD_READ - 1} aabb",
+                    f"read /f 0 {THIRD_READ}",
+                    f"read /f 0 {THIRD_READ + 1}",
+                    f"read /f 1 {2**64 - 1}",
+                    f"read /f 2 {THIRD_READ}",
+                    "truncate /f 0",
+                ],
+            ),
         )
-        self.each((*((name, third(calls), RUN, of_model(calls)) for name, calls in rows), *(
-            (f"a name of {THIRD_NAME + 1} bytes", third([f"mkdir /{name}n"]), RUN, refused(3, "BadPath NameTooLong")),
-            (f"a path of {THIRD_PATH + 1} names", third([f"stat {path}/n"]), RUN, refused(3, "BadPath TooManyNames")),
-            (f"a list behind a name of {THIRD_NAME + 1} bytes", third([f"list / /{name}n 1"]), RUN, refused(3, "BadPath NameTooLong")),
-            (f"a list behind a path of {THIRD_PATH + 1} names", third([f"list / {path}/n 1"]), RUN, refused(3, "BadPath TooManyNames")),
-            (f"a count of {MOST_COUNT + 1}", third([f"list / / {MOST_COUNT + 1}"]), RUN, refused(3, "BadNumber")),
-            (f"a count of {2**64}", third([f"list / / {2**64}"]), RUN, refused(3, "BadNumber")),
-            (f"{CALLS} entries, on a real thread", third(f"mknod /{number}" for number in range(CALLS)), ("threads",), well(f"lawful calls {CALLS}\n")),
-        )), self.ends)
+        self.each(
+            (
+                *((name, third(calls), RUN, of_model(calls)) for name, calls in rows),
+                *(
+                    (
+                        f"a name of {THIRD_NAME + 1} bytes",
+                        third([f"mkdir /{name}n"]),
+                        RUN,
+                        refused(3, "BadPath NameTooLong"),
+                    ),
+                    (
+                        f"a path of {THIRD_PATH + 1} names",
+                        third([f"stat {path}/n"]),
+                        RUN,
+                        refused(3, "BadPath TooManyNames"),
+                    ),
+                    (
+                        f"a list behind a name of {THIRD_NAME + 1} bytes",
+                        third([f"list / /{name}n 1"]),
+                        RUN,
+                        refused(3, "BadPath NameTooLong"),
+                    ),
+                    (
+                        f"a list behind a path of {THIRD_PATH + 1} names",
+                        third([f"list / {path}/n 1"]),
+                        RUN,
+                        refused(3, "BadPath TooManyNames"),
+                    ),
+                    (
+                        f"a count of {MOST_COUNT + 1}",
+                        third([f"list / / {MOST_COUNT + 1}"]),
+                        RUN,
+                        refused(3, "BadNumber"),
+                    ),
+                    (f"a count of {2**64}", third([f"list / / {2**64}"]), RUN, refused(3, "BadNumber")),
+                    (
+                        f"{CALLS} entries, on a real thread",
+                        third(f"mknod /{number}" for number in range(CALLS)),
+                        ("threads",),
+                        well(f"lawful calls {CALLS}\n"),
+                    ),
+                ),
+            ),
+            self.ends,
+        )
 
     def test_third_calls(self):
         """More than the other limits have, as many as there are, and one more."""
-        last = {count: well(alone(count, "stat /", "stat dir 0"), finished(count)) for count in (CALLS + 1, THIRD_CALLS)}
-        halves = ("atomfs 3", "thread t", *["stat /"] * (CALLS // 2), "thread u", *["stat /"] * (CALLS // 2 + 1), "schedule", "finish")
-        self.each((
-            (f"{CALLS + 1} calls", by(3, stats(CALLS + 1)), RUN, last[CALLS + 1]),
-            (f"{CALLS + 1} calls of two threads", halves, RUN, well(finished(CALLS + 1))),
-            (f"{CALLS + 1} calls of two threads by the second limits", by(2, halves), RUN, refused(CALLS + 4, "TooLarge")),
-            (f"{CALLS + 1} calls, on a real thread", by(3, stats(CALLS + 1)), ("threads",), well(f"lawful calls {CALLS + 1}\n")),
-            (f"{THIRD_CALLS} calls", by(3, stats(THIRD_CALLS)), RUN, last[THIRD_CALLS]),
-            (f"{THIRD_CALLS + 1} calls", by(3, stats(THIRD_CALLS + 1)), RUN, refused(THIRD_CALLS + 3, "TooLarge")),
-        ), self.ends)
+        last = {
+            count: well(alone(count, "stat /", "stat dir 0"), finished(count)) for count in (CALLS + 1, THIRD_CALLS)
+        }
+        halves = (
+            "atomfs 3",
+            "thread t",
+            *["stat /"] * (CALLS // 2),
+            "thread u",
+            *["stat /"] * (CALLS // 2 + 1),
+            "schedule",
+            "finish",
+        )
+        self.each(
+            (
+                (f"{CALLS + 1} calls", by(3, stats(CALLS + 1)), RUN, last[CALLS + 1]),
+                (f"{CALLS + 1} calls of two threads", halves, RUN, well(finished(CALLS + 1))),
+                (
+                    f"{CALLS + 1} calls of two threads by the second limits",
+                    by(2, halves),
+                    RUN,
+                    refused(CALLS + 4, "TooLarge"),
+                ),
+                (
+                    f"{CALLS + 1} calls, on a real thread",
+                    by(3, stats(CALLS + 1)),
+                    ("threads",),
+                    well(f"lawful calls {CALLS + 1}\n"),
+                ),
+                (f"{THIRD_CALLS} calls", by(3, stats(THIRD_CALLS)), RUN, last[THIRD_CALLS]),
+                (f"{THIRD_CALLS + 1} calls", by(3, stats(THIRD_CALLS + 1)), RUN, refused(THIRD_CALLS + 3, "TooLarge")),
+            ),
+            self.ends,
+        )
 
     def test_third_directories(self):
         """Journals that start at a full one, and calls that fill one."""
         entry, last = "begin 1 0 mknod /X", f"begin 2 1 list / /{4 * NAMES[-1]} 9"
-        self.each((
-            (f"{THIRD_ENTRIES} entries", full_directory(THIRD_ENTRIES, entry, "commit 1", "return 1 failed ENOSPC", last, "commit 2", "return 2 names"), CHECK, LAWFUL),
-            (f"{THIRD_ENTRIES - 1} entries", full_directory(THIRD_ENTRIES - 1, entry, "commit 1", "return 1 ok", "begin 2 0 mknod /Y", "commit 2", "return 2 failed ENOSPC"), CHECK, LAWFUL),
-            (f"{THIRD_ENTRIES + 1} entries", full_directory(THIRD_ENTRIES + 1), CHECK, refused(THIRD_ENTRIES + 4, "BadStart")),
-        ), self.ends)
+        self.each(
+            (
+                (
+                    f"{THIRD_ENTRIES} entries",
+                    full_directory(
+                        THIRD_ENTRIES, entry, "commit 1", "return 1 failed ENOSPC", last, "commit 2", "return 2 names"
+                    ),
+                    CHECK,
+                    LAWFUL,
+                ),
+                (
+                    f"{THIRD_ENTRIES - 1} entries",
+                    full_directory(
+                        THIRD_ENTRIES - 1,
+                        entry,
+                        "commit 1",
+                        "return 1 ok",
+                        "begin 2 0 mknod /Y",
+                        "commit 2",
+                        "return 2 failed ENOSPC",
+                    ),
+                    CHECK,
+                    LAWFUL,
+                ),
+                (
+                    f"{THIRD_ENTRIES + 1} entries",
+                    full_directory(THIRD_ENTRIES + 1),
+                    CHECK,
+                    refused(THIRD_ENTRIES + 4, "BadStart"),
+                ),
+            ),
+            self.ends,
+        )
         full = *(f"mknod /{name}" for name in names_in_order(THIRD_ENTRIES)), "mknod /X", "unlink /0000", "mknod /X"
-        self.each((
-            (f"{THIRD_ENTRIES} entries that are made", third(full), RUN, well(f"file /{4 * NAMES[-1]} -\nfile /X -\n", counts(len(full)))),
-            (f"{THIRD_ENTRIES} entries that are made, on a real thread", third(full), ("threads",), well(f"lawful calls {len(full)}\n")),
-        ), self.ends)
+        self.each(
+            (
+                (
+                    f"{THIRD_ENTRIES} entries that are made",
+                    third(full),
+                    RUN,
+                    well(f"file /{4 * NAMES[-1]} -\nfile /X -\n", counts(len(full))),
+                ),
+                (
+                    f"{THIRD_ENTRIES} entries that are made, on a real thread",
+                    third(full),
+                    ("threads",),
+                    well(f"lawful calls {len(full)}\n"),
+                ),
+            ),
+            self.ends,
+        )
 
     def test_levels(self):
         """More than a path can name: a tree that is made from its leaf up, and taken apart from its root down."""
         calls = (*deep(10_000), *taken_apart(10_000))
-        last = (alone(len(calls) - 2, "read /p/f 0 2", "bytes ff"), alone(len(calls) - 1, "unlink /p/f", "ok"), alone(len(calls), "rmdir /p", "ok"))
+        last = (
+            alone(len(calls) - 2, "read /p/f 0 2", "bytes ff"),
+            alone(len(calls) - 1, "unlink /p/f", "ok"),
+            alone(len(calls), "rmdir /p", "ok"),
+        )
         self.each([("10000 levels, taken apart", script(calls), RUN, well(*last, finished(len(calls))))], self.ends)
 
     def test_much_to_hold(self):
@@ -428,7 +713,14 @@ class Limits(Case):
     def held(self, words):
         """The status of a process, and the most bytes that it held. It is started by a small one, since what it starts from counts."""
         with open(self.given, "rb") as source, open(self.made, "wb") as sink:
-            done = subprocess.run([sys.executable, "-c", HELD, program(), *words], stdin=source, stdout=sink, stderr=subprocess.PIPE, check=True, timeout=MOST_SECONDS)
+            done = subprocess.run(
+                [sys.executable, "-c", HELD, program(), *words],
+                stdin=source,
+                stdout=sink,
+                stderr=subprocess.PIPE,
+                check=True,
+                timeout=MOST_SECONDS,
+            )
         return map(int, done.stderr.split(b"\n")[-2].split())
 
     def test_room_of_events(self):
@@ -456,11 +748,14 @@ class Limits(Case):
         """A file that was full does not hold on to that room once it grows again, unless it fills half of it."""
         cut, below, half = (f"truncate {{}} {size}" for size in (0, FILE // 2 - 1, FILE // 2))
         full = f"truncate {{}} {FILE}"
-        self.each((
-            ("cut and written", (full, cut, "write {} 0 ff"), True),
-            ("cut, one below half, cut", (full, cut, below, cut), True),
-            ("cut, half, cut", (full, cut, half, cut), False),
-        ), self.room)
+        self.each(
+            (
+                ("cut and written", (full, cut, "write {} 0 ff"), True),
+                ("cut, one below half, cut", (full, cut, below, cut), True),
+                ("cut, half, cut", (full, cut, half, cut), False),
+            ),
+            self.room,
+        )
 
     def test_room_of_far_bytes(self):
         """A byte far behind the start of a file makes little room beside what stands before it."""
@@ -471,18 +766,42 @@ class Limits(Case):
         room for so many; by the first ones such a write fails, and takes none."""
         calls = list(each_file(400, f"write {{}} {FILE_BY_SECOND - 1} 00"))
         second = ["atomfs 2", *list(script(calls))[1:]]
-        self.each((
-            ("400 of the largest files by the second limits, on a real thread", second, ("threads",), OUT_OF_MEMORY, ROOM),
-            ("the same by the first limits", script(calls), ("threads",), well(f"lawful calls {len(calls)}\n"), ROOM),
-            ("2 of the largest files by the second limits", second[:6] + second[-2:], ("threads",), well("lawful calls 4\n"), ROOM),
-        ), self.ends)
+        self.each(
+            (
+                (
+                    "400 of the largest files by the second limits, on a real thread",
+                    second,
+                    ("threads",),
+                    OUT_OF_MEMORY,
+                    ROOM,
+                ),
+                (
+                    "the same by the first limits",
+                    script(calls),
+                    ("threads",),
+                    well(f"lawful calls {len(calls)}\n"),
+                    ROOM,
+                ),
+                (
+                    "2 of the largest files by the second limits",
+                    second[:6] + second[-2:],
+                    ("threads",),
+                    well("lawful calls 4\n"),
+                    ROOM,
+                ),
+            ),
+            self.ends,
+        )
 
     def test_more_than_there_is(self):
-        self.each((
-            (f"30000 full reads in {ROOM} bytes", script(reads(30_000)), RUN, OUT_OF_MEMORY, ROOM),
-            (f"20000 full files in {ROOM} bytes", script(files(20_000)), RUN, OUT_OF_MEMORY, ROOM),
-            (f"20000 levels in {ROOM} bytes", script(deep(20_000)), RUN, OUT_OF_MEMORY, ROOM),
-        ), self.ends)
+        self.each(
+            (
+                (f"30000 full reads in {ROOM} bytes", script(reads(30_000)), RUN, OUT_OF_MEMORY, ROOM),
+                (f"20000 full files in {ROOM} bytes", script(files(20_000)), RUN, OUT_OF_MEMORY, ROOM),
+                (f"20000 levels in {ROOM} bytes", script(deep(20_000)), RUN, OUT_OF_MEMORY, ROOM),
+            ),
+            self.ends,
+        )
 
 
 class Stack(Case):
@@ -502,17 +821,37 @@ class Stack(Case):
 
     def test_scripts(self):
         path = PATH * "/n"
-        many = [line for number in range(THREADS) for line in (f"thread t{number}", f"mkdir /{number}", "rename /0 /256", f"stat {path}")]
+        many = [
+            line
+            for number in range(THREADS)
+            for line in (f"thread t{number}", f"mkdir /{number}", "rename /0 /256", f"stat {path}")
+        ]
         kinds = (
             ("a short script", list(script(["mkdir /a", "readdir /"]))),
-            ("a path of 64 names", list(script([*(f"mkdir {path[: 2 * depth]}" for depth in range(1, PATH + 1)), f"rename {path[:4]} /m"]))),
+            (
+                "a path of 64 names",
+                list(
+                    script([*(f"mkdir {path[: 2 * depth]}" for depth in range(1, PATH + 1)), f"rename {path[:4]} /m"])
+                ),
+            ),
             ("a deep tree", list(script(deep(300)))),
             ("a full file", list(script(["mknod /f", f"truncate /f {FILE}", f"read /f 0 {FILE}"]))),
             ("many threads", ["atomfs 1", *many, "schedule", "finish"]),
             ("long names", list(third(long_names()))),
         )
-        commands = RUN, ("run", "--robin"), ("run", "--seed", "7"), SEEDS, ("threads",), ("trace",), ("draw",), ("schedule", "--robin")
-        self.each(((f"{' '.join(words)}, {name}", lines, *words) for name, lines in kinds for words in commands), self.ends)
+        commands = (
+            RUN,
+            ("run", "--robin"),
+            ("run", "--seed", "7"),
+            SEEDS,
+            ("threads",),
+            ("trace",),
+            ("draw",),
+            ("schedule", "--robin"),
+        )
+        self.each(
+            ((f"{' '.join(words)}, {name}", lines, *words) for name, lines in kinds for words in commands), self.ends
+        )
 
     def test_journals(self):
         for name, calls in (("a deep tree", deep(300)), ("many names", entries(ENTRIES))):
@@ -522,7 +861,13 @@ class Stack(Case):
                     self.ends(text.splitlines(), *words)
 
     def test_help(self):
-        self.each(((" ".join(words), [], *words) for words in (("--help",), ("help", "run"), ("explain", "SeatBusy"), ("--version",))), self.ends)
+        self.each(
+            (
+                (" ".join(words), [], *words)
+                for words in (("--help",), ("help", "run"), ("explain", "SeatBusy"), ("--version",))
+            ),
+            self.ends,
+        )
 
 
 if __name__ == "__main__":

@@ -75,7 +75,13 @@ HISTORIES = {
     "commit": (HEADER, "begin 1 0 mkdir /a", "commit 1"),
     "last": (HEADER,),
 }
-ANSWERS = {"first": "lawful", "a name of words": "none 3 2", "twice": "fault 2 BeginTwice", "commit": "line 3: BadLine", "last": "lawful"}
+ANSWERS = {
+    "first": "lawful",
+    "a name of words": "none 3 2",
+    "twice": "fault 2 BeginTwice",
+    "commit": "line 3: BadLine",
+    "last": "lawful",
+}
 SERVER = """\
 ListenAddress 127.0.0.1
 Port {port}
@@ -131,19 +137,32 @@ class Many(Case):
         if not harness.compares:
             raise unittest.SkipTest("nothing is asked of the program before there are answers")
         wanted("parallel")
-        if b"GNU" not in subprocess.run(("parallel", "--version"), capture_output=True, timeout=harness.MOST_SECONDS).stdout:
+        if (
+            b"GNU"
+            not in subprocess.run(("parallel", "--version"), capture_output=True, timeout=harness.MOST_SECONDS).stdout
+        ):
             raise unittest.SkipTest("the parallel of the path is not GNU parallel")
         cls.folder = pathlib.Path(cls.enterClassContext(tempfile.TemporaryDirectory(prefix="atomfs-")))
-        cls.environment = {name: value for name, value in os.environ.items() if not name.startswith("PARALLEL")} | {"HOME": str(cls.folder)}
+        cls.environment = {name: value for name, value in os.environ.items() if not name.startswith("PARALLEL")} | {
+            "HOME": str(cls.folder)
+        }
         if harness.answer is harness.spawned:
             cls.program = os.path.abspath(harness.program())
         else:
-            cls.program = written(cls.folder / "atomfs", f'#!/bin/sh\nexec {shlex.join(unproved.started("atomfs"))} "$@"\n')
+            cls.program = written(
+                cls.folder / "atomfs", f'#!/bin/sh\nexec {shlex.join(unproved.started("atomfs"))} "$@"\n'
+            )
 
     def came(self, command, *words, program=None, **more):
         """The outcome of a command of examples/many/."""
         environment = self.environment | {"ATOMFS": str(program or self.program)} | more
-        done = subprocess.run((sys.executable, MANY / command, *words), cwd=self.folder, env=environment, capture_output=True, timeout=harness.MOST_SECONDS)
+        done = subprocess.run(
+            (sys.executable, MANY / command, *words),
+            cwd=self.folder,
+            env=environment,
+            capture_output=True,
+            timeout=harness.MOST_SECONDS,
+        )
         return Outcome(done.returncode, done.stdout, done.stderr)
 
     def one(self, first, last, program=None):
@@ -153,7 +172,11 @@ class Many(Case):
         return Outcome(done.returncode, done.stdout, done.stderr)
 
     def as_one(self, first, last, program=None):
-        self.same(f"{first} to {last}", self.came("seeds", SCRIPT, str(first), str(last), program=program), self.one(first, last))
+        self.same(
+            f"{first} to {last}",
+            self.came("seeds", SCRIPT, str(first), str(last), program=program),
+            self.one(first, last),
+        )
 
 
 class Seeds(Many):
@@ -178,7 +201,11 @@ class Seeds(Many):
         """Where there is no memory for a piece, those before it are written, and the status is 4."""
         status, output, message = self.came("seeds", SCRIPT, "1", "4", program=written(self.folder / "full", FULL))
         self.same("1 to 4", (status, output), (4, b"seed 1 lawful\nseed 2 lawful\n"))
-        self.same("what is told", (message.count(b"atomfs: out of memory\n"), message.splitlines()[-1]), (1, b"examples/many/seeds: seed 3 and what follows is not done: no host did it"))
+        self.same(
+            "what is told",
+            (message.count(b"atomfs: out of memory\n"), message.splitlines()[-1]),
+            (1, b"examples/many/seeds: seed 3 and what follows is not done: no host did it"),
+        )
 
     def test_limits(self):
         """The numbers of the program that `seeds` has."""
@@ -187,7 +214,11 @@ class Seeds(Many):
 
     def test_script_from_a_pipe(self):
         """It is read once, and its bytes are those that are run, whatever becomes of the file meanwhile."""
-        came = subprocess.run(("bash", "-c", f"{MANY}/seeds <(cat {SCRIPT}) 1 4"), env=self.environment | {"ATOMFS": str(self.program)}, capture_output=True)
+        came = subprocess.run(
+            ("bash", "-c", f"{MANY}/seeds <(cat {SCRIPT}) 1 4"),
+            env=self.environment | {"ATOMFS": str(self.program)},
+            capture_output=True,
+        )
         self.same("a script from a pipe", Outcome(came.returncode, came.stdout, came.stderr), self.one(1, 4))
 
     def test_stopped(self):
@@ -200,12 +231,21 @@ class Seeds(Many):
             # A job that parallel is about to start when the signal comes would go on to its own end.
             time.sleep(0.5)
             process.terminate()
-            self.same("the rest, and the status", (process.stdout.read(), process.wait(harness.MOST_SECONDS)), (b"", 128 + signal.SIGTERM))
+            self.same(
+                "the rest, and the status",
+                (process.stdout.read(), process.wait(harness.MOST_SECONDS)),
+                (b"", 128 + signal.SIGTERM),
+            )
         self.same("what is left", list(left.iterdir()), [])
 
     def test_output_that_is_full(self):
         with open("/dev/full", "wb") as full:
-            done = subprocess.run((MANY / "seeds", SCRIPT, "1", "2"), env=self.environment | {"ATOMFS": str(self.program)}, stdout=full, stderr=subprocess.PIPE)
+            done = subprocess.run(
+                (MANY / "seeds", SCRIPT, "1", "2"),
+                env=self.environment | {"ATOMFS": str(self.program)},
+                stdout=full,
+                stderr=subprocess.PIPE,
+            )
         self.same("/dev/full", (done.returncode, done.stderr), (5, b"examples/many/seeds: write failed\n"))
 
     def test_refused(self):
@@ -213,18 +253,45 @@ class Seeds(Many):
         (self.folder / "wrong").write_text("atomfs 1\nmkdir /a\n")
         written(self.folder / "mute", "mute")
         told = functools.partial("examples/many/seeds: {}".format)
-        self.each((
-            ("no words", (), {}, 2, "usage: examples/many/seeds [HOSTS] SCRIPT FROM TO"),
-            ("no seed", (SCRIPT, "1", "x"), {}, 2, told(f"x is no seed: 0 to {GREATEST}")),
-            ("too great", (SCRIPT, "1", str(GREATEST + 1)), {}, 2, told(f"{GREATEST + 1} is no seed: 0 to {GREATEST}")),
-            ("to below from", (SCRIPT, "5", "4"), {}, 2, told("4 is less than 5")),
-            ("no script", ("none", "1", "2"), {}, 2, told("cannot read none: No such file or directory")),
-            ("no host", (",", SCRIPT, "1", "2"), {}, 2, told(", names no host")),
-            ("a fault of the script", ("wrong", "1", "100"), {}, 3, "atomfs: line 2: BadLine"),
-            ("no parallel", (SCRIPT, "1", "2"), {"PATH": f"{self.folder}/nothing"}, 2, told("GNU parallel is not on the path: apt-get install parallel")),
-            ("no program that runs", (SCRIPT, "1", "2"), {"ATOMFS": str(self.folder / "mute")}, 2, told(f"cannot run {self.folder}/mute: Exec format error")),
-            ("no program", (SCRIPT, "1", "2"), {"ATOMFS": "/none"}, 2, told("/none is not there: examples/run --proved builds the program, and ATOMFS names another one")),
-        ), self.refused)
+        self.each(
+            (
+                ("no words", (), {}, 2, "usage: examples/many/seeds [HOSTS] SCRIPT FROM TO"),
+                ("no seed", (SCRIPT, "1", "x"), {}, 2, told(f"x is no seed: 0 to {GREATEST}")),
+                (
+                    "too great",
+                    (SCRIPT, "1", str(GREATEST + 1)),
+                    {},
+                    2,
+                    told(f"{GREATEST + 1} is no seed: 0 to {GREATEST}"),
+                ),
+                ("to below from", (SCRIPT, "5", "4"), {}, 2, told("4 is less than 5")),
+                ("no script", ("none", "1", "2"), {}, 2, told("cannot read none: No such file or directory")),
+                ("no host", (",", SCRIPT, "1", "2"), {}, 2, told(", names no host")),
+                ("a fault of the script", ("wrong", "1", "100"), {}, 3, "atomfs: line 2: BadLine"),
+                (
+                    "no parallel",
+                    (SCRIPT, "1", "2"),
+                    {"PATH": f"{self.folder}/nothing"},
+                    2,
+                    told("GNU parallel is not on the path: apt-get install parallel"),
+                ),
+                (
+                    "no program that runs",
+                    (SCRIPT, "1", "2"),
+                    {"ATOMFS": str(self.folder / "mute")},
+                    2,
+                    told(f"cannot run {self.folder}/mute: Exec format error"),
+                ),
+                (
+                    "no program",
+                    (SCRIPT, "1", "2"),
+                    {"ATOMFS": "/none"},
+                    2,
+                    told("/none is not there, which ATOMFS names"),
+                ),
+            ),
+            self.refused,
+        )
 
     def refused(self, words, more, status, message):
         came = self.came("seeds", *words, **more)
@@ -234,12 +301,27 @@ class Seeds(Many):
     def test_help(self):
         for command in ("seeds", "outcomes", "histories"):
             came = self.came(command, "--help")
-            self.same(f"{command} --help", (came.status, came.output.split(b" [HOSTS] SCRIPT")[0].split(b" HOSTS")[0], came.message), (0, f"usage: examples/many/{command}".encode(), b""))
+            self.same(
+                f"{command} --help",
+                (came.status, came.output.split(b" [HOSTS] SCRIPT")[0].split(b" HOSTS")[0], came.message),
+                (0, f"usage: examples/many/{command}".encode(), b""),
+            )
 
     def test_page(self):
         """The command that examples/README.md shows."""
-        ((command, prints),) = ((spans(runs)[0], prints) for file, _, runs, prints in table(EXAMPLES, "File", "Shows", "Run", "Prints") if file == "`many/`")
-        done = subprocess.run(("bash", "-c", command), cwd=ROOT, env=self.environment | {"ATOMFS": str(self.program)}, capture_output=True, text=True, timeout=harness.MOST_SECONDS)
+        ((command, prints),) = (
+            (spans(runs)[0], prints)
+            for file, _, runs, prints in table(EXAMPLES, "File", "Shows", "Run", "Prints")
+            if file == "`many/`"
+        )
+        done = subprocess.run(
+            ("bash", "-c", command),
+            cwd=ROOT,
+            env=self.environment | {"ATOMFS": str(self.program)},
+            capture_output=True,
+            text=True,
+            timeout=harness.MOST_SECONDS,
+        )
         self.same(command, (done.returncode, done.stdout.splitlines()[0], done.stderr), (0, spans(prints)[0], ""))
 
 
@@ -257,7 +339,10 @@ class Histories(Many):
         self.same(names, self.came("histories", ":", *names), Outcome(status, lines))
 
     def test_answers(self):
-        self.each((("all", list(HISTORIES), 1), ("commit", ["commit", "first"], 3), ("lawful", ["last", "first"], 0)), self.answered)
+        self.each(
+            (("all", list(HISTORIES), 1), ("commit", ["commit", "first"], 3), ("lawful", ["last", "first"], 0)),
+            self.answered,
+        )
 
     def test_in_pieces(self):
         """More than there are pieces."""
@@ -265,7 +350,11 @@ class Histories(Many):
 
     def test_refused(self):
         came = self.came("histories", ":", "first", "none")
-        self.same("a file that is not there", came, Outcome(2, b"", b"examples/many/histories: cannot read none: No such file or directory\n"))
+        self.same(
+            "a file that is not there",
+            came,
+            Outcome(2, b"", b"examples/many/histories: cannot read none: No such file or directory\n"),
+        )
 
 
 class Outcomes(Many):
@@ -289,12 +378,17 @@ class Outcomes(Many):
     def test_refused(self):
         (self.folder / "wrong").write_text("atomfs 1\nmkdir /a\n")
         came = self.came("outcomes", "wrong", "1", "100")
-        self.same("a fault of the script", came, Outcome(3, b"", b"atomfs: line 2: BadLine\n"))
+        wanted = Outcome(3, b"", b"atomfs: line 2: BadLine\n")
+        self.same("a fault of the script", came, harness.with_line(wanted, b"atomfs 1\nmkdir /a\n"))
 
     def test_limits(self):
         """The numbers of the program that `outcomes` has."""
         (shown,) = re.findall(r"^SEED_LIMIT, RUN_LIMIT = (\S+), (\S+)$", (MANY / "outcomes").read_text(), re.M)
-        self.same("its limits", [int(number) for number in shown], [GREATEST, constants("fs_outcomes/src/running.rt")["OUTCOME_LIMIT"]])
+        self.same(
+            "its limits",
+            [int(number) for number in shown],
+            [GREATEST, constants("fs_outcomes/src/running.rt")["OUTCOME_LIMIT"]],
+        )
 
 
 class OnHosts(Many):
@@ -323,11 +417,18 @@ class OnHosts(Many):
             empty.mkdir(mode=0o755)
             cls.addClassCleanup(empty.rmdir)
         log = cls.enterClassContext(open(cls.folder / f"log_{name}", "wb"))
-        server = subprocess.Popen((shutil.which("sshd") or "/usr/sbin/sshd", "-D", "-e", "-f", config), stdin=subprocess.DEVNULL, stderr=log)
+        server = subprocess.Popen(
+            (shutil.which("sshd") or "/usr/sbin/sshd", "-D", "-e", "-f", config), stdin=subprocess.DEVNULL, stderr=log
+        )
         cls.addClassCleanup(server.wait)
         cls.addClassCleanup(server.terminate)
         for _ in range(50):
-            if subprocess.run(("ssh", "-F", cls.folder / "client", name, "true"), stdin=subprocess.DEVNULL, capture_output=True).returncode == 0:
+            if (
+                subprocess.run(
+                    ("ssh", "-F", cls.folder / "client", name, "true"), stdin=subprocess.DEVNULL, capture_output=True
+                ).returncode
+                == 0
+            ):
                 return server
             time.sleep(0.1)
         raise unittest.SkipTest(f"no ssh server can be had: {(cls.folder / f'log_{name}').read_text()[-500:]}")
@@ -338,11 +439,20 @@ class OnHosts(Many):
     def test_lost(self):
         """A host is lost in the middle, and another one does not answer; nothing is left on the host that did all."""
         (self.folder / "hosts").write_text("# Three hosts.\n1/silent\n1/two\n1/one\n")
-        program = written(self.folder / "losing", LOST.format(folder=self.folder, program=self.program, port=self.ports["two"], server=self.servers["two"].pid))
+        program = written(
+            self.folder / "losing",
+            LOST.format(
+                folder=self.folder, program=self.program, port=self.ports["two"], server=self.servers["two"].pid
+            ),
+        )
         came = self.came("seeds", "hosts", SCRIPT, "1", "3", program=program)
         told = "".join(f"examples/many/seeds: {name} has done nothing\n" for name in ("1/silent", "1/two")).encode()
         self.same("1 to 3", came, self.one(1, 3)._replace(message=told))
-        self.same("whether a host was lost, and the server's end", ((self.folder / "lost").exists(), self.servers["two"].wait()), (True, -9))
+        self.same(
+            "whether a host was lost, and the server's end",
+            ((self.folder / "lost").exists(), self.servers["two"].wait()),
+            (True, -9),
+        )
         self.same("what is left on the other", self.left(), [])
 
     def test_histories(self):
@@ -355,7 +465,11 @@ class OnHosts(Many):
 
     def test_nobody(self):
         came = self.came("seeds", "1/silent", SCRIPT, "1", "3")
-        self.same("1 to 3", (came.status, came.output, came.message.splitlines()[-1]), (5, b"", b"examples/many/seeds: seed 1 and what follows is not done: no host did it"))
+        self.same(
+            "1 to 3",
+            (came.status, came.output, came.message.splitlines()[-1]),
+            (5, b"", b"examples/many/seeds: seed 1 and what follows is not done: no host did it"),
+        )
 
 
 if __name__ == "__main__":

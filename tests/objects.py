@@ -16,7 +16,11 @@ LISTING = 12
 DRAWN = drawn.narrow, drawn.moving, drawn.exchanging, drawn.crowded
 WRONG = b"atomfs-journal 1\nbegin 1 0 mkdir /a\ncommit 1\nreturn 1 failed EEXIST\n"
 # Comments with every byte but a line feed, and a name with a quotation mark and a backslash.
-BYTES = b"atomfs 1\n#" + bytes(byte for byte in range(256) if byte != 10) + b'\nthread m\nmkdir /"\\"\nreaddir /\nthread r\nrmdir /"\\"\nschedule\nfinish\n'
+BYTES = (
+    b"atomfs 1\n#"
+    + bytes(byte for byte in range(256) if byte != 10)
+    + b'\nthread m\nmkdir /"\\"\nreaddir /\nthread r\nrmdir /"\\"\nschedule\nfinish\n'
+)
 SHORT = {'"': '\\"', "\\": "\\\\", "\n": "\\n"}
 
 
@@ -25,7 +29,11 @@ def written(value):
     if isinstance(value, dict):
         return "{" + ",".join(f"{written(name)}:{written(member)}" for name, member in value.items()) + "}"
     if isinstance(value, str):
-        return '"' + "".join(SHORT.get(sign) or (sign if " " <= sign <= "~" else f"\\u{ord(sign):04x}") for sign in value) + '"'
+        return (
+            '"'
+            + "".join(SHORT.get(sign) or (sign if " " <= sign <= "~" else f"\\u{ord(sign):04x}") for sign in value)
+            + '"'
+        )
     return json.dumps(value)
 
 
@@ -53,7 +61,13 @@ def of_row(line, tree):
     head, *parts = line.split(" | ")
     times, _, seed, _, digest = head.split(" ")
     replies = dict(part.split(" ", 1) for part in parts)
-    return {"times": int(times), "seed": int(seed), "digest": digest, "replies": replies, **({"tree": tree} if tree else {})}
+    return {
+        "times": int(times),
+        "seed": int(seed),
+        "digest": digest,
+        "replies": replies,
+        **({"tree": tree} if tree else {}),
+    }
 
 
 def rows_of(text):
@@ -90,22 +104,41 @@ class Objects(Case):
             entries = journal.partition(b"tree\n")[0].splitlines(keepends=True)
             self.ends_alike(journal, ("check",), lambda plain: objects(of_check(plain)))
             left_out = draw.randrange(1, len(entries)) if len(entries) > 1 else 0
-            self.ends_alike(b"".join(entries[:left_out] + entries[left_out + 1 :]), ("check",), lambda plain: objects(of_check(plain)))
+            self.ends_alike(
+                b"".join(entries[:left_out] + entries[left_out + 1 :]),
+                ("check",),
+                lambda plain: objects(of_check(plain)),
+            )
 
         self.each_script(look)
 
     def test_seeds(self):
         def look(number):
             seeds = "seeds", "--seed", str(number), "--runs", str(RUNS)
-            self.ends_alike(script_of(number), seeds, lambda plain: objects(*({"seed": number + place, "lawful": True} for place in range(len(plain.output.splitlines())))))
+            self.ends_alike(
+                script_of(number),
+                seeds,
+                lambda plain: objects(
+                    *({"seed": number + place, "lawful": True} for place in range(len(plain.output.splitlines())))
+                ),
+            )
 
         self.each_script(look)
 
     def test_outcomes(self):
         def look(number):
             draw = random.Random(number)
-            words = "outcomes", "--seed", str(number), "--runs", str(RUNS), *(word for word in ("--all", "--trees") if draw.randrange(2))
-            self.ends_alike(script_of(number), words, lambda plain: objects(*(of_row(*row) for row in rows_of(plain.output))))
+            words = (
+                "outcomes",
+                "--seed",
+                str(number),
+                "--runs",
+                str(RUNS),
+                *(word for word in ("--all", "--trees") if draw.randrange(2)),
+            )
+            self.ends_alike(
+                script_of(number), words, lambda plain: objects(*(of_row(*row) for row in rows_of(plain.output)))
+            )
 
         self.each_script(look)
 
@@ -114,9 +147,16 @@ class Objects(Case):
         asks_of_answers()
 
         def look(number):
-            pieces = b"".join(run(script_of(number), "outcomes", "--seed", seed, "--runs", str(RUNS), "--all").output for seed in ("1", "100"))
+            pieces = b"".join(
+                run(script_of(number), "outcomes", "--seed", seed, "--runs", str(RUNS), "--all").output
+                for seed in ("1", "100")
+            )
             for words in ((), ("--all",)):
-                self.ends_alike(pieces, ("outcomes", "--add", *words), lambda plain: objects(*(of_row(line, "") for line in plain.output.decode().splitlines())))
+                self.ends_alike(
+                    pieces,
+                    ("outcomes", "--add", *words),
+                    lambda plain: objects(*(of_row(line, "") for line in plain.output.decode().splitlines())),
+                )
 
         self.each_script(look)
 
@@ -131,8 +171,12 @@ class Objects(Case):
         def look(given, what):
             self.ends_alike(given, ("find", "--where", what, "--seed", "1", "--runs", "50"), found)
 
-        scripts = [(f"script_{number}", script_of(number), f"{no}reply t0#1 failed") for number in range(SCRIPTS) for no in ("", "not ")]
-        self.each((*scripts, ("bytes", BYTES, 'reply r#1 failed'), ("other bytes", BYTES, 'tree dir /"\\"')), look)
+        scripts = [
+            (f"script_{number}", script_of(number), f"{no}reply t0#1 failed")
+            for number in range(SCRIPTS)
+            for no in ("", "not ")
+        ]
+        self.each((*scripts, ("bytes", BYTES, "reply r#1 failed"), ("other bytes", BYTES, 'tree dir /"\\"')), look)
 
     def test_faults(self):
         """What cannot be read is told as without, and no object is written."""
@@ -145,7 +189,10 @@ class Objects(Case):
             ("no such call", BYTES, "find", "--where", "helped m#9", "--seed", "1", "--runs", "2"),
             ("no condition", BYTES, "find", "--where", "helped", "--seed", "1", "--runs", "2"),
         )
-        self.each(((name, given, words) for name, given, *words in rows), lambda given, words: self.ends_alike(given, words, lambda plain: plain.output))
+        self.each(
+            ((name, given, words) for name, given, *words in rows),
+            lambda given, words: self.ends_alike(given, words, lambda plain: plain.output),
+        )
 
     def test_a_fault_of_a_journal(self):
         """The words of the fault stand in the object, and on standard error."""

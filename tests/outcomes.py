@@ -8,7 +8,7 @@ import unittest
 
 import drawn
 from documents import constants
-from harness import Case, Outcome, asks_of_answers, rows_of, run
+from harness import Case, Outcome, asks_of_answers, rows_of, run, with_line
 
 SCRIPTS, RUNS = 200, 12
 # Scripts of the third limits.
@@ -31,8 +31,16 @@ def end_of(text, script):
             calls.setdefault(int(more[1]), []).append(more[0])
         if word == "return":
             replies[more[0]] = " ".join(more[1:])
-    names = [line.split()[1] for line in script.decode().partition("\nschedule\n")[0].splitlines() if line.startswith("thread ")]
-    told = tuple((f"{name}#{turn + 1}", replies[call]) for seat, name in enumerate(names) for turn, call in enumerate(calls.get(seat, [])))
+    names = [
+        line.split()[1]
+        for line in script.decode().partition("\nschedule\n")[0].splitlines()
+        if line.startswith("thread ")
+    ]
+    told = tuple(
+        (f"{name}#{turn + 1}", replies[call])
+        for seat, name in enumerate(names)
+        for turn, call in enumerate(calls.get(seat, []))
+    )
     return told, tree
 
 
@@ -63,11 +71,18 @@ def asked(script, seed, runs, *words):
 class Outcomes(Case):
     def wanted(self, script, seed, runs):
         """The table of a loop over `atomfs run`."""
-        return table([(number, end_of(run(script, "run", "--seed", str(number)).output, script)) for number in range(seed, seed + runs)])
+        return table(
+            [
+                (number, end_of(run(script, "run", "--seed", str(number)).output, script))
+                for number in range(seed, seed + runs)
+            ]
+        )
 
     def look(self, script, seed, runs, *words):
         rows = self.wanted(script, seed, runs)
-        self.same(script, asked(script, seed, runs, *words), Outcome(0, lines(rows, "--all" in words, "--trees" in words)))
+        self.same(
+            script, asked(script, seed, runs, *words), Outcome(0, lines(rows, "--all" in words, "--trees" in words))
+        )
 
     def test_drawn_scripts(self):
         """A line for each end, in order, with the replies that differ."""
@@ -80,14 +95,21 @@ class Outcomes(Case):
                 yield f"script_{number}", script, draw.randrange(1_000_000), RUNS, *words
             for number in range(rows_of(LISTING)):
                 draw = random.Random(f"listing {number}")
-                yield f"listing_{number}", drawn.script(drawn.listing(draw), version=3).encode(), draw.randrange(1_000_000), RUNS, "--all"
+                yield f"listing_{number}", drawn.script(drawn.listing(draw), version=3).encode(), draw.randrange(
+                    1_000_000
+                ), RUNS, "--all"
 
         self.each(rows(), self.look)
 
     def test_forms(self):
         """Each form of the lines; threads without calls, listings whose names look like lines, and the greatest seed."""
         forms = (), ("--all",), ("--trees",), ("--trees", "--all")
-        given = ("bars", BARS, 3, 20), ("bare", BARE, 0, 3), ("none", b"atomfs 1\nschedule\nfinish\n", 5, 2), ("greatest", BARS, GREATEST, 2)
+        given = (
+            ("bars", BARS, 3, 20),
+            ("bare", BARE, 0, 3),
+            ("none", b"atomfs 1\nschedule\nfinish\n", 5, 2),
+            ("greatest", BARS, GREATEST, 2),
+        )
         self.each(((f"{name} {' '.join(form)}", *more, *form) for name, *more in given for form in forms), self.look)
 
     def test_many_runs(self):
@@ -107,18 +129,40 @@ ADDED = {
     "one": ((f"2 seed 7 tree {A} | m#1 ok",), (f"2 seed 7 tree {A}",), (f"2 seed 7 tree {A} | m#1 ok",)),
     "no calls": ((f"2 seed 7 tree {A}", f"3 seed 9 tree {A}"), (f"5 seed 7 tree {A}",), (f"5 seed 7 tree {A}",)),
     "two ends": (
-        (f"2 seed 1 tree {A} | m#1 ok | r#1 ok", f"1 seed 2 tree {A} | m#1 failed EEXIST | r#1 ok", f"3 seed 4 tree {A} | m#1 failed EEXIST | r#1 ok"),
+        (
+            f"2 seed 1 tree {A} | m#1 ok | r#1 ok",
+            f"1 seed 2 tree {A} | m#1 failed EEXIST | r#1 ok",
+            f"3 seed 4 tree {A} | m#1 failed EEXIST | r#1 ok",
+        ),
         (f"4 seed 2 tree {A} | m#1 failed EEXIST", f"2 seed 1 tree {A} | m#1 ok"),
         (f"4 seed 2 tree {A} | m#1 failed EEXIST | r#1 ok", f"2 seed 1 tree {A} | m#1 ok | r#1 ok"),
     ),
-    "two trees": ((f"1 seed 2 tree {A} | m#1 ok", f"1 seed 1 tree {B} | m#1 ok"), (f"1 seed 1 tree {B}", f"1 seed 2 tree {A}"), (f"1 seed 1 tree {B} | m#1 ok", f"1 seed 2 tree {A} | m#1 ok")),
-    "the least seed comes later": ((f"1 seed 9 tree {A} | m#1 ok", f"1 seed 3 tree {A} | m#1 ok"), (f"2 seed 3 tree {A}",), (f"2 seed 3 tree {A} | m#1 ok",)),
-    "bars": (
-        (f"1 seed 1 tree {A} | m#1 names a#1 | ~b#1 | m#2 names | | m_1#1 ok", f"1 seed 2 tree {A} | m#1 names | | m#2 names | | m_1#1 ok"),
-        (f"1 seed 1 tree {A} | m#1 names a#1 | ~b#1", f"1 seed 2 tree {A} | m#1 names |"),
-        (f"1 seed 1 tree {A} | m#1 names a#1 | ~b#1 | m#2 names | | m_1#1 ok", f"1 seed 2 tree {A} | m#1 names | | m#2 names | | m_1#1 ok"),
+    "two trees": (
+        (f"1 seed 2 tree {A} | m#1 ok", f"1 seed 1 tree {B} | m#1 ok"),
+        (f"1 seed 1 tree {B}", f"1 seed 2 tree {A}"),
+        (f"1 seed 1 tree {B} | m#1 ok", f"1 seed 2 tree {A} | m#1 ok"),
     ),
-    "the greatest sum": ((f"{2**64 - 2} seed 1 tree {A}", f"1 seed 2 tree {A}"), (f"{2**64 - 1} seed 1 tree {A}",), (f"{2**64 - 1} seed 1 tree {A}",)),
+    "the least seed comes later": (
+        (f"1 seed 9 tree {A} | m#1 ok", f"1 seed 3 tree {A} | m#1 ok"),
+        (f"2 seed 3 tree {A}",),
+        (f"2 seed 3 tree {A} | m#1 ok",),
+    ),
+    "bars": (
+        (
+            f"1 seed 1 tree {A} | m#1 names a#1 | ~b#1 | m#2 names | | m_1#1 ok",
+            f"1 seed 2 tree {A} | m#1 names | | m#2 names | | m_1#1 ok",
+        ),
+        (f"1 seed 1 tree {A} | m#1 names a#1 | ~b#1", f"1 seed 2 tree {A} | m#1 names |"),
+        (
+            f"1 seed 1 tree {A} | m#1 names a#1 | ~b#1 | m#2 names | | m_1#1 ok",
+            f"1 seed 2 tree {A} | m#1 names | | m#2 names | | m_1#1 ok",
+        ),
+    ),
+    "the greatest sum": (
+        (f"{2**64 - 2} seed 1 tree {A}", f"1 seed 2 tree {A}"),
+        (f"{2**64 - 1} seed 1 tree {A}",),
+        (f"{2**64 - 1} seed 1 tree {A}",),
+    ),
 }
 # Texts, and the faults that they have.
 GOOD = f"1 seed 1 tree {A} | m#1 ok"
@@ -153,14 +197,22 @@ class Added(Case):
 
     def test_bad_lines(self):
         """The line is told, and nothing is written."""
-        self.each(((name, *rows) for name, rows in BAD.items()), lambda given, fault: self.same(given, run(given, "outcomes", "--add"), Outcome(3, b"", f"atomfs: {fault}\n".encode())))
+        self.each(
+            ((name, *rows) for name, rows in BAD.items()),
+            lambda given, fault: self.same(
+                given, run(given, "outcomes", "--add"), with_line(Outcome(3, b"", f"atomfs: {fault}\n".encode()), given)
+            ),
+        )
 
     def test_pieces(self):
         """What pieces of a range wrote is added up to what one command writes of the whole."""
         asks_of_answers()
 
         def look(script, seed, cuts):
-            pieces = b"".join(asked(script, start, end - start, "--all").output for start, end in zip((seed, *cuts), (*cuts, seed + RUNS)))
+            pieces = b"".join(
+                asked(script, start, end - start, "--all").output
+                for start, end in zip((seed, *cuts), (*cuts, seed + RUNS))
+            )
             for words in ((), ("--all",)):
                 self.same(script, run(pieces, "outcomes", "--add", *words), asked(script, seed, RUNS, *words))
 
@@ -169,7 +221,9 @@ class Added(Case):
                 draw = random.Random(number)
                 script = drawn.script(DRAWN[number % len(DRAWN)](draw)).encode()
                 seed = draw.randrange(1_000_000)
-                yield f"script_{number}", script, seed, sorted(draw.sample(range(seed + 1, seed + RUNS), draw.randrange(4)))
+                yield f"script_{number}", script, seed, sorted(
+                    draw.sample(range(seed + 1, seed + RUNS), draw.randrange(4))
+                )
 
         self.each(rows(), look)
 

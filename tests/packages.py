@@ -5,6 +5,7 @@ A command or a module that is not there is named, with the package of Debian by 
 """
 import contextlib
 import functools
+import importlib
 import os
 import pathlib
 import re
@@ -12,7 +13,9 @@ import shutil
 import subprocess
 import sys
 import tempfile
+import types
 import unittest
+import unittest.mock
 import zipfile
 
 import harness
@@ -21,25 +24,54 @@ from harness import ROOT, Case
 
 BINDINGS, EMBED, CRATES = ROOT / "bindings", ROOT / "embed", ROOT / "crates"
 HEADER = (EMBED / "atomfs.h").read_text()
-VERSION = re.search(r'^#define ATOMFS_VERSION "(.*)"$', HEADER, re.M)[1]
+VERSION = harness.declared().version
+# The numbers of the header by their names.
+NUMBERS = {name: value for one in harness.declared().numbers for name, value in one.items()}
 MOST_SECONDS = 5 * harness.MOST_SECONDS
 # How what the tests use comes in Debian.
 COMMANDS = {
-    **{"cmake": "cmake", "pkg-config": "pkgconf", "make": "make", "cc": "gcc", "cargo": "cargo", "cargo-clippy": "rust-clippy", "mypy": "mypy"},
+    **{
+        "cmake": "cmake",
+        "pkg-config": "pkgconf",
+        "make": "make",
+        "cc": "gcc",
+        "cargo": "cargo",
+        "cargo-clippy": "rust-clippy",
+        "rustfmt": "rustfmt",
+        "mypy": "mypy",
+        "black": "black",
+        "clang-format": "clang-format",
+        "go": "golang-go",
+        "java": "default-jre-headless",
+    },
     **{"parallel": "parallel", "rsync": "rsync", "ssh": "openssh-client", "sshd": "openssh-server", "strace": "strace"},
 }
 MODULES = {
     **{"fs": "python3-fs", "fsspec": "python3-fsspec", "pytest": "python3-pytest"},
     **{"pip": "python3-pip", "setuptools": "python3-setuptools", "wheel": "python3-wheel"},
 }
+# Where Debian puts the packages of Go, and those of Java.
+GO, JARS = pathlib.Path("/usr/share/gocode"), pathlib.Path("/usr/share/java")
 # What is set here for another Python or another crate is none of the packages'.
-ELSEWHERE = ("ATOMFS_LIBRARY", "ATOMFS_PROGRAM", "ATOMFS_LIB_DIR", "PYTHONPATH", "PYTHONHOME", "VIRTUAL_ENV", "RUSTFLAGS", "CARGO_TARGET_DIR")
+ELSEWHERE = (
+    "ATOMFS_LIBRARY",
+    "ATOMFS_PROGRAM",
+    "ATOMFS_LIB_DIR",
+    "ATOMFS_PURE",
+    "PYTHONPATH",
+    "PYTHONHOME",
+    "VIRTUAL_ENV",
+    "RUSTFLAGS",
+    "CARGO_TARGET_DIR",
+)
 
 
 def done(words, folder, **more):
     """What a command ends with and tells."""
     variables = {name: value for name, value in os.environ.items() if name not in ELSEWHERE}
-    ran = subprocess.run(words, cwd=folder, env=variables | more, capture_output=True, text=True, errors="replace", timeout=MOST_SECONDS)
+    ran = subprocess.run(
+        words, cwd=folder, env=variables | more, capture_output=True, text=True, errors="replace", timeout=MOST_SECONDS
+    )
     return ran.returncode, ran.stdout + ran.stderr
 
 
@@ -53,7 +85,9 @@ def wanted(*commands):
 @functools.cache
 def missing(python):
     """The modules that a Python has not; all of them where there is no such Python."""
-    ask = f"import importlib.util\nprint(*(name for name in {tuple(MODULES)} if importlib.util.find_spec(name) is None))"
+    ask = (
+        f"import importlib.util\nprint(*(name for name in {tuple(MODULES)} if importlib.util.find_spec(name) is None))"
+    )
     with contextlib.suppress(OSError):
         ran = subprocess.run([python, "-c", ask], capture_output=True, text=True, timeout=MOST_SECONDS)
         if ran.returncode == 0:
@@ -68,7 +102,9 @@ def python():
         if not missing(found):
             return found
     absent = missing(debians)
-    raise unittest.SkipTest(f"{debians} has no {', '.join(absent)}: apt-get install {' '.join(MODULES[name] for name in absent)}")
+    raise unittest.SkipTest(
+        f"{debians} has no {', '.join(absent)}: apt-get install {' '.join(MODULES[name] for name in absent)}"
+    )
 
 
 @functools.cache
@@ -77,8 +113,15 @@ def archive():
     harness.library()
     name = f"atomfs-{VERSION}-{os.uname().machine}-linux"
     found = pathlib.Path(harness.found("ATOMFS_ARCHIVE", f"dist/{name}.tar.gz", "embed/build makes it"))
-    parts = [path for folder in (BINDINGS, EMBED) for path in folder.rglob("*") if path.is_file() and "__pycache__" not in path.parts]
-    if "ATOMFS_ARCHIVE" not in os.environ and (newer := [path for path in parts if path.stat().st_mtime > found.stat().st_mtime]):
+    parts = [
+        path
+        for folder in (BINDINGS, EMBED)
+        for path in folder.rglob("*")
+        if path.is_file() and "__pycache__" not in path.parts
+    ]
+    if "ATOMFS_ARCHIVE" not in os.environ and (
+        newer := [path for path in parts if path.stat().st_mtime > found.stat().st_mtime]
+    ):
         sys.exit(f"{found} is older than {newer[0].relative_to(ROOT)}: embed/build makes it")
     return found
 
@@ -111,7 +154,13 @@ class OfTheArchive(Installed):
         """It has the library, its header, what CMake and pkg-config read, the program, the wheel, the crate, and the pages that the header names."""
         self.same(archive().name, self.prefix.name, archive().name.removesuffix(".tar.gz"))
         for name in (
-            *("lib/libatomfs.a", "lib/libatomfs.so", "lib/cmake/atomfs/atomfs-config.cmake", "lib/pkgconfig/atomfs.pc", "include/atomfs.h"),
+            *(
+                "lib/libatomfs.a",
+                "lib/libatomfs.so",
+                "lib/cmake/atomfs/atomfs-config.cmake",
+                "lib/pkgconfig/atomfs.pc",
+                "include/atomfs.h",
+            ),
             *("bin/atomfs", "share/atomfs/README.md", "share/atomfs/rust/Cargo.toml"),
         ):
             with self.subTest(name):
@@ -131,7 +180,11 @@ class OfTheArchive(Installed):
         """`embed/package --prefix` puts it anew where a program of the folder runs, and that goes on with what it has."""
         checkout, into = self.folder / "checkout", self.folder / "into"
         for part in ("embed", "bindings", "docs"):
-            shutil.copytree(ROOT / part, checkout / part, ignore=shutil.ignore_patterns("target", "build", "*.egg-info", "__pycache__"))
+            shutil.copytree(
+                ROOT / part,
+                checkout / part,
+                ignore=shutil.ignore_patterns("target", "build", "*.egg-info", "__pycache__"),
+            )
         for part in ("lib", "include", "bin"):
             shutil.copytree(self.prefix / part, checkout / "dist" / part, symlinks=True)
         shutil.copy(ROOT / "CHANGELOG.md", checkout)
@@ -140,10 +193,18 @@ class OfTheArchive(Installed):
         with subprocess.Popen([into / "bin" / "atomfs", "run"], stdin=subprocess.PIPE, stdout=subprocess.PIPE) as runs:
             self.ends(install, pattern="(?m)^installed: ")
             output, _ = runs.communicate(b"atomfs 1\nschedule\n")
-        self.same("the run", (runs.returncode, output), (0, b"atomfs-journal 1\ntree\ndir /\nbegun 0 committed 0 returned 0\n"))
+        self.same(
+            "the run",
+            (runs.returncode, output),
+            (0, b"atomfs-journal 1\ntree\ndir /\nbegun 0 committed 0 returned 0\n"),
+        )
 
     def test_program(self):
-        self.same("atomfs --version", done([self.prefix / "bin" / "atomfs", "--version"], self.folder), (0, f"atomfs {VERSION}\n"))
+        self.same(
+            "atomfs --version",
+            done([self.prefix / "bin" / "atomfs", "--version"], self.folder),
+            (0, f"atomfs {VERSION}\n"),
+        )
 
 
 class ForC(Installed):
@@ -151,13 +212,28 @@ class ForC(Installed):
         """A project out of tree finds the package, and runs with the shared object and with the archive."""
         wanted("cmake", "make", "cc")
         example, build = self.copied(BINDINGS / "c" / "example", "example"), self.folder / "build"
-        self.ends(["cmake", "-S", example, "-B", build, f"-DCMAKE_PREFIX_PATH={self.prefix}", "-DCMAKE_C_FLAGS=-std=c99 -Wall -Wextra -Werror"])
+        self.ends(
+            [
+                "cmake",
+                "-S",
+                example,
+                "-B",
+                build,
+                f"-DCMAKE_PREFIX_PATH={self.prefix}",
+                "-DCMAKE_C_FLAGS=-std=c99 -Wall -Wextra -Werror",
+            ]
+        )
         self.ends(["cmake", "--build", build])
         self.ends(["ctest", "--output-on-failure"], build, "100% tests passed, 0 tests failed out of 2")
         for name in ("shared", "static"):
             self.same(name, done([build / name], self.folder), (0, "hello\n"))
         major, minor, _ = VERSION.split(".")
-        for asked, found in ((VERSION, True), (f"{major}.{minor}", True), (f"{major}.{int(minor) + 1}", False), (f"{major}.{int(minor) - 1}", False)):
+        for asked, found in (
+            (VERSION, True),
+            (f"{major}.{minor}", True),
+            (f"{major}.{int(minor) + 1}", False),
+            (f"{major}.{int(minor) - 1}", False),
+        ):
             with self.subTest(asked):
                 self.look_at_version(asked, found)
 
@@ -168,15 +244,33 @@ class ForC(Installed):
         (project / "CMakeLists.txt").write_text(
             f"cmake_minimum_required(VERSION 3.13)\nproject(asks LANGUAGES C)\nfind_package(atomfs {asked} REQUIRED)\n"
         )
-        status, told = done(["cmake", "-S", str(project), "-B", str(project / "build"), f"-DCMAKE_PREFIX_PATH={self.prefix}"], self.folder)
+        status, told = done(
+            ["cmake", "-S", str(project), "-B", str(project / "build"), f"-DCMAKE_PREFIX_PATH={self.prefix}"],
+            self.folder,
+        )
         self.same(f"find_package(atomfs {asked})", status == 0 or told, found or told)
 
     def test_pkg_config(self):
         wanted("pkg-config", "cc")
         where = {"PKG_CONFIG_PATH": str(self.prefix / "lib" / "pkgconfig")}
-        self.same("pkg-config --modversion atomfs", done(["pkg-config", "--modversion", "atomfs"], self.folder, **where), (0, f"{VERSION}\n"))
+        self.same(
+            "pkg-config --modversion atomfs",
+            done(["pkg-config", "--modversion", "atomfs"], self.folder, **where),
+            (0, f"{VERSION}\n"),
+        )
         flags = self.ends(["pkg-config", "--cflags", "--libs", "atomfs"], **where).split()
-        self.ends(["cc", "-std=c99", "-Wall", "-Werror", BINDINGS / "c" / "example" / "main.c", *flags, "-o", self.folder / "by_pkg_config"])
+        self.ends(
+            [
+                "cc",
+                "-std=c99",
+                "-Wall",
+                "-Werror",
+                BINDINGS / "c" / "example" / "main.c",
+                *flags,
+                "-o",
+                self.folder / "by_pkg_config",
+            ]
+        )
         ran = done([self.folder / "by_pkg_config"], self.folder, LD_LIBRARY_PATH=str(self.prefix / "lib"))
         self.same("the example, built by pkg-config", ran, (0, "hello\n"))
 
@@ -190,7 +284,9 @@ class ForC(Installed):
         self.same("a.out", done([self.folder / "a.out"], self.folder), (0, "hello\n"))
         (started,) = (span for span in spans(page) if span.startswith("LD_LIBRARY_PATH="))
         self.ends(["bash", "-c", command.replace("PREFIX", str(self.prefix)).split(" -Wl,-rpath,")[0]])
-        self.same(started, done(["bash", "-c", started.replace("PREFIX", str(self.prefix))], self.folder), (0, "hello\n"))
+        self.same(
+            started, done(["bash", "-c", started.replace("PREFIX", str(self.prefix))], self.folder), (0, "hello\n")
+        )
 
 
 class ForPython(Installed):
@@ -200,20 +296,38 @@ class ForPython(Installed):
         found = python()
         (wheel,) = (self.prefix / "share" / "atomfs").glob("*.whl")
         installed = self.installed(found, "by_wheel", wheel)
-        self.ends([installed, "-c", f"import atomfs; assert atomfs.__version__ == {VERSION!r}; assert atomfs.library_version() == {VERSION!r}"])
+        self.ends(
+            [
+                installed,
+                "-c",
+                f"import atomfs; assert atomfs.__version__ == {VERSION!r}; assert atomfs.library_version() == {VERSION!r}",
+            ]
+        )
+        self.binds(
+            installed,
+            "extension" if self.takes_extension(found) else "ctypes: the extension is for CPython 3.11 and later",
+        )
         for words in ([installed, "-m", "atomfs"], [installed.with_name("atomfs")]):
             self.same("the program of the wheel", done([*words, "--version"], self.folder), (0, f"atomfs {VERSION}\n"))
         (example,) = blocks(PACKAGES["python"], "python")
         self.same("the example of its page", done([installed, "-c", example], self.folder), (0, "hello\nlawful\n"))
         told = self.passes(installed)
+        self.passes(installed, ATOMFS_PURE="1")
         listed = [name for tests, _ in table(PACKAGES["python"], "Test of the suite", "Needs") for name in spans(tests)]
-        skipped = re.findall(r"^(test_\w+) .*\.\.\. skipped ", told, re.M)
+        # What only wants a package of Debian is named with it.
+        skipped = re.findall(r"^(test_\w+) .*\.\.\. skipped (?!.*apt-get install)", told, re.M)
         self.same("the tests that its page lists as left out", sorted(listed), sorted(skipped))
 
     def test_platform(self):
         """The wheel is for every Linux whose C library has the symbols of the shared object and the program, as `objdump` tells them."""
         (wheel,) = (self.prefix / "share" / "atomfs").glob("*.whl")
-        wanted = self.platform(self.prefix / "lib" / "libatomfs.so", self.prefix / "bin" / "atomfs")
+        with zipfile.ZipFile(wheel) as files:
+            extensions = [
+                files.extract(name, self.folder)
+                for name in files.namelist()
+                if "/_fast." in name and name.endswith(".so")
+            ]
+        wanted = self.platform(self.prefix / "lib" / "libatomfs.so", self.prefix / "bin" / "atomfs", *extensions)
         self.same("the wheel", wheel.name, f"atomfs-{VERSION}-py3-none-{wanted}.whl")
         with zipfile.ZipFile(wheel) as files:
             (told,) = (files.read(name).decode() for name in files.namelist() if name.endswith("/WHEEL"))
@@ -222,7 +336,9 @@ class ForPython(Installed):
     @staticmethod
     def platform(*paths):
         symbols = subprocess.run(["objdump", "-T", *paths], capture_output=True, text=True, check=True).stdout
-        major, minor = max((int(major), int(minor)) for major, minor in re.findall(r"\(GLIBC_(\d+)\.(\d+)[.\d]*\)", symbols))
+        major, minor = max(
+            (int(major), int(minor)) for major, minor in re.findall(r"\(GLIBC_(\d+)\.(\d+)[.\d]*\)", symbols)
+        )
         return f"manylinux_{major}_{minor}_{os.uname().machine}"
 
     def test_platform_of_others(self):
@@ -235,7 +351,11 @@ class ForPython(Installed):
         of_build = f"linux_{os.uname().machine}"
         for name, text, flags in (
             ("random", "#include <sys/random.h>\nlong f(void *p) { return getrandom(p, 1, 0); }\n", []),
-            ("copy", "#include <string.h>\nvoid *f(void *p, void *q, unsigned long n) { return memcpy(p, q, n); }\n", []),
+            (
+                "copy",
+                "#include <string.h>\nvoid *f(void *p, void *q, unsigned long n) { return memcpy(p, q, n); }\n",
+                [],
+            ),
             ("other", "int f(void) { return 1; }\n", ["-Wl,--no-as-needed", "-L", self.folder, "-l:libother.so"]),
         ):
             with self.subTest(name):
@@ -246,20 +366,89 @@ class ForPython(Installed):
                     made = self.folder / "libneeds.so"
                 self.ends(["cc", "-shared", "-fPIC", "-O2", "-fno-builtin", "-o", made, source, *flags])
                 words = [python(), "-c", ask, str(BINDINGS / "python" / "setup.py"), str(made), os.uname().machine]
-                self.same(name, done(words, self.folder, PYTHONDONTWRITEBYTECODE="1"), (0, f"{of_build if name == 'other' else self.platform(made)}\n"))
+                self.same(
+                    name,
+                    done(words, self.folder, PYTHONDONTWRITEBYTECODE="1"),
+                    (0, f"{of_build if name == 'other' else self.platform(made)}\n"),
+                )
 
     def test_sources(self):
         """The package is built and installed from its sources, offline."""
         library = str(self.prefix / "lib" / "libatomfs.so")
-        installed = self.installed(python(), "by_sources", self.copied(BINDINGS / "python", "python"), ATOMFS_LIBRARY=library)
-        self.ends([installed, "-c", "import atomfs\nwith atomfs.Tree() as tree: tree.mkdir('/a'); assert tree.check() == 'lawful'"])
-        self.ends([installed, "-c", "import atomfs, importlib.resources as r; assert (r.files(atomfs) / 'py.typed').is_file()"])
+        installed = self.installed(
+            python(), "by_sources", self.copied(BINDINGS / "python", "python"), ATOMFS_LIBRARY=library
+        )
+        self.ends(
+            [
+                installed,
+                "-c",
+                "import atomfs\nwith atomfs.Tree() as tree: tree.mkdir('/a'); assert tree.check() == 'lawful'",
+            ]
+        )
+        self.ends(
+            [
+                installed,
+                "-c",
+                "import atomfs, importlib.resources as r; assert (r.files(atomfs) / 'py.typed').is_file()",
+            ]
+        )
+        if self.takes_extension(python()):
+            self.binds(installed, "extension")
+
+    def test_no_compiler(self):
+        """Without a compiler, or without the header, the package is built all the same: calls go by ctypes, and it says so."""
+        if not self.takes_extension(python()):
+            self.skipTest("the extension is for CPython 3.11 and later")
+        library = self.prefix / "lib" / "libatomfs.so"
+        alone = self.folder / "without_header" / "lib"
+        alone.mkdir(parents=True)
+        shutil.copy(library, alone)
+        for name, given, why in (
+            ("no_compiler", {"ATOMFS_LIBRARY": str(library), "CC": "/nowhere/cc"}, r"command '/nowhere/cc' failed"),
+            ("no_header", {"ATOMFS_LIBRARY": str(alone / "libatomfs.so")}, r"there is no \S+/atomfs\.h"),
+        ):
+            with self.subTest(name):
+                source = self.copied(BINDINGS / "python", name)
+                words = python(), "setup.py", "build", "--build-base", self.folder / f"{name}_build"
+                told = self.ends(words, source, rf"atomfs: the extension in C is left out: .*{why}", **given)
+                self.assertIn("Calls go by ctypes, and take 2 to 5 times as long.", told)
+                (made,) = (self.folder / f"{name}_build").glob("lib*")
+                self.same("what is built", [path.name for path in made.glob("atomfs/_fast.*so")], [])
+                code = "import atomfs; print(atomfs.binding()); atomfs.Tree().mkdir('/a')"
+                self.same(
+                    name,
+                    done([python(), "-c", code], made),
+                    (0, "ctypes: the package is not built, or was built without a compiler\n"),
+                )
+
+    def takes_extension(self, found):
+        """Whether a Python takes the extension."""
+        ask = "import sys, sysconfig; print(sys.version_info >= (3, 11) and not sysconfig.get_config_var('Py_GIL_DISABLED'))"
+        return done([found, "-c", ask], self.folder) == (0, "True\n")
+
+    def binds(self, installed, wanted):
+        """By what the calls of an installed package go to the library."""
+        self.same(
+            "the binding",
+            done([installed, "-c", "import atomfs; print(atomfs.binding())"], self.folder),
+            (0, f"{wanted}\n"),
+        )
 
     def test_types(self):
         """The types of the package are right for the least Python that it is for."""
         wanted("mypy")
-        least = re.search(r'^requires-python = ">=(.*)"$', (BINDINGS / "python" / "pyproject.toml").read_text(), re.M)[1]
-        words = "mypy", "--strict", "--python-version", least, "--cache-dir", self.folder / "types", BINDINGS / "python" / "src" / "atomfs"
+        least = re.search(r'^requires-python = ">=(.*)"$', (BINDINGS / "python" / "pyproject.toml").read_text(), re.M)[
+            1
+        ]
+        words = (
+            "mypy",
+            "--strict",
+            "--python-version",
+            least,
+            "--cache-dir",
+            self.folder / "types",
+            BINDINGS / "python" / "src" / "atomfs",
+        )
         self.ends(words, pattern="^Success: ")
 
     def test_no_library(self):
@@ -276,10 +465,10 @@ class ForPython(Installed):
         self.ends([new, *words], pattern="Successfully installed atomfs", **more)
         return new
 
-    def passes(self, new):
+    def passes(self, new, **more):
         """What the tests of the package tell."""
         words = "-W", "ignore", "-m", "unittest", "discover", "-v", "-s", BINDINGS / "python" / "tests"
-        return self.ends([new, *words], pattern=r"(?m)^OK", PYTHONDONTWRITEBYTECODE="1")
+        return self.ends([new, *words], pattern=r"(?m)^OK", PYTHONDONTWRITEBYTECODE="1", **more)
 
 
 class ForRust(Installed):
@@ -288,22 +477,144 @@ class ForRust(Installed):
         wanted("cargo", "cc")
         crate = self.prefix / "share" / "atomfs" / "rust"
         told = self.ends(["cargo", "test", "--offline", "--quiet"], crate, CARGO_TARGET_DIR=str(self.folder / "target"))
-        passed = [int(count) for count in re.findall(r"^test result: ok\. (\d+) passed; 0 failed; 0 ignored", told, re.M)]
+        passed = [
+            int(count) for count in re.findall(r"^test result: ok\. (\d+) passed; 0 failed; 0 ignored", told, re.M)
+        ]
         self.assertTrue(len(passed) >= 4 and sum(count > 0 for count in passed) >= 3, told)
 
     def test_clippy(self):
-        """Rust's own linter has nothing to say of the crate, its tests and its examples."""
+        """Rust's own linter has nothing to say of the crate, its tests and its examples, and each unsafe block has its reason."""
         wanted("cargo", "cargo-clippy")
         crate = self.prefix / "share" / "atomfs" / "rust"
-        self.ends(["cargo", "clippy", "--offline", "--all-targets", "--", "-D", "warnings"], crate, CARGO_TARGET_DIR=str(self.folder / "clippy"))
+        self.ends(
+            [
+                *("cargo", "clippy", "--offline", "--all-targets", "--", "-D", "warnings"),
+                *("-D", "clippy::undocumented_unsafe_blocks"),
+            ],
+            crate,
+            CARGO_TARGET_DIR=str(self.folder / "clippy"),
+        )
 
     def test_no_library(self):
         """Without the library the build says what is missing."""
         wanted("cargo")
         crate = self.copied(BINDINGS / "rust", "rust")
-        status, told = done(["cargo", "build", "--offline"], crate, CARGO_TARGET_DIR=str(self.folder / "other"), ATOMFS_LIB_DIR="/nowhere")
+        status, told = done(
+            ["cargo", "build", "--offline"],
+            crate,
+            CARGO_TARGET_DIR=str(self.folder / "other"),
+            ATOMFS_LIB_DIR="/nowhere",
+        )
         self.assertNotEqual(status, 0)
         self.assertIn("embed/build makes it", told)
+
+
+class Layout(Case):
+    """The sources in Rust, Python and C are laid out by rustfmt, black and clang-format, with one line length: by rustfmt.toml, .clang-format and the tables
+    in pyproject.toml. Another version than the one named here may lay out otherwise, and is not asked."""
+
+    VERSIONS = {"black": "23.1", "clang-format": "14.0"}
+
+    def formatter(self, command):
+        """A formatter of the version by which the sources are laid out."""
+        wanted(command)
+        _, told = done([command, "--version"], ROOT)
+        if not re.search(rf"\b{re.escape(self.VERSIONS[command])}\b", told):
+            raise unittest.SkipTest(f"{command} {self.VERSIONS[command]} is not there")
+        return command
+
+    @staticmethod
+    def sources():
+        """The files of the repository, but for crates and what is built."""
+        left_out = "crates", "out", "dist", "target", "build", "__pycache__"
+        for folder, folders, names in os.walk(ROOT):
+            folders[:] = [name for name in folders if not name.startswith(".") and name not in left_out]
+            yield from (pathlib.Path(folder, name) for name in sorted(names))
+
+    def test_black(self):
+        command = self.formatter("black")
+        written = [path for path in self.sources() if path.suffix in (".py", ".pyi") or self.is_script(path)]
+        for folder in (BINDINGS / "python", ROOT):
+            files = [str(path) for path in written if (BINDINGS / "python" in path.parents) == (folder != ROOT)]
+            self.same(f"black in {folder}", done([command, "--check", "--quiet", *files], folder), (0, ""))
+
+    @staticmethod
+    def is_script(path):
+        """Whether a file without a name's end is a program in Python."""
+        with path.open("rb") as file:
+            return not path.suffix and file.readline().endswith(b"python3\n")
+
+    def test_clang_format(self):
+        command = self.formatter("clang-format")
+        files = [str(path) for path in self.sources() if path.suffix in (".c", ".h")]
+        self.same("clang-format", done([command, "--dry-run", "--Werror", *files], ROOT), (0, ""))
+
+    def test_rustfmt(self):
+        wanted("rustfmt")
+        sources = []
+        for folder, edition in (("bindings/rust", "2021"), ("examples", "2021"), ("bench", "2024")):
+            found = sorted(path for path in (ROOT / folder).rglob("*.rs") if "target" not in path.parts)
+            words = ["rustfmt", "--check", "--edition", edition, *map(str, found)]
+            self.same(f"rustfmt --check in {folder}", done(words, ROOT), (0, ""))
+            sources += found
+        long = [
+            f"{path.relative_to(ROOT)}:{number}"
+            for path in sources
+            for number, line in enumerate(path.read_text().splitlines(), 1)
+            if len(line) > 120
+        ]
+        self.same("lines of more than 120 columns", long, [])
+
+    def test_reasons(self):
+        """Each unsafe block and impl of the crate and its tests has a comment that says why it may be, at its statement: clippy's lint, without clippy."""
+        self.same(
+            "the lint of lib.rs",
+            re.findall(r"^#!\[deny\(clippy::(\w+)\)\]", (BINDINGS / "rust/src/lib.rs").read_text(), re.M),
+            ["undocumented_unsafe_blocks"],
+        )
+        found = 0
+        for path in (path for folder in ("src", "tests") for path in sorted((BINDINGS / "rust" / folder).glob("*.rs"))):
+            lines = path.read_text().splitlines()
+            for number, line in enumerate(lines):
+                if not re.search(r"\bunsafe (\{|impl\b)", line) or line.lstrip().startswith("//"):
+                    continue
+                found += 1
+                # The comment stands above the block, or above the statement whose second or third line has it.
+                before = [one.strip() for one in lines[max(number - 3, 0) : number]]
+                self.assertTrue(any(one.startswith("// SAFETY: ") for one in before), f"{path.name}:{number + 1}")
+        self.assertGreater(found, 30)
+
+
+class Without(Case):
+    """What the packages do without the library, or without what builds them."""
+
+    # Runs setup.py where no package has the command that makes wheels.
+    NO_WHEEL = """if True:
+        import runpy, sys
+        for name in ("wheel", "wheel.bdist_wheel", "setuptools.command.bdist_wheel"):
+            sys.modules[name] = None
+        sys.argv = ["setup.py", "--version"]
+        runpy.run_path("setup.py", run_name="__main__")
+    """
+
+    def setUp(self):
+        harness.takes_a_process()
+        self.folder = pathlib.Path(self.enterContext(tempfile.TemporaryDirectory(prefix="atomfs-")))
+
+    def test_no_wheel(self):
+        """Without the package `wheel` the build says so in one line."""
+        status, told = done([python(), "-c", self.NO_WHEEL], BINDINGS / "python")
+        self.same("setup.py", (status, len(told.splitlines())), (1, 1))
+        self.assertIn("has no package wheel: pip install wheel, or apt-get install python3-wheel", told)
+
+    def test_pages_of_the_crate(self):
+        """Rust's own pages of the crate are made without the library, and without a warning."""
+        wanted("cargo")
+        words = ["cargo", "doc", "--offline", "--no-deps", "--quiet"]
+        crate = shutil.copytree(BINDINGS / "rust", self.folder / "rust", ignore=shutil.ignore_patterns("target"))
+        told = done(words, crate, DOCS_RS="1", ATOMFS_LIB_DIR="/nowhere", CARGO_TARGET_DIR=str(self.folder / "target"))
+        self.same(" ".join(words), told, (0, ""))
+        self.assertTrue((self.folder / "target" / "doc" / "atomfs" / "struct.Tree.html").is_file())
 
 
 class Numbers(Case):
@@ -313,76 +624,223 @@ class Numbers(Case):
     def source(*names):
         return BINDINGS.joinpath(*names).read_text()
 
+    def test_written(self):
+        """What repeats the header is what embed/header.py makes of it: prototypes, the module for Python, and the version, which so has one file."""
+        self.each(
+            ((str(path.relative_to(ROOT)), path, text) for path, text in harness.reader().written()),
+            lambda path, text: self.same(path.relative_to(ROOT), path.read_text(), text),
+        )
+        self.same("embed/header.py --check", done([sys.executable, EMBED / "header.py", "--check"], ROOT), (0, ""))
+        self.same("embed/header.py --chek", done([sys.executable, EMBED / "header.py", "--chek"], ROOT)[0], 2)
+
+    def test_new_version(self):
+        """A version that is new in the header comes into every file that has one, and a new number and function into what is made of it."""
+        with tempfile.TemporaryDirectory() as folder:
+            top = pathlib.Path(folder)
+            for path in (*(path for path, _ in harness.reader().written()), *EMBED.iterdir()):
+                to = top / path.relative_to(ROOT)
+                to.parent.mkdir(parents=True, exist_ok=True)
+                shutil.copy(path, to)
+            there = top / "embed" / "atomfs.h"
+            new = "uint8_t atomfs_new(atomfs *fs, const void *bytes, size_t length, uint64_t *number);\n"
+            there.write_text(
+                HEADER.replace(f'"{VERSION}"', '"7.8.9"', 1)
+                .replace("ATOMFS_BAD_CHOICE = 35,", "ATOMFS_BAD_CHOICE = 35, ATOMFS_NEW = 36,")
+                .replace("uint8_t atomfs_close(", f"{new}uint8_t atomfs_close(")
+            )
+            words = [sys.executable, top / "embed" / "header.py"]
+            status, told = done([*words, "--check"], top)
+            self.assertEqual((status, told.count("is not what embed/header.py makes")), (1, 6), told)
+            self.same("embed/header.py", done(words, top)[0], 0)
+            self.same("and then --check", done([*words, "--check"], top), (0, ""))
+            for path, _, pattern in self.versions():
+                self.same(path, re.search(pattern, (top / path).read_text(), re.M)[1], "7.8.9")
+            self.assertIn(
+                "uint8_t PROVED(new)(atomfs *, const void *, size_t, uint64_t *);",
+                (top / "embed" / "proved.h").read_text(),
+            )
+            module = (top / "bindings/python/src/atomfs/_header.py").read_text()
+            self.assertIn("def new(self, fs: HandleAt, bytes: Bytes, length: Size, number: NumberAt) -> Byte:", module)
+            self.assertIn("    NEW = 36\n", module)
+
+    @staticmethod
+    def versions():
+        """The files that have the version, each with a pattern."""
+        return (
+            ("crates/fs_arguments/src/cli.rt", "the program", r'VERSION: &str = "(.*)"'),
+            ("bindings/python/src/atomfs/_header.py", "the package for Python", r'^VERSION = "(.*)"'),
+            ("bindings/rust/Cargo.toml", "the package for Rust", r'^version = "(.*)"'),
+        )
+
     def test_versions(self):
         """One version stands in the header, the program, the packages and the list of changes."""
-        rows = (
-            ("the program", CRATES / "fs_arguments" / "src" / "cli.rt", r'VERSION: &str = "(.*)"'),
-            ("pyproject.toml", BINDINGS / "python" / "pyproject.toml", r'^version = "(.*)"'),
-            ("the package for Python", BINDINGS / "python" / "src" / "atomfs" / "__init__.py", r'^__version__ = "(.*)"'),
-            ("Cargo.toml", BINDINGS / "rust" / "Cargo.toml", r'^version = "(.*)"'),
-            ("CHANGELOG.md", ROOT / "CHANGELOG.md", r"^## (\S+)"),
-        )
-        self.each(((name, path, pattern) for name, path, pattern in rows), self.look_at_version)
+        rows = (*self.versions(), ("CHANGELOG.md", "the list of changes", r"^## (\S+)"))
+        self.each(((name, ROOT / path, pattern) for path, name, pattern in rows), self.look_at_version)
 
     def look_at_version(self, path, pattern):
         self.same(path.relative_to(ROOT), re.search(pattern, path.read_text(), re.M)[1], VERSION)
 
     def test_statuses(self):
         """Statuses, what a step did, calls, what came of histories, and sets of limits, as the header numbers them."""
-        header = {name: int(value) for name, value in re.findall(r"^    ATOMFS_(\w+) = (\d+)", HEADER, re.M)}
-        library, ffi = self.source("python", "src", "atomfs", "_library.py"), self.source("rust", "src", "ffi.rs")
-        of_python = {"FAILED": int(re.search(r"^FAILED = (\d+)", library, re.M)[1])}
-        for enum, prefix in (("Limits", ""), ("Status", ""), ("Did", "DID_"), ("Fault", "FAULT_"), ("Call", "CALL_"), ("By", ""), ("Found", "FOUND_"), ("Tell", "TELL_")):
-            body = re.search(rf"class {enum}\(enum.\w+\):(.*?)\n\n\n", library, re.S)[1]
-            of_python |= {prefix + name: int(value) for name, value in re.findall(r"^    (\w+) = (\d+)", body, re.M)}
-        self.same("_library.py", of_python, header)
-        of_rust = {name: int(value) for name, value in re.findall(r"^pub const (\w+): u8 = (\d+);", ffi, re.M)}
-        self.same("ffi.rs", of_rust, {name: header.get(name) for name in of_rust})
+        of_rust = {
+            name: int(value)
+            for name, value in re.findall(r"^pub const (\w+): u8 = (\d+);", self.source("rust", "src", "ffi.rs"), re.M)
+        }
+        self.same("ffi.rs", of_rust, {name: NUMBERS.get(name) for name in of_rust})
+        self.assertGreater(len(of_rust), 25)
 
     def test_kinds(self):
         """The crate has the program's word for each fault of a text, in the order of the statuses."""
-        statuses = [name for name, value in re.findall(r"^    ATOMFS_(\w+) = (\d+)", HEADER, re.M) if not name.startswith(("DID", "CALL")) and 16 <= int(value) < 28]
+        statuses = [
+            name for name, value in NUMBERS.items() if not name.startswith(("DID", "CALL")) and 16 <= value < 28
+        ]
         words = ["".join(part.title() for part in name.split("_")) for name in statuses]
         kinds = re.search(r"let kinds = \[(.*?)\];", self.source("rust", "src", "error.rs"), re.S)[1]
         self.same("the kinds of error.rs", re.findall(r'"(\w+)"', kinds), words)
         declared = re.findall(r'#\[error\("([A-Z]\w+)', (CRATES / "fs_words" / "src" / "fault.rt").read_text())
-        self.same("the kinds of the program that are no fault of a text", sorted(set(declared) - set(words)), ["OutOfMemory"])
+        self.same(
+            "the kinds of the program that are no fault of a text", sorted(set(declared) - set(words)), ["OutOfMemory"]
+        )
+
+    @staticmethod
+    def types(text):
+        """The types of the parameters of a prototype in C, without the names that they may have."""
+        words = (re.findall(r"\w+|\*", one) for one in text.split(","))
+        types = [[word for word in one if word != "*"] + ["*"] * one.count("*") for one in words if one != ["void"]]
+        known = (
+            "const struct void char atomfs atomfs_stat atomfs_request atomfs_shared atomfs_session atomfs_gate".split()
+        )
+        kept = ([word for word in one if word in known or word.endswith("_t") or word == "*"] for one in types)
+        return [" ".join(one) for one in kept]
+
+    @staticmethod
+    def width(type):
+        """How an argument of a type is handed over: as an address, or as a number of so many bits."""
+        addresses = "c_void_p", "c_char_p", "atomfs_gate", "Option<Gate>"
+        return "address" if "*" in type or type in addresses else Numbers.BITS[type]
+
+    BITS = {
+        **dict.fromkeys(("uint8_t", "u8", "c_ubyte"), 8),
+        **dict.fromkeys(("uint32_t", "u32", "c_uint"), 32),
+        **dict.fromkeys(("uint64_t", "size_t", "u64", "usize", "c_ulong"), 64),
+    }
 
     def test_functions(self):
-        """Python and Rust declare no function that the header has not, each with as many arguments."""
-        counts = {
-            name: 0 if arguments == "void" else arguments.count(",") + 1
-            for name, arguments in re.findall(r"^(?:uint8_t|const char \*) ?atomfs_(\w+)\(([^;]*)\);", HEADER, re.M)
+        """Rust declares no function that the header has not, each with arguments of the same kinds in the same order."""
+        header = {
+            name: [self.width(field.type.strip()) for field in function.takes]
+            for name, function in harness.declared().functions.items()
         }
         of_rust = {
-            name: len([one for one in arguments.split(",") if one.strip()])
+            name: [self.width(one.split(":")[1].strip()) for one in arguments.split(",") if one.strip()]
             for name, arguments in re.findall(r"pub fn atomfs_(\w+)\(([^)]*)\)", self.source("rust", "src", "ffi.rs"))
         }
-        self.same("ffi.rs", of_rust, {name: counts.get(name) for name in of_rust})
-        sys.path.insert(0, str(BINDINGS / "python" / "src" / "atomfs"))
-        import _library
+        self.same("ffi.rs", of_rust, {name: header.get(name) for name in of_rust})
 
-        sys.path.pop(0)
-        of_python = {name: len(arguments) for name, arguments in _library._ARGUMENTS.items()}
-        self.same("_library.py", of_python, {name: counts.get(name) for name in of_python})
+    # The types in C of a parameter of a proved function; `char` may be `void` there.
+    IN_C = {
+        # It has no bytes, so nothing is handed over.
+        "Global": [],
+        "&mut Handle": ["atomfs *"],
+        "&mut Stat": ["struct atomfs_stat *"],
+        "&[u8]": ["const char *", "size_t"],
+        "&mut [u8]": ["char *", "size_t"],
+        "&mut usize": ["size_t *"],
+        "&mut u64": ["uint64_t *"],
+        "&mut u8": ["uint8_t *"],
+        "usize": ["size_t"],
+        "u64": ["uint64_t"],
+        "u32": ["uint32_t"],
+        "u8": ["uint8_t"],
+    }
+
+    def exports(self):
+        """The types of the parameters of each proved function, as C has them."""
+        found = {}
+        for path in (CRATES / "atomfs_c" / "src").glob("*.rt"):
+            for name, text in re.findall(r'^pub extern "C" fn atomfs_(\w+)\(([^)]*)\) -> u8$', path.read_text(), re.M):
+                types = [one.split(":")[1].strip() for one in text.split(",") if one.strip()]
+                found[name] = [of_c for type in types for of_c in self.IN_C[type]]
+        return found
+
+    def test_prototypes(self):
+        """embed/proved.h declares each proved function with the parameters that it has, in their order."""
+        text = re.sub(r"\n +", " ", harness.reader().PROVED.read_text())
+        declared = {
+            name: [type.replace("void *", "char *") for type in self.types(arguments)]
+            for name, arguments in re.findall(r"^uint8_t PROVED\((\w+)\)\(([^;]*)\);", text, re.M)
+        }
+        self.assertGreater(len(declared), 40)
+        self.same("embed/proved.h", declared, self.exports())
+
+    def test_handed_on(self):
+        """Each function of embed/checks.c that takes what the proved one takes hands its parameters on in their order."""
+        wanted("cc")
+        words = ("cc", "-E", "-P", "-I", EMBED, EMBED / "checks.c")
+        text = subprocess.run(words, check=True, capture_output=True, text=True).stdout
+        heads = re.finditer(r"uint8_t atomfs_(\w+)\(([^;{)]*)\)\s*\{", text)
+        looked_at = {}
+        for head in heads:
+            name, parameters = head.groups()
+            names = [one.split()[-1].lstrip("*") for one in parameters.split(",")]
+            call = f"proved_atomfs_{name}("
+            looked_at[name] = names, self.arguments(text[text.index(call, head.end()) + len(call) :])
+        # What these take is put together from other things.
+        for name in ("begin_call", "open_at"):
+            looked_at.pop(name)
+        self.same("the functions", sorted(looked_at), sorted(set(self.exports()) - {"begin_call", "open_at"}))
+        self.each(((name, f"atomfs_{name}", came, due) for name, (due, came) in looked_at.items()), self.same)
+
+    @staticmethod
+    def arguments(text):
+        """The arguments of a call, up to its closing bracket, each by the name that it hands on."""
+        depth, ends = 0, [0]
+        for at, letter in enumerate(text):
+            if letter in ",)" and depth == 0:
+                ends.append(at + 1)
+            if letter == ")" and depth == 0:
+                break
+            depth += (letter in "({") - (letter in ")}")
+        given = (text[start : end - 1].strip() for start, end in zip(ends, ends[1:]))
+        return [re.sub(r"^(?:from|into)\((\w+)\)$|^\(?\((\w+)\) != .*$", r"\1\2", one, flags=re.S) for one in given]
 
     def test_limits(self):
         """Each set of limits has the same numbers in the packages as in the crates."""
-        named = {"path_names": "path_limit", "name_bytes": "name_limit", "entries": "entry_limit", "file_bytes": "file_limit", "read_bytes": "read_limit", "nodes": "node_limit"}
+        named = {
+            "path_names": "path_limit",
+            "name_bytes": "name_limit",
+            "entries": "entry_limit",
+            "file_bytes": "file_limit",
+            "read_bytes": "read_limit",
+            "nodes": "node_limit",
+        }
         wanted = {what: harness.limits_of_sets()[limit] for what, limit in named.items()}
         source = self.source("rust", "src", "limits.rs")
-        arms = re.findall(r"pub const fn (\w+)\(self\) -> usize \{\n        match self \{\n(.*?)        \}", source, re.S)
-        self.same("limits.rs", {what: [int(value) for value in re.findall(r"Limits::V\d => ([\d_]+)", lines)] for what, lines in arms}, wanted)
-        sys.path.insert(0, str(BINDINGS / "python" / "src" / "atomfs"))
-        from _library import LISTED, NODE_LIMIT, PATH_LIMIT, Limits
-
-        sys.path.pop(0)
+        arms = re.findall(
+            r"pub const fn (\w+)\(self\) -> usize \{\n        match self \{\n(.*?)        \}", source, re.S
+        )
+        self.same(
+            "limits.rs",
+            {what: [int(value) for value in re.findall(r"Limits::V\d => ([\d_]+)", lines)] for what, lines in arms},
+            wanted,
+        )
+        package = types.ModuleType("atomfs_package")
+        package.__path__ = [str(BINDINGS / "python" / "src" / "atomfs")]
+        with unittest.mock.patch.dict(sys.modules, {"atomfs_package": package}):
+            library = importlib.import_module("atomfs_package._library")
+        Limits = library.Limits
         self.same("_library.py", {what: [getattr(limits, what) for limits in Limits] for what in wanted}, wanted)
-        self.same("of the set where none is given", (NODE_LIMIT, PATH_LIMIT), (wanted["nodes"][2], wanted["path_names"][2]))
+        self.same(
+            "of the set where none is given",
+            (library.NODE_LIMIT, library.PATH_LIMIT),
+            (wanted["nodes"][2], wanted["path_names"][2]),
+        )
         calls = re.search(r"^_CALLS, \w+ = \{(.*)\}", self.source("python", "src", "atomfs", "_script.py"), re.M)[1]
         wanted = dict(zip(("V1", "V2", "V3"), harness.limits_of_texts()["call_limit"], strict=True))
-        self.same("_script.py", {name: int(value) for name, value in re.findall(r"Limits\.(V\d): ([\d_]+)", calls)}, wanted)
-        names = [LISTED, int(re.search(r"LISTED: usize = ([\d_]+)", source)[1])]
+        self.same(
+            "_script.py", {name: int(value) for name, value in re.findall(r"Limits\.(V\d): ([\d_]+)", calls)}, wanted
+        )
+        names = [library.LISTED, int(re.search(r"LISTED: usize = ([\d_]+)", source)[1])]
         self.same("how many names a call answers", names, [constants("fs_names/src/limits.rt")["LIST_LIMIT"]] * 2)
 
 

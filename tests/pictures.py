@@ -27,8 +27,14 @@ CHROMIUM = shutil.which("chromium")
 SEATS = 64_000
 # Names with the signs of XML, with bytes that are escaped, and longer ones than a label or a box has room for.
 ODD = (
-    b"atomfs 1\nthread aaaaaaaaaaaaaaaa\nmkdir /%3Cb%3E&%22'\nmkdir /<b>&\"'\nmkdir /" + b"%FF" * 32 + b"\nrename /" + b"%FF" * 32 + b" /]]>\nmknod /]]>/a,b\n"
-    b"write /]]>/a,b 0 " + b"3c" * 40 + b"\nread /]]>/a,b 0 100\nstat /<!--/x/y/zzzzzzzzzzzzzzzzzz/wwwwwwwwwwwwwwwwwwwwww\n"
+    b"atomfs 1\nthread aaaaaaaaaaaaaaaa\nmkdir /%3Cb%3E&%22'\nmkdir /<b>&\"'\nmkdir /"
+    + b"%FF" * 32
+    + b"\nrename /"
+    + b"%FF" * 32
+    + b" /]]>\nmknod /]]>/a,b\n"
+    b"write /]]>/a,b 0 "
+    + b"3c" * 40
+    + b"\nread /]]>/a,b 0 100\nstat /<!--/x/y/zzzzzzzzzzzzzzzzzz/wwwwwwwwwwwwwwwwwwwwww\n"
     b"thread b\nreaddir /\nreaddir /]]>\nexchange /]]> /<b>&\"'\nschedule\nfinish\n"
 )
 UNLAWFUL = b"atomfs-journal 1\nbegin 1 0 mkdir /a\ncommit 1\nbegin 2 5 stat /a\ncommit 1\nreturn 1 ok\n"
@@ -40,7 +46,13 @@ STARTED = (
 WRONGLY = STARTED.replace(b"bytes 6869", b"bytes 68")
 IN_PIECES = (RUNS / "in_pieces.script").read_bytes()
 # Each call is the first of its piece. A row has room for nine of them.
-MANY_PIECES = b"atomfs 1\nthread t\n" + b"".join(b"mkdir /%d\n" % call for call in range(12)) + b"thread u\nschedule\n" + b" ".join([b"t*5 !checkpoint"] * 12) + b"\n"
+MANY_PIECES = (
+    b"atomfs 1\nthread t\n"
+    + b"".join(b"mkdir /%d\n" % call for call in range(12))
+    + b"thread u\nschedule\n"
+    + b" ".join([b"t*5 !checkpoint"] * 12)
+    + b"\n"
+)
 # Each stored picture: its name, its input and what is asked.
 STORED = (
     ("helped_mkdir", (RUNS / "helped_mkdir.script").read_bytes()),
@@ -88,7 +100,9 @@ document.body.innerHTML = '<pre>' + JSON.stringify([boxes.length, wrong]).replac
 def crowd(threads, calls, number):
     """A script of threads with so many drawn calls each."""
     draw = random.Random(number)
-    return drawn.script([[drawn.moving_call(draw, drawn.CROWDED) for _ in range(calls)] for _ in range(threads)]).encode()
+    return drawn.script(
+        [[drawn.moving_call(draw, drawn.CROWDED) for _ in range(calls)] for _ in range(threads)]
+    ).encode()
 
 
 def crowd_in_pieces(pieces, threads, calls, number):
@@ -127,9 +141,18 @@ def counts(root):
 
 def crossed(root):
     """The bars that cross the line of a checkpoint in their row."""
-    lines = [re.match(r"M (\d+) (\d+)V (\d+)", group.find(SVG + "path").get("d")) for group in root.iter(SVG + "g") if group.get("class") == "checkpoint"]
+    lines = [
+        re.match(r"M (\d+) (\d+)V (\d+)", group.find(SVG + "path").get("d"))
+        for group in root.iter(SVG + "g")
+        if group.get("class") == "checkpoint"
+    ]
     lines = [tuple(map(int, line.groups())) for line in lines]
-    bars = [path.get("d") for group in root.iter(SVG + "g") if group.get("class") in ("call", "more") for path in group.iter(SVG + "path")]
+    bars = [
+        path.get("d")
+        for group in root.iter(SVG + "g")
+        if group.get("class") in ("call", "more")
+        for path in group.iter(SVG + "path")
+    ]
     for bar in bars:
         if found := re.match(r"M (\d+) (\d+)H (\d+)v16", bar):
             one, y, other = map(int, found.groups())
@@ -148,7 +171,16 @@ class Counted(Case):
             return
         shown = given.decode(errors="backslashreplace")
         root = ElementTree.fromstring(came.output)
-        self.same(shown, (root.tag, came.output.isascii(), root.find(SVG + "title") is not None, root.find(SVG + "desc") is not None), (SVG + "svg", True, True, True))
+        self.same(
+            shown,
+            (
+                root.tag,
+                came.output.isascii(),
+                root.find(SVG + "title") is not None,
+                root.find(SVG + "desc") is not None,
+            ),
+            (SVG + "svg", True, True, True),
+        )
         self.same(shown, list(crossed(root)), [])
         if "--around" in words or came.status and is_journal:
             return
@@ -157,7 +189,10 @@ class Counted(Case):
             wanted = *(sum(line.startswith(f"{word} ") for line in lines) for word in ("begin", "commit")), 0
         else:
             moments = traces.Trace(told).moments
-            wanted = *(sum(moment != traces.CHECKPOINT and moment.did in did for moment in moments) for did in (("begun",), ("committed", "helped"))), moments.count(traces.CHECKPOINT)
+            wanted = *(
+                sum(moment != traces.CHECKPOINT and moment.did in did for moment in moments)
+                for did in (("begun",), ("committed", "helped"))
+            ), moments.count(traces.CHECKPOINT)
         calls, own, given_by_another, checkpoints = counts(root)
         self.same(shown, (calls, own + given_by_another, checkpoints), wanted)
 
@@ -182,7 +217,9 @@ class Stored(Case):
         self.same("docs/helped_mkdir.svg", came.output, (ROOT / "docs" / "helped_mkdir.svg").read_bytes())
 
     def test_each_is_asked_for(self):
-        self.same("tests/data/pictures", sorted(path.stem for path in PICTURES.iterdir()), sorted(row[0] for row in STORED))
+        self.same(
+            "tests/data/pictures", sorted(path.stem for path in PICTURES.iterdir()), sorted(row[0] for row in STORED)
+        )
 
 
 class Asked(Case):
@@ -190,11 +227,24 @@ class Asked(Case):
 
     def test_statuses(self):
         wrong = (EXAMPLES / "wrong_reply.journal").read_bytes()
-        for given, words, status in ((traces.CUT, (), 1), (wrong, (), 1), (UNLAWFUL, (), 1), (ODD, (), 0), (b"", (), 3), (ODD, ("--around", "99"), 2)):
-            self.same(given.decode(errors="backslashreplace"), run(given, "draw", *words).status, status if harness.compares else 0)
+        for given, words, status in (
+            (traces.CUT, (), 1),
+            (wrong, (), 1),
+            (UNLAWFUL, (), 1),
+            (ODD, (), 0),
+            (b"", (), 3),
+            (ODD, ("--around", "99"), 2),
+        ):
+            self.same(
+                given.decode(errors="backslashreplace"),
+                run(given, "draw", *words).status,
+                status if harness.compares else 0,
+            )
 
     def test_no_such_call(self):
-        self.same("--around 99", run(ODD, "draw", "--around", "99"), harness.Outcome(2, b"", b"atomfs: there is no call 99\n"))
+        self.same(
+            "--around 99", run(ODD, "draw", "--around", "99"), harness.Outcome(2, b"", b"atomfs: there is no call 99\n")
+        )
 
     def test_a_wrong_reply_is_told_with_the_one_due(self):
         came = run((EXAMPLES / "wrong_reply.journal").read_bytes(), "draw").output.decode()
@@ -206,20 +256,49 @@ class SeatNames(Case):
     """A comment of a journal names a seat's lane, where the name is one that a thread may have; of two comments the last counts."""
 
     def look(self, comments, names):
-        given = "\n".join(["atomfs-journal 1", *comments, "begin 1 0 stat /", "begin 2 12 stat /", "commit 1", "return 1 stat dir 0", ""])
+        given = "\n".join(
+            [
+                "atomfs-journal 1",
+                *comments,
+                "begin 1 0 stat /",
+                "begin 2 12 stat /",
+                "commit 1",
+                "return 1 stat dir 0",
+                "",
+            ]
+        )
         came = run(given.encode(), "draw")
         self.same("status", came.status, 0)
         if harness.compares:
             root = ElementTree.fromstring(came.output)
             self.same("lanes", [text.text for text in root.iter(SVG + "text") if text.get("class") == "t"][-2:], names)
-            self.same("first lines of lanes in tips", [title.text.split("\n")[1].split(",")[0] for title in root.iter(SVG + "title") if title.text.startswith("#")], names)
+            self.same(
+                "lanes and places of calls in tips, and their numbers",
+                [
+                    (title.text.split(" stat ")[0], title.text.split("\n")[1].split(",")[0])
+                    for title in root.iter(SVG + "title")
+                    if " stat /" in title.text
+                ],
+                [(f"{name}#1", f"call {number}") for number, name in enumerate(names, 1)],
+            )
 
     def test_comments(self):
         rows = [
             ("none", [], ["seat 0", "seat 12"]),
             ("one of two", ["# seat 12 writer"], ["seat 0", "writer"]),
             ("both, one twice", ["# seat 0 a", "# seat 12 writer_2", "# seat 0 b"], ["b", "writer_2"]),
-            ("no names", ["# seat 0 A", "# seat 0 <b>", "# seat 0 abcdefghijklmnopq", "# seat 00 a", "# seat 12 a b", "#seat 12 a"], ["seat 0", "seat 12"]),
+            (
+                "no names",
+                [
+                    "# seat 0 A",
+                    "# seat 0 <b>",
+                    "# seat 0 abcdefghijklmnopq",
+                    "# seat 00 a",
+                    "# seat 12 a b",
+                    "#seat 12 a",
+                ],
+                ["seat 0", "seat 12"],
+            ),
             ("another seat", ["# seat 3 a"], ["seat 0", "seat 12"]),
         ]
         self.each(rows, self.look)
@@ -227,29 +306,33 @@ class SeatNames(Case):
 
 class Faults(Case):
     """The call at the first fault of a journal is marked: by the kind, or by the reply that was due. A call that does not begin as its entry says, or not
-    before it, is drawn at that entry; and `--around` takes it."""
+    before it, is drawn at that entry; and `--around` takes it. Its label has its place among the calls of its seat."""
 
-    def look(self, journal, number, told):
+    def look(self, journal, number, place, told):
         for more in ((), ("--around", str(number))):
             came = run(journal, "draw", *more)
             if harness.compares:
                 texts = ElementTree.fromstring(came.output).iter(SVG + "text")
-                marked = [(text.text.split(" ")[0], text.find(SVG + "tspan").text) for text in texts if text.find(SVG + "tspan") is not None]
-                self.same(f"{journal.decode()}{more}", (came.status, marked), (1, [(f"#{number}", told)]))
+                marked = [
+                    (text.text.split(" ")[0], text.find(SVG + "tspan").text)
+                    for text in texts
+                    if text.find(SVG + "tspan") is not None
+                ]
+                self.same(f"{journal.decode()}{more}", (came.status, marked), (1, [(f"#{place}", told)]))
 
     def test_each_kind(self):
         journals = {path.name: journal for path, journal in examples(JOURNALS, "journal")}
         rows = [
-            ("begin_twice", 1, ", BeginTwice"),
-            ("seat_busy", 2, ", SeatBusy"),
-            ("commit_twice", 7, ", CommitTwice"),
-            ("return_before_its_commit", 1, ", ReturnUncommitted"),
-            ("return_twice", 7, ", ReturnTwice"),
-            ("wrong_names", 2, ", due names a"),
+            ("begin_twice", 1, 1, ", BeginTwice"),
+            ("seat_busy", 2, 2, ", SeatBusy"),
+            ("commit_twice", 7, 1, ", CommitTwice"),
+            ("return_before_its_commit", 1, 1, ", ReturnUncommitted"),
+            ("return_twice", 7, 1, ", ReturnTwice"),
+            ("wrong_names", 2, 2, ", due names a"),
         ]
         begun_behind = b"atomfs-journal 1\nbegin 1 0 stat /\ncommit 7\nbegin 7 1 stat /\n"
         busy = b"atomfs-journal 1\nbegin 7 0 stat /\nbegin 8 0 mkdir /a\ncommit 7\n"
-        others = ("begun behind", begun_behind, 7, ", CommitUnbegun"), ("on a busy seat", busy, 8, ", SeatBusy")
+        others = ("begun behind", begun_behind, 7, 1, ", CommitUnbegun"), ("on a busy seat", busy, 8, 2, ", SeatBusy")
         self.each([*((name, journals[name], *more) for name, *more in rows), *others], self.look)
 
     def test_no_such_call(self):
@@ -257,8 +340,14 @@ class Faults(Case):
         for entry in (b"commit 7", b"return 7 ok"):
             given = b"atomfs-journal 1\nbegin 1 0 stat /\n%s\n" % entry
             came = run(given, "draw")
-            self.same(given.decode(), (came.status, b"<tspan" in came.output), (1, False) if harness.compares else (0, False))
-            self.same(given.decode(), run(given, "draw", "--around", "7"), harness.Outcome(2, b"", b"atomfs: there is no call 7\n"))
+            self.same(
+                given.decode(), (came.status, b"<tspan" in came.output), (1, False) if harness.compares else (0, False)
+            )
+            self.same(
+                given.decode(),
+                run(given, "draw", "--around", "7"),
+                harness.Outcome(2, b"", b"atomfs: there is no call 7\n"),
+            )
 
 
 class Checkpoints(Case):
@@ -272,29 +361,74 @@ class Checkpoints(Case):
 
     def labels(self, root):
         """The labels of the calls, up to their replies."""
-        return [text.text for group in root.iter(SVG + "g") if group.get("class") == "b" for text in group.iter(SVG + "text")]
+        return [
+            text.text
+            for group in root.iter(SVG + "g")
+            if group.get("class") == "b"
+            for text in group.iter(SVG + "text")
+        ]
 
     def test_the_given_schedule(self):
         """All pieces are drawn; call numbers begin again, and so do those of commits."""
         root = self.drawn(IN_PIECES)
         if harness.compares:
-            orders = [group.find(SVG + "title").text.split("\n")[2].split(",")[0] for group in root.iter(SVG + "g") if group.get("class") == "call"]
+            orders = [
+                group.find(SVG + "title").text.split("\n")[2].split(",")[0]
+                for group in root.iter(SVG + "g")
+                if group.get("class") == "call"
+            ]
             self.same("calls, dots and checkpoints", counts(root), (8, 6, 2, 2))
-            self.same("the numbers of calls", sorted(label.split(" ")[0] for label in self.labels(root)), ["#1", "#1", "#1", "#2", "#2", "#3", "#3", "#4"])
-            self.same("the numbers of commits", sorted(orders), [f"commit number {number}" for number in (1, 1, 1, 2, 2, 3, 3, 4)])
+            tips = [
+                group.find(SVG + "title").text.split("\n")
+                for group in root.iter(SVG + "g")
+                if group.get("class") == "call"
+            ]
+            self.same(
+                "the numbers of calls",
+                sorted(tip[1].split(",")[0] for tip in tips),
+                [f"call {number}" for number in (1, 1, 1, 2, 2, 3, 3, 4)],
+            )
+            places = [
+                f"{thread}#{place}"
+                for thread, calls in traces.calls_of(IN_PIECES).items()
+                for place in range(1, len(calls) + 1)
+            ]
+            self.same("the calls of each thread", sorted(tip[0].split(" ")[0] for tip in tips), places)
+            self.same(
+                "the places in labels",
+                sorted(label.split(" ")[0] for label in self.labels(root)),
+                sorted(f"#{place.split('#')[1]}" for place in places),
+            )
+            self.same(
+                "the numbers of commits",
+                sorted(orders),
+                [f"commit number {number}" for number in (1, 1, 1, 2, 2, 3, 3, 4)],
+            )
             told = "8 calls on 3 threads, 2 commits given by another call, 2 checkpoints"
-            self.same("what it tells", [root.find(SVG + "title").text, root.find(SVG + "desc").text.split(".")[0]], [f"AtomFS: {told}", told])
+            self.same(
+                "what it tells",
+                [root.find(SVG + "title").text, root.find(SVG + "desc").text.split(".")[0]],
+                [f"AtomFS: {told}", told],
+            )
 
     def test_what_a_line_tells(self):
         root = self.drawn(traces.PIECES)
         if harness.compares:
             told = ["".join(group.itertext()) for group in root.iter(SVG + "g") if group.get("class") == "checkpoint"]
-            self.same("its tooltip and its word", told, ["the journal begins again here, and the next call is #1checkpoint"] * 2)
+            self.same(
+                "its tooltip and its word",
+                told,
+                ["the journal begins again here, and the next call is call 1checkpoint"] * 2,
+            )
 
     def test_calls_under_way(self):
         for given, call in traces.MET:
             for more in ((), ("--around", "1")):
-                self.same(given.decode(), run(given, "draw", *more), harness.Outcome(1, b"", b"atomfs: call %d under way\n" % call))
+                self.same(
+                    given.decode(),
+                    run(given, "draw", *more),
+                    harness.Outcome(1, b"", b"atomfs: call %d under way\n" % call),
+                )
 
     def test_around_a_call_of_each_piece(self):
         """A number is that of a call of each piece which has so many; the checkpoints between what is drawn are drawn."""
@@ -302,23 +436,41 @@ class Checkpoints(Case):
         for given, number, calls, checkpoints in rows:
             root = self.drawn(given, "--around", number)
             if harness.compares:
-                self.same(f"{given.decode()}--around {number}", (counts(root)[0], counts(root)[3]), (calls, checkpoints))
-        self.same("--around 5", run(IN_PIECES, "draw", "--around", "5"), harness.Outcome(2, b"", b"atomfs: there is no call 5\n"))
+                self.same(
+                    f"{given.decode()}--around {number}", (counts(root)[0], counts(root)[3]), (calls, checkpoints)
+                )
+        self.same(
+            "--around 5",
+            run(IN_PIECES, "draw", "--around", "5"),
+            harness.Outcome(2, b"", b"atomfs: there is no call 5\n"),
+        )
 
     def test_pieces_without_the_number(self):
         """Each checkpoint between two calls that are drawn has its line, also where the piece between has no such call."""
         given = b"atomfs 1\nthread t\nmkdir /a\nmkdir /b\nmkdir /c\nmkdir /d\nmkdir /e\nschedule\nt*10 !checkpoint t*5 !checkpoint t*10\n"
         root = self.drawn(given, "--around", "2")
         if harness.compares:
-            self.same(given.decode(), (counts(root), self.labels(root)), ((2, 2, 0, 2), ["#2 mkdir /b \u2192 ok", "#2 mkdir /e \u2192 ok"]))
+            self.same(
+                given.decode(),
+                (counts(root), self.labels(root)),
+                ((2, 2, 0, 2), ["#2 mkdir /b \u2192 ok", "#5 mkdir /e \u2192 ok"]),
+            )
 
     def test_rows(self):
         """A checkpoint before a call that stands in the next row stands there too: in each row but for the last a call is behind the last line."""
         root = self.drawn(MANY_PIECES)
         if not harness.compares:
             return
-        lines = [re.match(r"M (\d+) (\d+)V (\d+)", group.find(SVG + "path").get("d")) for group in root.iter(SVG + "g") if group.get("class") == "checkpoint"]
-        bars = [re.match(r"M (\d+) (\d+)", group.find(SVG + "path").get("d")) for group in root.iter(SVG + "g") if group.get("class") == "call"]
+        lines = [
+            re.match(r"M (\d+) (\d+)V (\d+)", group.find(SVG + "path").get("d"))
+            for group in root.iter(SVG + "g")
+            if group.get("class") == "checkpoint"
+        ]
+        bars = [
+            re.match(r"M (\d+) (\d+)", group.find(SVG + "path").get("d"))
+            for group in root.iter(SVG + "g")
+            if group.get("class") == "call"
+        ]
         rows = sorted({(int(line[2]), int(line[3])) for line in lines})
         self.same("its rows", len(rows), 2)
         for top, bottom in rows:
@@ -326,7 +478,11 @@ class Checkpoints(Case):
             behind = [bar[0] for bar in bars if top < int(bar[2]) < bottom and int(bar[1]) > last]
             self.same(f"what is behind the last line from {top} to {bottom}", len(behind), int(bottom < rows[-1][1]))
         first = min(int(line[1]) for line in lines if int(line[2]) == rows[1][0])
-        self.same("what is before the first line of the second row", [bar[0] for bar in bars if int(bar[2]) > rows[1][0] and int(bar[1]) < first], [])
+        self.same(
+            "what is before the first line of the second row",
+            [bar[0] for bar in bars if int(bar[2]) > rows[1][0] and int(bar[1]) < first],
+            [],
+        )
 
     def test_other_schedules(self):
         for schedule in (("--robin",), ("--seed", "7")):
@@ -344,7 +500,11 @@ class Checkpoints(Case):
         for given, status, due in ((STARTED, 0, []), (WRONGLY, 1, ["bytes"])):
             came = run(given, "draw")
             if harness.compares:
-                self.same(given.decode(), (came.status, came.output.count(b'class="call"'), re.findall(r", due (\w+)", came.output.decode())), (status, 3, due))
+                self.same(
+                    given.decode(),
+                    (came.status, came.output.count(b'class="call"'), re.findall(r", due (\w+)", came.output.decode())),
+                    (status, 3, due),
+                )
 
 
 class ManySeats(Case):
@@ -362,7 +522,11 @@ class ManySeats(Case):
         begins = [f"begin {call} {call} stat /" for call in range(1, SEATS + 1)]
         ends = [f"commit {call}\nreturn {call} stat dir 0" for call in range(1, SEATS + 1)]
         on_one = [f"begin {call} 0 stat /\n{ends[call - 1]}" for call in range(SEATS // 2 + 1, SEATS + 1)]
-        shapes = ("begun", begins), ("returned", [f"{begin}\n{end}" for begin, end in zip(begins, ends)]), ("on one", [*begins[: SEATS // 2], *on_one])
+        shapes = (
+            ("begun", begins),
+            ("returned", [f"{begin}\n{end}" for begin, end in zip(begins, ends)]),
+            ("on one", [*begins[: SEATS // 2], *on_one]),
+        )
         self.each(shapes, self.drawn)
 
 
@@ -374,7 +538,15 @@ class Rendered(Case):
         with tempfile.TemporaryDirectory(prefix="atomfs-") as folder:
             page = pathlib.Path(folder) / "page.html"
             page.write_text(f"<!DOCTYPE html><meta charset=utf-8><body style='margin:0'>{picture}{LOOK}")
-            chromium = (CHROMIUM, "--headless", "--no-sandbox", "--disable-gpu", f"--user-data-dir={folder}/profile", "--dump-dom", page.as_uri())
+            chromium = (
+                CHROMIUM,
+                "--headless",
+                "--no-sandbox",
+                "--disable-gpu",
+                f"--user-data-dir={folder}/profile",
+                "--dump-dom",
+                page.as_uri(),
+            )
             shown = subprocess.run(chromium, capture_output=True, text=True, timeout=harness.MOST_SECONDS).stdout
         found = re.search(r"<pre>(.*)</pre>", shown, re.S)
         told = json.loads(found[1].replace("&lt;", "<").replace("&gt;", ">").replace("&amp;", "&")) if found else None

@@ -4,9 +4,11 @@ repeated. What is written to standard output is the same with a terminal and wit
 import concurrent.futures
 import contextlib
 import os
+import pathlib
 import pty
 import re
 import subprocess
+import tempfile
 import unittest
 
 from harness import DATA, MOST_SECONDS, Case, program, run, takes_a_process
@@ -29,7 +31,9 @@ def exchanges(rounds, histories=1):
     are looked at."""
     lines = ["atomfs-journal 2", "start", "dir /", "dir /a", "dir /b", "entries"]
     for first in range(1, 10 * rounds, 10):
-        lines += [f"begin {first + seat} {seat} exchange /a /b" for seat in range(10)] + [f"return {first + seat} ok" for seat in range(10)]
+        lines += [f"begin {first + seat} {seat} exchange /a /b" for seat in range(10)] + [
+            f"return {first + seat} ok" for seat in range(10)
+        ]
     return histories * "".join(f"{line}\n" for line in lines).encode()
 
 
@@ -71,6 +75,33 @@ def on_terminal(given, *words):
     return process.returncode, output, told.result()
 
 
+def on_one_terminal(given, *words):
+    """What stands at last, line by line, on the terminal that standard output and standard error both were, and all that was told there."""
+    ours, theirs = pty.openpty()
+    pipes = {"stdin": subprocess.PIPE, "stdout": theirs, "stderr": theirs}
+    with concurrent.futures.ThreadPoolExecutor(1) as pool, subprocess.Popen([program(), *words], **pipes) as process:
+        os.close(theirs)
+        told = pool.submit(told_on, ours)
+        process.communicate(given, timeout=MOST_SECONDS)
+    os.close(ours)
+    return process.returncode, screen_of(told.result()), told.result()
+
+
+def screen_of(told):
+    """The lines of a terminal: what is written behind a carriage return stands in the place of what stood there."""
+    lines, at = [bytearray()], 0
+    for byte in told:
+        if byte == ord("\n"):
+            lines.append(bytearray())
+            at = 0
+        elif byte == ord("\r"):
+            at = 0
+        else:
+            lines[-1][at : at + 1] = bytes([byte])
+            at += 1
+    return [bytes(line).rstrip(b" ") for line in lines]
+
+
 def shown(told):
     """The texts of a line that is written anew, each once where it is repeated, with every number as N and without the spaces that fill it."""
     texts = [re.sub(rb"\d+", b"N", text).rstrip() for text in told.split(b"\r")]
@@ -99,9 +130,67 @@ class Progress(Case):
                 self.assertTrue(name == "threads" or done == sorted(done), done)
                 self.assertLessEqual(max(len(text) for text in told.split(b"\r")), 72)
 
+    def test_one_terminal(self):
+        """Where output goes to the same terminal, the line is away before the first byte, and never comes back."""
+        for name, given, words in ROWS:
+            with self.subTest(name):
+                status, lines, told = on_one_terminal(given, *words)
+                silent = run(given, *words)
+                self.assertGreater(len(numbers(told)), 1)
+                self.assertEqual((status, lines), (silent.status, silent.output.split(b"\n")))
+
+    def test_a_fault_on_one_terminal(self):
+        """The line is away before the message of a fault that comes late."""
+        words = ["t0*4000", *(f"t{number}*4999" for number in range(1, 200)), "!checkpoint"]
+        given = renames(200, 100).replace(b"schedule\nfinish\n", f"schedule\n{' '.join(words)}\n".encode())
+        status, lines, told = on_one_terminal(given, "run")
+        silent = run(given, "run")
+        self.assertEqual((status, lines), (silent.status, silent.message.split(b"\n")))
+        self.assertEqual((silent.status, silent.message[:13]), (1, b"atomfs: call "))
+        if not numbers(told):
+            self.skipTest("this machine plays a million events before the line is shown")
+
+    def test_standard_input(self):
+        """Where standard input is a terminal and no file is named, one line says that it is read."""
+        row = b"atomfs: reading standard input; end it with Ctrl-D\n"
+        for words, told in ((("run",), row), (("run", "-"), b""), (("check",), row), (("explain", "Dot"), b"")):
+            with self.subTest(" ".join(words)):
+                ours, theirs = pty.openpty()
+                pipes = {"stdin": theirs, "stdout": subprocess.PIPE, "stderr": subprocess.PIPE}
+                with subprocess.Popen([program(), *words], **pipes) as process:
+                    os.close(theirs)
+                    given = SHORT if words[0] == "run" else b"atomfs-journal 1\n"
+                    # The end of standard input is this byte at the begin of a line.
+                    os.write(ours, given + b"\x04")
+                    output, message = process.communicate(timeout=MOST_SECONDS)
+                os.close(ours)
+                wanted = run(given, *words)
+                self.assertEqual((process.returncode, output, message), (wanted.status, wanted.output, told))
+
+    def test_a_picture_on_a_terminal(self):
+        """It is refused, and read is nothing; a file takes it."""
+        with tempfile.TemporaryDirectory(prefix="atomfs-") as folder:
+            script = pathlib.Path(folder, "script")
+            script.write_bytes(SHORT)
+            for words in (("draw",), ("draw", str(script)), ("draw", "--robin", "/nowhere")):
+                with self.subTest(" ".join(words)):
+                    refusal = (
+                        b"atomfs: a terminal shows no picture: write it to a file by `> run.svg` behind the command"
+                    )
+                    self.assertEqual(on_one_terminal(SHORT, *words)[:2], (2, [refusal, b""]))
+            self.assertEqual(run(b"", "draw", str(script)), run(SHORT, "draw"))
+        self.assertEqual(on_one_terminal(SHORT, "trace")[1], run(SHORT, "trace").output.split(b"\n"))
+
     def test_short(self):
         """What ends at once tells nothing, nor does a command that is none of these."""
-        for words in (("run",), ("seeds", "--seed", "1", "--runs", "3"), ("threads",), ("trace",), ("draw",), ("schedule", "--robin")):
+        for words in (
+            ("run",),
+            ("seeds", "--seed", "1", "--runs", "3"),
+            ("threads",),
+            ("trace",),
+            ("draw",),
+            ("schedule", "--robin"),
+        ):
             with self.subTest(words[0]):
                 self.assertEqual(on_terminal(SHORT, *words)[2], b"")
         self.assertEqual(on_terminal(exchanges(1), "linearize")[2], b"")

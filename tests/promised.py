@@ -32,7 +32,7 @@ pub mod door;
 
 pub use inner::{House, Room};
 """
-INNER = '''\
+INNER = """\
 //! No part of what is printed.
 
 /// A room.
@@ -82,7 +82,7 @@ pub trait House {
 
 /// Only for its neighbours.
 pub fn beside() {}
-'''
+"""
 DOOR = """\
 /// Opens it. And more.
 pub const fn open(key: u64) -> Room
@@ -147,18 +147,30 @@ class Promised(Case):
         self.each(((crate, crate) for crate in promises.product()), self.look_at_crate)
 
     def look_at_crate(self, crate):
-        printed = [line.split("  ")[1].split(",")[0] for line in promises.printed(ROOT / "crates" / crate, False) if re.search(r"  src/", line)]
+        printed = [
+            line.split("  ")[1].split(",")[0]
+            for line in promises.printed(ROOT / "crates" / crate, False)
+            if re.search(r"  src/", line)
+        ]
         due = [place for place, line in sources(crate) if re.match(r'\s*pub (const |unsafe |extern "C" )*fn ', line)]
         self.same("the functions that are not printed", [place for place in due if place not in printed], [])
-        self.same("those without a comment", [function.name for function in promises.public(ROOT / "crates" / crate) if not function.sentence], [])
+        self.same(
+            "those without a comment",
+            [function.name for function in promises.public(ROOT / "crates" / crate) if not function.sentence],
+            [],
+        )
 
     def test_each_clause(self):
         """Each clause of a source is one of a function, but for those of closures, which stand deeper."""
         self.each(((crate, crate) for crate in promises.product()), self.look_at_clauses)
 
     def look_at_clauses(self, crate):
-        found = sum(len(function.requires) + len(function.ensures) for function in promises.functions(ROOT / "crates" / crate))
-        self.same(crate, found, sum(1 for _, line in sources(crate) if re.match(r" {4}(?: {4})?(requires|ensures)\b", line)))
+        found = sum(
+            len(function.requires) + len(function.ensures) for function in promises.functions(ROOT / "crates" / crate)
+        )
+        self.same(
+            crate, found, sum(1 for _, line in sources(crate) if re.match(r" {4}(?: {4})?(requires|ensures)\b", line))
+        )
 
     def test_command(self):
         """Without a crate it prints all of the product, and of a name that is none it says so."""
@@ -167,7 +179,11 @@ class Promised(Case):
         one = subprocess.run([PROMISES, "fs_graph", "--full"], capture_output=True, text=True, check=True).stdout
         self.same("fs_graph", one, "\n".join(promises.printed(ROOT / "crates" / "fs_graph", True)) + "\n")
         none = subprocess.run([PROMISES, "fs_none"], capture_output=True, text=True)
-        self.same("fs_none", (none.returncode, none.stdout, none.stderr.splitlines()[-1]), (2, "", "tests/promises: error: there is no crate fs_none; crates.txt lists them"))
+        self.same(
+            "fs_none",
+            (none.returncode, none.stdout, none.stderr.splitlines()[-1]),
+            (2, "", "tests/promises: error: there is no crate fs_none; crates.txt lists them"),
+        )
 
 
 class Types(Case):
@@ -184,7 +200,9 @@ class Types(Case):
 
     def waiting(self, crate, owner):
         """The calls of a type that take the runtime."""
-        listed = [function for function in promises.public(ROOT / "crates" / crate) if function.name.startswith(f"{owner}::")]
+        listed = [
+            function for function in promises.public(ROOT / "crates" / crate) if function.name.startswith(f"{owner}::")
+        ]
         return [function.name for function in listed if self.RUNTIME.search(self.head(crate, function))]
 
     def test_observers_wait_for_nobody(self):

@@ -16,6 +16,7 @@ import unittest
 
 import harness
 import packages
+from documents import README, blocks
 from harness import ROOT, Case, run
 
 RECORD, STORED = ROOT / "examples" / "record", harness.DATA / "recorders"
@@ -27,7 +28,13 @@ ALONE = 20
 
 def ended(words, given=b"", **variables):
     """What a command ends with, writes and tells."""
-    done = subprocess.run(list(map(str, words)), input=given, capture_output=True, env=os.environ | variables, timeout=packages.MOST_SECONDS)
+    done = subprocess.run(
+        list(map(str, words)),
+        input=given,
+        capture_output=True,
+        env=os.environ | variables,
+        timeout=packages.MOST_SECONDS,
+    )
     return done.returncode, done.stdout.decode(), done.stderr.decode()
 
 
@@ -57,76 +64,151 @@ HEAD = '7  mkdir("/tmp/tree/a", 0777) = 0'
 MADE = "begin 1 0 mkdir /a\nreturn 1 ok\n"
 MADE_OF = {
     "nothing": ((), ""),
-    "what is elsewhere": (('7  mkdir("/tmp/treetop", 0777) = 0', '7  unlink("/etc/none") = -1 ENOENT (No such file or directory)'), ""),
+    "what is elsewhere": (
+        ('7  mkdir("/tmp/treetop", 0777) = 0', '7  unlink("/etc/none") = -1 ENOENT (No such file or directory)'),
+        "",
+    ),
     "doubled slashes": (('7  mkdir("//tmp/./tree//a", 0777) = 0',), MADE),
     "an unfinished line": (
-        ('7  mkdir("/tmp/tree/a", 0777 <unfinished ...>', '8  rmdir("/tmp/tree/a") = -1 ENOENT (No such file or directory)', "7  <... mkdir resumed>) = 0"),
+        (
+            '7  mkdir("/tmp/tree/a", 0777 <unfinished ...>',
+            '8  rmdir("/tmp/tree/a") = -1 ENOENT (No such file or directory)',
+            "7  <... mkdir resumed>) = 0",
+        ),
         "begin 1 0 mkdir /a\nbegin 2 1 rmdir /a\nreturn 2 failed ENOENT\nreturn 1 ok\n",
     ),
     "one that is never resumed": (
-        ('7  mkdir("/tmp/tree/a", 0777 <unfinished ...>', '8  rmdir("/tmp/tree/a") = 0', "7  +++ killed by SIGKILL +++"),
+        (
+            '7  mkdir("/tmp/tree/a", 0777 <unfinished ...>',
+            '8  rmdir("/tmp/tree/a") = 0',
+            "7  +++ killed by SIGKILL +++",
+        ),
         "begin 1 0 mkdir /a\nbegin 2 1 rmdir /a\nreturn 2 ok\n",
     ),
     "one behind which its process goes on": (
-        ('7  mkdir("/tmp/tree/a", 0777 <unfinished ...>', '7  rmdir("/tmp/tree/a") = 0'), "begin 1 0 mkdir /a\nbegin 2 1 rmdir /a\nreturn 2 ok\n",
+        ('7  mkdir("/tmp/tree/a", 0777 <unfinished ...>', '7  rmdir("/tmp/tree/a") = 0'),
+        "begin 1 0 mkdir /a\nbegin 2 1 rmdir /a\nreturn 2 ok\n",
     ),
     "one without a result": (
         ('7  mkdir("/tmp/tree/a", 0777) = ? ERESTARTSYS (To be restarted)', '7  mkdir("/tmp/tree/a", 0777) = 0'),
         "begin 1 0 mkdir /a\nbegin 2 1 mkdir /a\nreturn 2 ok\n",
     ),
-    "one of which nothing is known": (('7  mkdir("/tmp/tree/a", 0777) = -1 EIO (Input/output error)',), "begin 1 0 mkdir /a\n"),
-    "one that ends as its process does": (
-        ('7  mkdir("/tmp/tree/a", 0777 <unfinished ...>', "7  <... mkdir resumed> <unfinished ...>) = ?"), "begin 1 0 mkdir /a\n",
+    "one of which nothing is known": (
+        ('7  mkdir("/tmp/tree/a", 0777) = -1 EIO (Input/output error)',),
+        "begin 1 0 mkdir /a\n",
     ),
-    "an error that no tree has": (('7  mkdir("/tmp/tree/a", 0777) = -1 EACCES (Permission denied)',), "begin 1 0 mkdir /a\nreturn 1 failed ?\n"),
-    "a directory that is unlinked": (('7  unlink("/tmp/tree/a") = -1 EISDIR (Is a directory)',), "begin 1 0 unlink /a\nreturn 1 failed EPERM\n"),
+    "one that ends as its process does": (
+        ('7  mkdir("/tmp/tree/a", 0777 <unfinished ...>', "7  <... mkdir resumed> <unfinished ...>) = ?"),
+        "begin 1 0 mkdir /a\n",
+    ),
+    "an error that no tree has": (
+        ('7  mkdir("/tmp/tree/a", 0777) = -1 EACCES (Permission denied)',),
+        "begin 1 0 mkdir /a\nreturn 1 failed ?\n",
+    ),
+    "a directory that is unlinked": (
+        ('7  unlink("/tmp/tree/a") = -1 EISDIR (Is a directory)',),
+        "begin 1 0 unlink /a\nreturn 1 failed EPERM\n",
+    ),
     "a file that is opened anew": (
-        ('7  openat(AT_FDCWD</>, "/tmp/tree/a", O_WRONLY|O_CREAT|O_EXCL|O_CLOEXEC, 0666) = 3</tmp/tree/a>', "7  close(3</tmp/tree/a>) = 0"),
+        (
+            '7  openat(AT_FDCWD</>, "/tmp/tree/a", O_WRONLY|O_CREAT|O_EXCL|O_CLOEXEC, 0666) = 3</tmp/tree/a>',
+            "7  close(3</tmp/tree/a>) = 0",
+        ),
         "begin 1 0 mknod /a\nreturn 1 ok\n",
     ),
-    "a file that is opened": (('7  open("/tmp/tree/a", O_RDWR) = 3</tmp/tree/a>', '7  fstat(3</tmp/tree/a>, {st_mode=S_IFREG|0644, ...}) = 0'), ""),
+    "a file that is opened": (
+        (
+            '7  open("/tmp/tree/a", O_RDWR) = 3</tmp/tree/a>',
+            "7  fstat(3</tmp/tree/a>, {st_mode=S_IFREG|0644, ...}) = 0",
+        ),
+        "",
+    ),
     "a relative path where nothing is changed": (('7  stat("a", 0x7ffd) = -1 ENOENT (No such file or directory)',), ""),
     "a path from the working directory": (('7  mkdirat(AT_FDCWD</tmp>, "tree/a", 0777) = 0',), MADE),
     "a name with every kind of escape": (
-        (r'7  mkdir("/tmp/tree/\"\\\n\t\1\x07\3037%?", 0777) = 0',), 'begin 1 0 mkdir /"\\%0A%09%01%07%C37%25?\nreturn 1 ok\n',
+        (r'7  mkdir("/tmp/tree/\"\\\n\t\1\x07\3037%?", 0777) = 0',),
+        'begin 1 0 mkdir /"\\%0A%09%01%07%C37%25?\nreturn 1 ok\n',
     ),
-    "a word that a path only has in it": (('7  write(1</dev/pts/0>, "/tmp/tree/a\\n", 12) = 12', '7  execve("/tmp/tree/a", ["/tmp/tree/a"], 0x7ffd) = 0'), ""),
-    "the directory, which is there": (('7  mkdir("/tmp/tree", 0777) = -1 EEXIST (File exists)',), "begin 1 0 mkdir /\nreturn 1 failed EEXIST\n"),
+    "a word that a path only has in it": (
+        ('7  write(1</dev/pts/0>, "/tmp/tree/a\\n", 12) = 12', '7  execve("/tmp/tree/a", ["/tmp/tree/a"], 0x7ffd) = 0'),
+        "",
+    ),
+    "the directory, which is there": (
+        ('7  mkdir("/tmp/tree", 0777) = -1 EEXIST (File exists)',),
+        "begin 1 0 mkdir /\nreturn 1 failed EEXIST\n",
+    ),
     "moves": (
-        ('7  rename("/tmp/tree/a", "/tmp/tree/b") = 0', '7  renameat(AT_FDCWD</>, "/tmp/tree/b", AT_FDCWD</>, "/tmp/tree/a") = 0'),
+        (
+            '7  rename("/tmp/tree/a", "/tmp/tree/b") = 0',
+            '7  renameat(AT_FDCWD</>, "/tmp/tree/b", AT_FDCWD</>, "/tmp/tree/a") = 0',
+        ),
         "begin 1 0 rename /a /b\nreturn 1 ok\nbegin 2 0 rename /b /a\nreturn 2 ok\n",
     ),
     "a move of two": (
-        ('7  renameat2(AT_FDCWD</>, "/tmp/tree/a", AT_FDCWD</>, "/tmp/tree/b", RENAME_EXCHANGE) = 0',), "begin 1 0 exchange /a /b\nreturn 1 ok\n",
+        ('7  renameat2(AT_FDCWD</>, "/tmp/tree/a", AT_FDCWD</>, "/tmp/tree/b", RENAME_EXCHANGE) = 0',),
+        "begin 1 0 exchange /a /b\nreturn 1 ok\n",
     ),
 }
 REFUSED = {
-    "no line of strace": ("mkdir(\"/tmp/tree/a\", 0777) = 0", "this is no line of `strace -f -y -o`"),
-    "a line that is resumed and was not begun": ("7  <... mkdir resumed>) = 0", "mkdir is resumed, and nothing was begun"),
+    "no line of strace": ('mkdir("/tmp/tree/a", 0777) = 0', "this is no line of `strace -f -y -o`"),
+    "a line that is resumed and was not begun": (
+        "7  <... mkdir resumed>) = 0",
+        "mkdir is resumed, and nothing was begun",
+    ),
     "a read": ('7  read(3</tmp/tree/a>, "x", 1) = 1', "read is a call on a descriptor"),
     "a write": ('7  write(3</tmp/tree/a>, "x", 1 <unfinished ...>', "write is a call on a descriptor"),
-    "a directory that is read": ("7  getdents64(3</tmp/tree>, 0x5581 /* 2 entries */, 32768) = 48", "getdents64 is a call on a descriptor"),
-    "memory of a file": ("7  mmap(NULL, 5, PROT_WRITE, MAP_SHARED, 3</tmp/tree/a>, 0) = 0x7f", "mmap is a call on a descriptor"),
-    "an open that may make a file": ('7  open("/tmp/tree/a", O_WRONLY|O_CREAT|O_TRUNC, 0666) = 3', "open makes or empties a file that may be there: "),
+    "a directory that is read": (
+        "7  getdents64(3</tmp/tree>, 0x5581 /* 2 entries */, 32768) = 48",
+        "getdents64 is a call on a descriptor",
+    ),
+    "memory of a file": (
+        "7  mmap(NULL, 5, PROT_WRITE, MAP_SHARED, 3</tmp/tree/a>, 0) = 0x7f",
+        "mmap is a call on a descriptor",
+    ),
+    "an open that may make a file": (
+        '7  open("/tmp/tree/a", O_WRONLY|O_CREAT|O_TRUNC, 0666) = 3',
+        "open makes or empties a file that may be there: ",
+    ),
     "creat": ('7  creat("/tmp/tree/a", 0666) = 3', "creat makes or empties a file that may be there: "),
     "a pipe": ('7  mknod("/tmp/tree/a", S_IFIFO|0666) = 0', "mknod makes something else than a file"),
     "a link": ('7  symlink("b", "/tmp/tree/a") = 0', "symlink is no call of a tree"),
-    "a socket": ('7  bind(3<UNIX:[1]>, {sa_family=AF_UNIX, sun_path="/tmp/tree/a"}, 110) = 0', "bind is no call of a tree"),
+    "a socket": (
+        '7  bind(3<UNIX:[1]>, {sa_family=AF_UNIX, sun_path="/tmp/tree/a"}, 110) = 0',
+        "bind is no call of a tree",
+    ),
     "io_uring": ("7  io_uring_enter(3, 1, 0, 0, NULL, 8) = 1", "strace does not tell which calls are made by io_uring"),
-    "a relative path": ('7  mkdir("a", 0777) = 0', "a is a relative path: the program has to name what is below the directory by absolute ones"),
+    "a relative path": (
+        '7  mkdir("a", 0777) = 0',
+        "a is a relative path: the program has to name what is below the directory by absolute ones",
+    ),
     "no -y": ('7  mkdirat(AT_FDCWD, "a", 0777) = 0', "a is a relative path: "),
     "a path from a descriptor": ('7  unlinkat(4</tmp/tree>, "a", 0) = 0', "a is a path from a directory that may move"),
-    "a path from a working directory below": ('7  unlinkat(AT_FDCWD</tmp/tree/b>, "a", 0) = 0', "a is a path from a directory that may move"),
-    "a path through two dots": ('7  mkdir("/tmp/tree/a/../b", 0777) = 0', "/tmp/tree/a/../b has a name `..`, or ends with a slash"),
+    "a path from a working directory below": (
+        '7  unlinkat(AT_FDCWD</tmp/tree/b>, "a", 0) = 0',
+        "a is a path from a directory that may move",
+    ),
+    "a path through two dots": (
+        '7  mkdir("/tmp/tree/a/../b", 0777) = 0',
+        "/tmp/tree/a/../b has a name `..`, or ends with a slash",
+    ),
     "a slash at the end": ('7  mkdir("/tmp/tree/a/", 0777) = 0', "/tmp/tree/a/ has a name `..`, or ends with a slash"),
     "a path that is cut": ('7  mkdir("/tmp/tree/a"..., 0777) = 0', '"/tmp/tree/a"... is no whole path'),
     "no path": ("7  mkdir( <unfinished ...>", " is no whole path"),
-    "a move into the directory": ('7  rename("/tmp/a", "/tmp/tree/a") = 0', "rename moves something into the directory, or out of it"),
-    "another move": ('7  renameat2(AT_FDCWD</>, "/tmp/tree/a", AT_FDCWD</>, "/tmp/tree/b", RENAME_NOREPLACE) = 0', "rename with RENAME_NOREPLACE is no call of a tree"),
+    "a move into the directory": (
+        '7  rename("/tmp/a", "/tmp/tree/a") = 0',
+        "rename moves something into the directory, or out of it",
+    ),
+    "another move": (
+        '7  renameat2(AT_FDCWD</>, "/tmp/tree/a", AT_FDCWD</>, "/tmp/tree/b", RENAME_NOREPLACE) = 0',
+        "rename with RENAME_NOREPLACE is no call of a tree",
+    ),
     "the directory itself": ('7  rmdir("/tmp/tree") = 0', "rmdir changes the directory itself"),
     "a directory that was not there": ('7  mkdir("/tmp/tree", 0777) = 0', "the directory was not there before"),
     "no result": ('7  mkdir("/tmp/tree/a", 0777) is done', "is done is no result"),
-    "another kind of node": ('7  stat("/tmp/tree/a", {st_mode=S_IFSOCK|0755, st_size=0, ...}) = 0', "stat tells neither a directory nor a file with its size"),
+    "another kind of node": (
+        '7  stat("/tmp/tree/a", {st_mode=S_IFSOCK|0755, st_size=0, ...}) = 0',
+        "stat tells neither a directory nor a file with its size",
+    ),
 }
 
 
@@ -157,8 +239,11 @@ class Traces(Case):
         self.same("a read", of_strace(f"{HEAD}\n{REFUSED['a read'][0]}\n".encode()), (3, "", told))
         for directory in ("tree", "/", "/tmp/../tree"):
             status, written, told = of_strace(b"", directory)
-            self.same(directory, (status, written, told.splitlines()[-1].partition("error: ")[2]), (2, "", "DIR is an absolute path without `..`, and not the root"))
-
+            self.same(
+                directory,
+                (status, written, told.splitlines()[-1].partition("error: ")[2]),
+                (2, "", "DIR is an absolute path without `..`, and not the root"),
+            )
 
 
 class Recorder(Case):
@@ -207,9 +292,17 @@ class Traced(Recorder):
             self.skipTest("strace may follow no program here")
         tree, trace = self.folder / "tree", self.folder / "trace"
         tree.mkdir()
-        self.same("the program", ended(("strace", "-f", "-y", "-o", trace, sys.executable, "-I", "-S", "-c", PROGRAM, tree))[0], 0)
+        self.same(
+            "the program",
+            ended(("strace", "-f", "-y", "-o", trace, sys.executable, "-I", "-S", "-c", PROGRAM, tree))[0],
+            0,
+        )
         status, history, told = of_strace(trace.read_bytes(), tree)
-        self.same(trace.read_text(), (status, told, len(re.findall("^begin .* (?:mkdir|stat|rmdir) /a$", history, re.M))), (0, "", 30))
+        self.same(
+            trace.read_text(),
+            (status, told, len(re.findall("^begin .* (?:mkdir|stat|rmdir) /a$", history, re.M))),
+            (0, "", 30),
+        )
         self.same(history, run(history.encode(), "linearize").status, 0)
 
 
@@ -241,7 +334,9 @@ class Kernel(Recorder):
     def look(self, lawful, verdict, status, wanted, words):
         came, history, told = self.recorded(self.tree, 20, 7, program=self.standing_in(lawful, verdict, status))
         self.same((lawful, verdict), (came, told), (wanted, words))
-        self.same("the history", run(history.encode(), "linearize").status if history else None, 0 if wanted < 3 else None)
+        self.same(
+            "the history", run(history.encode(), "linearize").status if history else None, 0 if wanted < 3 else None
+        )
 
     def test_ends(self):
         """What it says where the program finds no order: of one thread that is another kind of tree. It stops there."""
@@ -262,6 +357,68 @@ class Kernel(Recorder):
         self.same("no program", (status, told.splitlines()[-1]), (3, "atomfs linearize ended with status 127"))
 
 
+class Drawn(Recorder):
+    """A recorder that writes a history of each round, whatever comes of them."""
+
+    def counts(self, recorded):
+        """How many of the histories are lawful, have no order, have a fault, or are not decided."""
+        self.same("the recorder", (recorded[0], recorded[2]), (0, ""))
+        told = run(recorded[1].encode(), "linearize", "--many").output.decode().splitlines()[-1]
+        return tuple(map(int, re.fullmatch(r"lawful (\d+) none (\d+) fault (\d+) unknown (\d+)", told).groups()))
+
+
+class Go(Drawn):
+    """record.go, on the tree in memory of afero."""
+
+    def setUp(self):
+        super().setUp()
+        packages.wanted("go")
+        if not (packages.GO / "src" / "github.com" / "spf13" / "afero").is_dir():
+            self.skipTest("afero is not there: apt-get install golang-github-spf13-afero-dev")
+        self.recorder = self.folder / "record"
+        variables = {"GO111MODULE": "off", "GOPATH": str(packages.GO), "GOCACHE": str(self.folder / "cache")}
+        self.same(
+            "go build", ended(("go", "build", "-o", self.recorder, RECORD / "record.go"), **variables), (0, "", "")
+        )
+
+    def recorded(self, *words):
+        return ended((self.recorder, *words))
+
+    def test_one_goroutine(self):
+        """One goroutine is lawful, so what several do is a race."""
+        self.same("one", self.counts(self.recorded("-goroutines", 1, "-rounds", 200)), (200, 0, 0, 0))
+
+    def test_race(self):
+        """Two creates of one name by O_CREATE and O_EXCL are both ok now and then: no order explains the second."""
+        for seed in range(10):
+            lawful, none, fault, unknown = self.counts(self.recorded("-rounds", 1_000, "-seed", seed))
+            self.same("all histories", (lawful + none, fault, unknown), (1_000, 0, 0))
+            if none:
+                return
+        self.skipTest("the goroutines of this machine never met in 10,000 rounds")
+
+    def test_refused(self):
+        status, written, told = self.recorded("-threads", 1)
+        self.same("a flag", (status, written, told.splitlines()[0]), (2, "", "flag provided but not defined: -threads"))
+
+
+class Java(Drawn):
+    """Record.java, on Jimfs."""
+
+    def setUp(self):
+        super().setUp()
+        packages.wanted("java")
+        jars = [packages.JARS / name for name in ("jimfs.jar", "guava.jar")]
+        if not all(jar.exists() for jar in jars):
+            self.skipTest("Jimfs is not there: apt-get install libjimfs-java")
+        self.words = "java", "-cp", ":".join(map(str, jars)), RECORD / "Record.java"
+
+    def test_lawful(self):
+        """Nothing was seen that no order explains, of one thread and of three."""
+        for threads in (1, 3):
+            self.same(f"{threads} threads", self.counts(ended((*self.words, threads, 200, 7))), (200, 0, 0, 0))
+
+
 class InMemory(Recorder):
     """record.py, on trees of libraries."""
 
@@ -277,10 +434,15 @@ class InMemory(Recorder):
         runpy.run_path(sys.argv[0], run_name="__main__")
     """
 
-    def recorded(self, *words, standing_in=None):
+    def recorded(self, *words, standing_in=None, **more):
         by = ("-c", standing_in) if standing_in else ()
         words = packages.python(), "-W", "ignore", *by, RECORD / "record.py", *words
-        return ended(words, PYTHONPATH=str(packages.BINDINGS / "python" / "src"), ATOMFS_LIBRARY=harness.library_at(), PYTHONDONTWRITEBYTECODE="1")
+        variables = {
+            "PYTHONPATH": str(packages.BINDINGS / "python" / "src"),
+            "ATOMFS_LIBRARY": os.path.abspath(harness.library_at()),
+            "PYTHONDONTWRITEBYTECODE": "1",
+        }
+        return ended(words, **variables | more)
 
     def test_tree(self):
         """Our own tree is lawful."""
@@ -288,9 +450,13 @@ class InMemory(Recorder):
         self.same("Tree", self.recorded("Tree", "--rounds", "20"), (0, wanted, ""))
 
     def test_memory_fs(self):
-        """What is lost in PyFilesystem2's tree is found: a directory is removed, in which another thread has made something meanwhile."""
+        """What is lost in PyFilesystem2's tree is found: a directory is removed, in which another thread has made something meanwhile. README says it so."""
         status, history, told = self.recorded("MemoryFS")
-        place, call, words = re.fullmatch(r"round \d+: none (\d+) (\d+)\nno order explains that `(.*)` returned `.*`\n", told).groups()
+        sentence = r"no order explains that `(.*)` returned `.*`\n"
+        place, call, words = re.fullmatch(rf"round \d+: none (\d+) (\d+)\n{sentence}", told).groups()
+        shown = [block for block in blocks(README) if re.fullmatch(sentence, block)]
+        self.same("the sentences of README", len(shown), 1)
+        self.same("the calls of the history", len(set(re.findall(r"^begin (\d+) ", history, re.M))), 12)
         self.same(told, (status, f"begin {call} {words}" in re.sub(r"(begin \d+) \d+", r"\1", history)), (1, True))
         came = run(history.encode(), "linearize")
         self.same(history, (came.status, came.output), (1, f"none {place} {call}\n".encode()))
@@ -298,12 +464,29 @@ class InMemory(Recorder):
     def test_one_thread(self):
         """What is not lawful of one thread is another kind of tree, and it stops there."""
         status, history, told = self.recorded("Tree", standing_in=self.STANDING_IN)
-        self.same("one thread", (status, told.splitlines()[0]), (2, "one thread, so this is another kind of tree: none 2 1"))
+        self.same(
+            "one thread", (status, told.splitlines()[0]), (2, "one thread, so this is another kind of tree: none 2 1")
+        )
         self.same(history, run(history.encode(), "linearize").status, 0)
+
+    def test_missing(self):
+        """Without a package, or without the library, it ends with the status that no verdict has, and with one line."""
+        for name, module in (("the package atomfs", "atomfs"), ("PyFilesystem2", "fs")):
+            with self.subTest(name), tempfile.TemporaryDirectory(prefix="atomfs-") as folder:
+                pathlib.Path(folder, f"{module}.py").write_text("raise ImportError('it is not installed')\n")
+                path = f"{folder}:{packages.BINDINGS / 'python' / 'src'}"
+                message = f"examples/record/record.py: {name} is missing (it is not installed): see --help\n"
+                self.same(name, self.recorded("MemoryFS", PYTHONPATH=path), (2, "", message))
+        status, _, told = self.recorded("Tree", ATOMFS_LIBRARY="/none/libatomfs.so")
+        self.same("no library", (status, told.count("\n"), "; ATOMFS_LIBRARY names it" in told), (2, 1, True))
 
     def test_refused(self):
         status, _, told = self.recorded("Forest")
-        self.same("no tree", (status, told.splitlines()[-1].partition("invalid choice: ")[2]), (2, "'Forest' (choose from 'MemoryFS', 'Tree')"))
+        self.same(
+            "no tree",
+            (status, told.splitlines()[-1].partition("invalid choice: ")[2]),
+            (2, "'Forest' (choose from 'MemoryFS', 'Tree')"),
+        )
 
 
 if __name__ == "__main__":

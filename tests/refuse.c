@@ -40,14 +40,12 @@ __attribute__((constructor)) static void start(void) {
 }
 
 void *malloc(size_t size) {
-    if (!real_malloc)
-        *(void **)&real_malloc = dlsym(RTLD_NEXT, "malloc");
+    if (!real_malloc) *(void **)&real_malloc = dlsym(RTLD_NEXT, "malloc");
     return is_refused(&growths) ? NULL : real_malloc(size);
 }
 
 void *realloc(void *block, size_t size) {
-    if (!real_realloc)
-        *(void **)&real_realloc = dlsym(RTLD_NEXT, "realloc");
+    if (!real_realloc) *(void **)&real_realloc = dlsym(RTLD_NEXT, "realloc");
     return is_refused(&growths) ? NULL : real_realloc(block, size);
 }
 
@@ -58,8 +56,7 @@ int pthread_create(pthread_t *thread, const pthread_attr_t *how, void *(*does)(v
 __attribute__((destructor)) static void end(void) {
     const char *path = getenv("REFUSE_COUNT");
     int file = path ? open(path, O_WRONLY | O_CREAT | O_TRUNC, 0600) : -1;
-    if (file < 0)
-        return;
+    if (file < 0) return;
     dprintf(file, "%ld %ld\n", atomic_load(&growths.asked), atomic_load(&threads.asked));
     close(file);
 }

@@ -21,7 +21,7 @@ import atomfs
 import model
 import outcomes
 from atomfs import Did, Status
-from harness import Case, Outcome
+from harness import Case, Outcome, with_line
 
 # How many bytes a file gets whose memory is looked at.
 WRITTEN = 2**22
@@ -69,7 +69,9 @@ class Preloaded(Case):
     def without(self, variable, count, words, given):
         """The outcomes where one is refused, each in turn, as many side by side as there are processors."""
         with concurrent.futures.ThreadPoolExecutor(os.cpu_count()) as processes:
-            return list(processes.map(lambda number: self.outcome(words, given, **{variable: str(number)}), range(1, count + 1)))
+            return list(
+                processes.map(lambda number: self.outcome(words, given, **{variable: str(number)}), range(1, count + 1))
+            )
 
     def tell(self, name, outcomes, told, *others):
         """Each outcome tells what was refused, or is one of the others; and all that can be told came."""
@@ -97,15 +99,40 @@ class Program(Preloaded):
             ("robin", "run --robin", "lowest_first.script", stored("lowest_first.robin.text")),
             ("bytes", "run", "bytes_of_files.script", stored("bytes_of_files.text")),
             ("from", f"run --from {STARTS}/moved.tree", "../../starts/moved.script", stored("../../starts/moved.text")),
-            ("from a journal", f"run --from {STARTS}/moved.text", "../../starts/moved.script", stored("../../starts/moved.text")),
-            ("seeds", "seeds --seed 7 --runs 3", "helped_rename.script", b"seed 7 lawful\nseed 8 lawful\nseed 9 lawful\n"),
+            (
+                "from a journal",
+                f"run --from {STARTS}/moved.text",
+                "../../starts/moved.script",
+                stored("../../starts/moved.text"),
+            ),
+            (
+                "seeds",
+                "seeds --seed 7 --runs 3",
+                "helped_rename.script",
+                b"seed 7 lawful\nseed 8 lawful\nseed 9 lawful\n",
+            ),
             ("outcomes", "outcomes --seed 7 --runs 1 --all", "helped_rename.script", ends_of("helped_rename")),
             ("check", "check", "errors_of_each_call.text", b"lawful\n"),
             ("check as an object", "check --json", "errors_of_each_call.text", b'{"lawful":true}\n'),
-            ("seeds as objects", "seeds --seed 7 --runs 1 --json", "helped_rename.script", b'{"seed":7,"lawful":true}\n'),
-            ("a journal's trace", "trace", "helped_mkdir.text", (harness.DATA / "traces" / "helped_mkdir.journal.trace").read_bytes()),
+            (
+                "seeds as objects",
+                "seeds --seed 7 --runs 1 --json",
+                "helped_rename.script",
+                b'{"seed":7,"lawful":true}\n',
+            ),
+            (
+                "a journal's trace",
+                "trace",
+                "helped_mkdir.text",
+                (harness.DATA / "traces" / "helped_mkdir.journal.trace").read_bytes(),
+            ),
             ("threads", "threads", "errors_of_each_call.script", b"lawful calls 57\n"),
-            ("explain", "explain Nul", "errors_of_each_call.script", b"Nul: a path has a byte zero\n\nIn a script, for    stat /a%00\nwrite               stat /a%2500\nbecause             no name has a byte zero, and `%25` is a `%`\n"),
+            (
+                "explain",
+                "explain Nul",
+                "errors_of_each_call.script",
+                b"Nul: a path has a byte zero\n\nIn a script, for    stat /a%00\nwrite               stat /a%2500\nbecause             no name has a byte zero, and `%25` is a `%`\n",
+            ),
         )
         self.each(rows, self.growths)
 
@@ -113,14 +140,21 @@ class Program(Preloaded):
         """How many growths a script asks for whose one path has a dot, and how many of them are told where they are refused."""
         words, given = ["run"], text_of(["atomfs 1", "thread t", f"stat {path}", "schedule", "finish"])
         whole, growths, _ = self.whole(words, given)
-        self.same(given, whole, Outcome(3, b"", b"atomfs: line 3: BadPath Dot\n"))
+        self.same(given, whole, with_line(Outcome(3, b"", b"atomfs: line 3: BadPath Dot\n"), given))
         outcomes = self.without("REFUSE", growths, words, given)
-        self.tell(f"growths of a path {path}", outcomes, [NO_MEMORY], whole)
+        # Without memory for it, the message of the fault does not show the line, or says nothing but the fault.
+        first, _, last = whole.message.splitlines(keepends=True)
+        lesser = [whole._replace(message=message) for message in (first, first + last)]
+        self.tell(f"growths of a path {path}", outcomes, [NO_MEMORY], whole, *lesser)
         return growths, outcomes.count(NO_MEMORY)
 
     def room_for_names(self, path, more):
         growths, told = self.asked_for("/./a/b")
-        self.same(f"growths of {path}, and how many are told: so many more than of three names", self.asked_for(path), (growths + more, told + more))
+        self.same(
+            f"growths of {path}, and how many are told: so many more than of three names",
+            self.asked_for(path),
+            (growths + more, told + more),
+        )
 
     def test_room_for_names(self):
         """Room for more than seven names is asked for in steps, each twice as large, and told where it is refused: what is wrong with a name before goes first."""
@@ -138,7 +172,9 @@ class Program(Preloaded):
         given = stored(name)
         whole, _, threads = self.whole(["threads"], given)
         self.same(f"atomfs threads < {name}", (whole, threads), (Outcome(0, b"lawful calls %d\n" % calls), count))
-        self.tell(f"threads of atomfs threads < {name}", self.without("REFUSE_THREAD", count, ["threads"], given), [NO_WORKER])
+        self.tell(
+            f"threads of atomfs threads < {name}", self.without("REFUSE_THREAD", count, ["threads"], given), [NO_WORKER]
+        )
 
     def test_threads(self):
         self.each((("one", "errors_of_each_call.script", 1, 57), ("three", "three_threads.script", 3, 8)), self.threads)
@@ -157,7 +193,9 @@ class Checks(Preloaded):
     """The checks `refused` do once more what was refused, and write the same text but for its last line, which counts that."""
 
     def test_refused(self):
-        with harness.program_at(harness.found("CHECKS", "crates/checks/out/checks", "rt run in crates/checks builds it")):
+        with harness.program_at(
+            harness.found("CHECKS", "crates/checks/out/checks", "rt run in crates/checks builds it")
+        ):
             whole, growths, _ = self.whole(["refused"], b"")
             outcomes = self.without("REFUSE", growths, ["refused"], b"")
         self.same("checks refused", whole, Outcome(0, section(b"refused")))
@@ -292,10 +330,24 @@ def on_seat(seat, text):
 
 
 # Calls one after the other, with their seats.
-LISTS = {"one seat": on_seat(0, ONE_SEAT), "two seats": on_seat(0, FIRST_SEAT) + on_seat(1, SECOND_SEAT), "the third limits": on_seat(0, LISTING)}
+LISTS = {
+    "one seat": on_seat(0, ONE_SEAT),
+    "two seats": on_seat(0, FIRST_SEAT) + on_seat(1, SECOND_SEAT),
+    "the third limits": on_seat(0, LISTING),
+}
+
+# Calls that a tree forgets, one list after the other. All lists but the first have fewer calls than a quarter of its nodes, and the last only looks.
+FORGOTTEN = (
+    [f"mknod /{name}" for name in "abcdefghijklmnop"],
+    ["mkdir /q", "rename /a /q/a", "write /q/a 2 ff", "readdir /"],
+    ["truncate /q/a 9", "exchange /q /b", "unlink /c", "rename /b/a /b/c"],
+    ["stat /b/c", "read /b/c 0 9"],
+)
 
 # The calls of which tools tell.
-FEW = on_seat(0, "mkdir /a\nmknod /a/f\nwrite /a/f 0 ff\nread /a/f 0 9") + on_seat(1, "rename /a /b\nreaddir /\nstat /none")
+FEW = on_seat(0, "mkdir /a\nmknod /a/f\nwrite /a/f 0 ff\nread /a/f 0 9") + on_seat(
+    1, "rename /a /b\nreaddir /\nstat /none"
+)
 
 
 def seats_of(calls):
@@ -313,8 +365,17 @@ def version_of(calls):
 
 def script_of(calls):
     """A script whose threads have their turns one after the other."""
-    blocks = [line for seat in seats_of(calls) for line in (f"thread t{seat}", *(line for at, line in calls if at == seat))]
-    return text_of([f"atomfs {version_of(calls)}", *blocks, "schedule", " ".join(f"t{seat}*{MOST_STEPS}" for seat in seats_of(calls))])
+    blocks = [
+        line for seat in seats_of(calls) for line in (f"thread t{seat}", *(line for at, line in calls if at == seat))
+    ]
+    return text_of(
+        [
+            f"atomfs {version_of(calls)}",
+            *blocks,
+            "schedule",
+            " ".join(f"t{seat}*{MOST_STEPS}" for seat in seats_of(calls)),
+        ]
+    )
 
 
 def counts_of(calls):
@@ -394,7 +455,9 @@ class Played(atomfs.Tree):
     def is_unchanged(self, name):
         """All is as it was before a function that lacked memory."""
         if self.wanted is None:
-            self.case.same(f"close behind {name}, which lacked memory", self.library.atomfs_close(self.handle), Status.CLOSED)
+            self.case.same(
+                f"close behind {name}, which lacked memory", self.library.atomfs_close(self.handle), Status.CLOSED
+            )
         else:
             self.case.same(f"the journal behind {name}, which lacked memory", self.journal(), self.wanted.journal())
             self.case.same(f"the tree behind {name}, which lacked memory", self.tree(), self.wanted.tree())
@@ -456,7 +519,9 @@ class Played(atomfs.Tree):
     def by_typed(self, seat, line):
         """A typed call. Where its names were untold, they are asked for again."""
         told = self.asked("typed", self.told, seat, line)
-        self.case.same(f"what the typed call of {line} tells", told, self.has_returned(seat, line, self.wanted.count + 1))
+        self.case.same(
+            f"what the typed call of {line} tells", told, self.has_returned(seat, line, self.wanted.count + 1)
+        )
 
     def returns(self, seat):
         """Steps the call of a seat to its return."""
@@ -480,7 +545,9 @@ class Library(Case):
     def setUpClass(cls):
         archive = harness.found("ARCHIVE", "crates/atomfs_c/out/libatomfs_c.a", "embed/build builds it")
         folder = cls.enterClassContext(tempfile.TemporaryDirectory())
-        cls.library = atomfs.Library(harness.compiled(folder, "heap.c", "-Wl,--whole-archive", archive, "-Wl,--no-whole-archive"))
+        cls.library = atomfs.Library(
+            harness.compiled(folder, "heap.c", "-Wl,--whole-archive", archive, "-Wl,--no-whole-archive")
+        )
         cls.heap = cls.library.lib
 
     def setUp(self):
@@ -526,7 +593,9 @@ class Library(Case):
             came.update(tree.refused)
 
         self.each(rows, look)
-        self.all_came(came, wanted | {(function, "NO_MEMORY") for function in ("open", "seat", "reply", "journal", "tree")})
+        self.all_came(
+            came, wanted | {(function, "NO_MEMORY") for function in ("open", "seat", "reply", "journal", "tree")}
+        )
 
     def test_calls(self):
         """Calls that are made at once. A step of theirs can do without a smaller block."""
@@ -561,11 +630,14 @@ class Library(Case):
         return growths, ("checkpoint", status.name)
 
     def test_checkpoint(self):
-        """Names that are listed once more can do without a smaller block."""
+        """It asks for memory only for calls that change something, and cannot do without."""
         growths, _ = self.checkpointed(LISTS["one seat"], 0)
         came = set()
-        self.each(((f"growth {number}", number) for number in range(1, growths + 1)), lambda number: came.add(self.checkpointed(LISTS["one seat"], number)[1]))
-        self.all_came(came, {("checkpoint", "NO_MEMORY"), ("checkpoint", "OK")})
+        self.each(
+            ((f"growth {number}", number) for number in range(1, growths + 1)),
+            lambda number: came.add(self.checkpointed(LISTS["one seat"], number)[1]),
+        )
+        self.all_came(came, {("checkpoint", "NO_MEMORY")})
 
     @contextlib.contextmanager
     def behind_calls(self):
@@ -600,11 +672,55 @@ class Library(Case):
         return growths, (name, status.name)
 
     def test_verdict_and_forget(self):
-        """Names that are listed once more can do without a smaller block."""
+        """In a verdict, names that are listed once more can do without a smaller block; what is forgotten is not listed once more."""
         looks, came = (("verdict", (0, 0)), ("forget", len(LISTS["one seat"]))), set()
-        rows = ((f"{name}, growth {number}", name, wanted, number) for name, wanted in looks for number in range(1, 1 + self.looked_at(name, wanted)[0]))
+        rows = (
+            (f"{name}, growth {number}", name, wanted, number)
+            for name, wanted in looks
+            for number in range(1, 1 + self.looked_at(name, wanted)[0])
+        )
         self.each(rows, lambda *look: came.add(self.looked_at(*look)[1]))
-        self.all_came(came, {(name, status) for name, _ in looks for status in ("NO_MEMORY", "OK")})
+        self.all_came(came, {("verdict", "NO_MEMORY"), ("verdict", "OK"), ("forget", "NO_MEMORY")})
+
+    def forgotten(self, place=0, number=0):
+        """A tree that forgets time and again, where the growth of a number is refused at one of these times, and again then: how many growths each time asked for, and the
+        statuses."""
+        self.heap.refuse(0, 0)
+        asked, came = [], set()
+        with Played(self, self.library) as tree:
+            tree.opened([0])
+            for at, lines in enumerate(FORGOTTEN):
+                for line in lines:
+                    tree.make(0, line.encode())
+                    tree.wanted.call(0, line)
+                stood = tree.journal()
+                (status, count), growths, refusals = self.refuses(number if at == place else 0, tree.forget)
+                self.assertIn(status, (Status.OK, Status.NO_MEMORY) if refusals else (Status.OK,))
+                if status == Status.NO_MEMORY:
+                    self.same("the journal behind a forgetting that lacked memory", tree.journal(), stood)
+                    self.same("its verdict", tree.verdict(), (0, 0))
+                    count = tree.forget()
+                self.same("how many calls were forgotten", count, len(lines))
+                nodes = tree.wanted.tree().removeprefix(b"tree\n")
+                self.same("what stands then", tree.journal(), b"atomfs-journal 2\nstart\n" + nodes + b"entries\n")
+                self.same("the tree", tree.tree(), tree.wanted.tree())
+                asked.append(growths)
+                came.add(status.name)
+        self.nothing_is_held()
+        return asked, came
+
+    def test_forget_again(self):
+        """A tree is copied once. Later few calls are played on the copy, and then on the tree that was in its place; a look is not played."""
+        asked, came = self.forgotten()[0], set()
+        rows = (
+            (f"time {at}, growth {number}", at, number)
+            for at, growths in enumerate(asked)
+            for number in range(1, 1 + growths)
+        )
+        self.each(rows, lambda at, number: came.update(self.forgotten(at, number)[1]))
+        self.all_came(came, {"OK", "NO_MEMORY"})
+        self.assertLess(asked[2], asked[1])
+        self.same("how many growths it asks for to forget looks", asked[3], 0)
 
     def begun_at(self, how, number=0):
         """A tree that opens at another one where the growth of a number is refused, and another such: how many there are, and whether one was opened."""
@@ -732,7 +848,11 @@ class Library(Case):
 
     def holds(self, line):
         wanted, _ = self.held(None, 0)
-        self.same("one waits for the other", (wanted[3:6], wanted[-1][0]), ([(Did.TAKE, 0), (Did.WAIT, 2), (Did.WAIT, 2)], Did.RETURN))
+        self.same(
+            "one waits for the other",
+            (wanted[3:6], wanted[-1][0]),
+            ([(Did.TAKE, 0), (Did.WAIT, 2), (Did.WAIT, 2)], Did.RETURN),
+        )
         for number in itertools.count(1):
             did, refusals = self.held(line, number)
             if not refusals:
@@ -809,7 +929,13 @@ class Library(Case):
     def test_tools(self):
         """Traces, pictures, schedules and drawn runs of a script, a picture of a journal; and what a word means, for which no memory is asked."""
         script, journal = script_of(FEW), Wanted(FEW).journal()
-        for ask, given in ((self.library.trace, script), (self.library.draw, script), (self.library.draw, journal), (self.library.schedule, script), (self.library.seeds, script)):
+        for ask, given in (
+            (self.library.trace, script),
+            (self.library.draw, script),
+            (self.library.draw, journal),
+            (self.library.schedule, script),
+            (self.library.seeds, script),
+        ):
             whole = status_of(ask, given)
             self.same(ask.__name__, whole[0], Status.OK)
             self.texts(ask, {ask.__name__: (given, whole)}, {(ask.__name__, "NO_MEMORY"), (ask.__name__, "OK")})
@@ -826,11 +952,16 @@ class Library(Case):
             "no path": begun + b"begin 3 0 stat /a/./b\n",
         }
         for tell in atomfs.Tell:
+
             def linearize(history, tell=tell):
                 return self.library.linearize(history, tell)
 
             came = {name: (text, status_of(linearize, text)) for name, text in texts.items()}
-            self.same("what each is told by", [status for _, (status, _) in came.values()], [*3 * [Status.OK], Status.BAD_PATH])
+            self.same(
+                "what each is told by",
+                [status for _, (status, _) in came.values()],
+                [*3 * [Status.OK], Status.BAD_PATH],
+            )
             self.texts(linearize, came, {("linearize", "NO_MEMORY"), ("linearize", "OK"), ("linearize", "BAD_PATH")})
 
     def test_check_path(self):
@@ -840,12 +971,29 @@ class Library(Case):
             if (status := self.library.check_path(path)) != Status.OK:
                 raise atomfs.Error(status)
 
-        paths = {"a name": (b"/a", Status.OK), "many names": (40 * b"/a", Status.OK), "a dot": (40 * b"/a" + b"/.", Status.PATH_DOT)}
+        paths = {
+            "a name": (b"/a", Status.OK),
+            "many names": (40 * b"/a", Status.OK),
+            "a dot": (40 * b"/a" + b"/.", Status.PATH_DOT),
+        }
         paths |= {"a slash": (40 * b"/a" + b"/", Status.PATH_TRAILING_SLASH)}
-        self.texts(check_path, {name: (path, (status, 0 if status else None)) for name, (path, status) in paths.items()}, {("check_path", "NO_MEMORY")})
-        for path, status in ((b"/", Status.OK), (b"", Status.PATH_NOT_ABSOLUTE), (b"/a/.", Status.PATH_DOT), (7 * b"/a" + b"/", Status.PATH_TRAILING_SLASH)):
+        self.texts(
+            check_path,
+            {name: (path, (status, 0 if status else None)) for name, (path, status) in paths.items()},
+            {("check_path", "NO_MEMORY")},
+        )
+        for path, status in (
+            (b"/", Status.OK),
+            (b"", Status.PATH_NOT_ABSOLUTE),
+            (b"/a/.", Status.PATH_DOT),
+            (7 * b"/a" + b"/", Status.PATH_TRAILING_SLASH),
+        ):
             _, growths = self.growths_of(self.library.check_path, path)
-            self.same(f"what is said of {path}, and the growths that it asks for", (self.library.check_path(path), len(growths)), (status, 0))
+            self.same(
+                f"what is said of {path}, and the growths that it asks for",
+                (self.library.check_path(path), len(growths)),
+                (status, 0),
+            )
 
     def refuse_every(self, tree):
         """From now on every growth is refused."""
@@ -874,7 +1022,11 @@ class Library(Case):
 
     def test_promised_room(self):
         """A call that has begun returns its reply where every further growth is refused."""
-        rows = [(f"{name}, call {place + 1}: {calls[place][1]}", calls, place) for name, calls in LISTS.items() for place in range(len(calls))]
+        rows = [
+            (f"{name}, call {place + 1}: {calls[place][1]}", calls, place)
+            for name, calls in LISTS.items()
+            for place in range(len(calls))
+        ]
         self.each(rows, self.promised)
 
     def all_stepped(self, calls, before, version, refuses):
@@ -901,7 +1053,11 @@ class Library(Case):
     def test_promised_room_of_many(self):
         """The same of a call of each kind, all of them under way: some wait, and an exchange or a rename helps others. Once more on names of 255 bytes."""
         texts = UNDER_WAY, BEFORE
-        rows = ("short names", *map(str.splitlines, texts), 1), ("long names", *(lengthened(text).splitlines() for text in texts), 3)
+        rows = ("short names", *map(str.splitlines, texts), 1), (
+            "long names",
+            *(lengthened(text).splitlines() for text in texts),
+            3,
+        )
         self.each(rows, self.many_promised)
 
     def bytes_kept(self, size):

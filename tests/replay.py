@@ -9,12 +9,14 @@ import unittest
 import drawn
 import harness
 import model
-from harness import Case, Outcome, run
+from harness import Case, Outcome, run, with_line
 
 JOURNALS = 12
 SCRIPTS = 4
 RUNS = 3
-CALL_WORDS = b"atomfs: CALL is THREAD#NUMBER: m#3 is the third call of thread m, and of a journal 0#3 the third on seat 0\n"
+CALL_WORDS = (
+    b"atomfs: CALL is THREAD#NUMBER: m#3 is the third call of thread m, and of a journal 0#3 the third on seat 0\n"
+)
 NO_CALL = b"atomfs: there is no such call, or it does not commit\n"
 
 
@@ -32,7 +34,9 @@ class Commits:
     def keep(self):
         self.trees.append(text_of(self.tree.text()))
         # A directory is the same whatever is in it.
-        self.looks.append({path: node if isinstance(node, model.File) else None for path, node in self.tree.nodes.items()})
+        self.looks.append(
+            {path: node if isinstance(node, model.File) else None for path, node in self.tree.nodes.items()}
+        )
 
     def commit(self, number, who, call):
         """The reply of a call that commits."""
@@ -101,13 +105,27 @@ class Replays(Case):
         whole = run(given, "tree", *words)
         self.same(given, whole, Outcome(0, commits.trees[-1]))
         for place, tree in enumerate(commits.trees):
-            self.same(f"--at {place}\n{given.decode()}", run(given, "tree", "--at", str(place), *words), Outcome(0, tree))
+            self.same(
+                f"--at {place}\n{given.decode()}", run(given, "tree", "--at", str(place), *words), Outcome(0, tree)
+            )
         count = len(commits.calls) + 1
-        self.same(f"--at {count}\n{given.decode()}", run(given, "tree", "--at", str(count), *words), Outcome(2, b"", f"atomfs: the run has no commit {count}\n".encode()))
+        self.same(
+            f"--at {count}\n{given.decode()}",
+            run(given, "tree", "--at", str(count), *words),
+            Outcome(2, b"", f"atomfs: the run has no commit {count}\n".encode()),
+        )
         for _, who, _ in commits.calls:
-            self.same(f"--before {who}\n{given.decode()}", run(given, "tree", "--before", who, *words), Outcome(0, commits.before(who)))
+            self.same(
+                f"--before {who}\n{given.decode()}",
+                run(given, "tree", "--before", who, *words),
+                Outcome(0, commits.before(who)),
+            )
         for who in uncommitted:
-            self.same(f"--before {who}\n{given.decode()}", run(given, "tree", "--before", who, *words), Outcome(2, b"", NO_CALL))
+            self.same(
+                f"--before {who}\n{given.decode()}",
+                run(given, "tree", "--before", who, *words),
+                Outcome(2, b"", NO_CALL),
+            )
         for path in commits.paths():
             line = commits.last(path)
             wanted = Outcome(0, line) if line else Outcome(1, b"nobody\n")
@@ -118,7 +136,10 @@ class Replays(Case):
         self.each(rows, self.look)
 
     def test_scripts_in_order(self):
-        rows = ((f"script_{number}", *in_order(random.Random(f"in order {number}")), ["a#1000", "z#1", "0#1"]) for number in range(harness.rows_of(SCRIPTS)))
+        rows = (
+            (f"script_{number}", *in_order(random.Random(f"in order {number}")), ["a#1000", "z#1", "0#1"])
+            for number in range(harness.rows_of(SCRIPTS))
+        )
         self.each(rows, self.look)
 
     def same_as_its_journal(self, given, *words):
@@ -129,16 +150,29 @@ class Replays(Case):
         self.same(given, run(given, "tree", *words), Outcome(0, tree))
         self.same(given, run(text, "tree"), Outcome(0, tree))
         for place in range(0, lines.count(b"\ncommit ") + 1, 3):
-            self.alike(given, ("of the script", run(given, "tree", "--at", str(place), *words)), ("of its journal", run(text, "tree", "--at", str(place))))
+            self.alike(
+                given,
+                ("of the script", run(given, "tree", "--at", str(place), *words)),
+                ("of its journal", run(text, "tree", "--at", str(place))),
+            )
         names = [line.split(b" ")[1].decode() for line in given.splitlines() if line.startswith(b"thread ")]
         for seat, name in enumerate(names):
-            of_script, of_journal = (run(one, "tree", "--before", f"{who}#1", *more) for one, who, more in ((given, name, words), (text, seat, ())))
+            of_script, of_journal = (
+                run(one, "tree", "--before", f"{who}#1", *more)
+                for one, who, more in ((given, name, words), (text, seat, ()))
+            )
             self.alike(given, ("of the script", of_script), ("of its journal", of_journal))
 
     def test_runs_and_their_journals(self):
         harness.asks_of_answers()
-        rows = ((f"run_{number}", drawn.script(drawn.moving(random.Random(f"run {number}"))).encode(), *words) for number in range(RUNS) for words in ((), ("--robin",), ("--seed", "7")))
-        self.each(((f"{name} {' '.join(words)}", given, *words) for name, given, *words in rows), self.same_as_its_journal)
+        rows = (
+            (f"run_{number}", drawn.script(drawn.moving(random.Random(f"run {number}"))).encode(), *words)
+            for number in range(RUNS)
+            for words in ((), ("--robin",), ("--seed", "7"))
+        )
+        self.each(
+            ((f"{name} {' '.join(words)}", given, *words) for name, given, *words in rows), self.same_as_its_journal
+        )
 
 
 # A journal of which the fifth entry is at fault.
@@ -153,52 +187,64 @@ STARTED = b"atomfs-journal 3\nstart\ndir /\ndir /a\nfile /a/f 61\nentries\nbegin
 
 class Rows(Case):
     def look(self, words, given, wanted):
-        self.same(given, run(given, "tree", *words.split(" ")), wanted)
+        self.same(given, run(given, "tree", *words.split(" ")), with_line(wanted, given))
 
     def test_faults(self):
-        self.each(((f"{words} {number}", words, given, wanted) for number, (words, given, wanted) in enumerate((
-            # The tree before the fault is what is asked about.
-            ("--at 1", WRONG, Outcome(1, TWO, FAULT)),
-            ("--at 0", WRONG, Outcome(1, ONE, FAULT)),
-            ("--at 2", WRONG, Outcome(2, b"", b"atomfs: the run has no commit 2\n")),
-            ("--before 0#1", WRONG, Outcome(1, ONE, FAULT)),
-            ("--before 5#1", WRONG, Outcome(2, b"", NO_CALL)),
-            ("--who /a", WRONG, Outcome(1, b"commit 1 call 1 0#1 mkdir /a\n", FAULT)),
-            ("--who /b", WRONG, Outcome(1, b"nobody\n", FAULT)),
-            # Words that are none, which are read before the input.
-            ("--before m", b"", Outcome(2, b"", CALL_WORDS)),
-            ("--before m#0", b"", Outcome(2, b"", CALL_WORDS)),
-            ("--before m#01", b"", Outcome(2, b"", CALL_WORDS)),
-            ("--before m#x", b"", Outcome(2, b"", CALL_WORDS)),
-            ("--before m#1#1", b"", Outcome(2, b"", CALL_WORDS)),
-            ("--who a", b"", Outcome(2, b"", b"atomfs: BadPath NotAbsolute\n")),
-            ("--who /a/", b"", Outcome(2, b"", b"atomfs: BadPath TrailingSlash\n")),
-            ("--who /a/..", b"", Outcome(2, b"", b"atomfs: BadPath Dot\n")),
-            # Calls that are not there.
-            ("--before m#1", WRONG, Outcome(2, b"", NO_CALL)),
-            ("--before 0#2", WRONG, Outcome(2, b"", NO_CALL)),
-            ("--before 00#1", WRONG, Outcome(2, b"", NO_CALL)),
-            ("--before m#3", PIECES, Outcome(2, b"", NO_CALL)),
-            ("--before #1", PIECES, Outcome(2, b"", NO_CALL)),
-            # Of a run in pieces the last one is asked about, in which calls are counted from 1 again.
-            ("--at 0", PIECES, Outcome(0, TWO)),
-            ("--at 1", PIECES, Outcome(0, BOTH)),
-            ("--at 2", PIECES, Outcome(2, b"", b"atomfs: the run has no commit 2\n")),
-            ("--before m#1", PIECES, Outcome(0, TWO)),
-            ("--who /a", PIECES, Outcome(1, b"nobody\n")),
-            ("--who /b", PIECES, Outcome(0, b"commit 1 call 1 m#1 mkdir /b\n")),
-            ("--at 2 --robin", PIECES, Outcome(0, BOTH)),
-            # A write of the bytes that stand there changes nothing, and a directory stays one when what is below it changes.
-            ("--at 1", STARTED, Outcome(0, b"tree\ndir /\ndir /a\nfile /a/f 61\n")),
-            ("--at 2", STARTED, Outcome(0, b"tree\ndir /\ndir /b%20c\nfile /b%20c/f 61\n")),
-            ("--who /a/f", STARTED, Outcome(0, b"commit 2 call 2 7#2 rename /a /b%20c\n")),
-            ("--who /b%20c/f", STARTED, Outcome(0, b"commit 2 call 2 7#2 rename /a /b%20c\n")),
-            ("--who /", STARTED, Outcome(1, b"nobody\n")),
-            # Input that is none.
-            ("--at 0", b"atomfs-journal 5\n", Outcome(3, b"", b"atomfs: line 1: BadHeader\n")),
-            ("--at 0", b"atomfs 1\nthread t\nstat /\n", Outcome(3, b"", b"atomfs: line 4: NoSchedule\n")),
-            ("--at 0", b"atomfs 1\nthread t\nmkdir /a\nschedule\nt !checkpoint\n", Outcome(1, b"", b"atomfs: call 1 under way\n")),
-        ))), self.look)
+        self.each(
+            (
+                (f"{words} {number}", words, given, wanted)
+                for number, (words, given, wanted) in enumerate(
+                    (
+                        # The tree before the fault is what is asked about.
+                        ("--at 1", WRONG, Outcome(1, TWO, FAULT)),
+                        ("--at 0", WRONG, Outcome(1, ONE, FAULT)),
+                        ("--at 2", WRONG, Outcome(2, b"", b"atomfs: the run has no commit 2\n")),
+                        ("--before 0#1", WRONG, Outcome(1, ONE, FAULT)),
+                        ("--before 5#1", WRONG, Outcome(2, b"", NO_CALL)),
+                        ("--who /a", WRONG, Outcome(1, b"commit 1 call 1 0#1 mkdir /a\n", FAULT)),
+                        ("--who /b", WRONG, Outcome(1, b"nobody\n", FAULT)),
+                        # Words that are none, which are read before the input.
+                        ("--before m", b"", Outcome(2, b"", CALL_WORDS)),
+                        ("--before m#0", b"", Outcome(2, b"", CALL_WORDS)),
+                        ("--before m#01", b"", Outcome(2, b"", CALL_WORDS)),
+                        ("--before m#x", b"", Outcome(2, b"", CALL_WORDS)),
+                        ("--before m#1#1", b"", Outcome(2, b"", CALL_WORDS)),
+                        ("--who a", b"", Outcome(2, b"", b"atomfs: BadPath NotAbsolute\n")),
+                        ("--who /a/", b"", Outcome(2, b"", b"atomfs: BadPath TrailingSlash\n")),
+                        ("--who /a/..", b"", Outcome(2, b"", b"atomfs: BadPath Dot\n")),
+                        # Calls that are not there.
+                        ("--before m#1", WRONG, Outcome(2, b"", NO_CALL)),
+                        ("--before 0#2", WRONG, Outcome(2, b"", NO_CALL)),
+                        ("--before 00#1", WRONG, Outcome(2, b"", NO_CALL)),
+                        ("--before m#3", PIECES, Outcome(2, b"", NO_CALL)),
+                        ("--before #1", PIECES, Outcome(2, b"", NO_CALL)),
+                        # Of a run in pieces the last one is asked about, in which calls are counted from 1 again.
+                        ("--at 0", PIECES, Outcome(0, TWO)),
+                        ("--at 1", PIECES, Outcome(0, BOTH)),
+                        ("--at 2", PIECES, Outcome(2, b"", b"atomfs: the run has no commit 2\n")),
+                        ("--before m#1", PIECES, Outcome(0, TWO)),
+                        ("--who /a", PIECES, Outcome(1, b"nobody\n")),
+                        ("--who /b", PIECES, Outcome(0, b"commit 1 call 1 m#1 mkdir /b\n")),
+                        ("--at 2 --robin", PIECES, Outcome(0, BOTH)),
+                        # A write of the bytes that stand there changes nothing, and a directory stays one when what is below it changes.
+                        ("--at 1", STARTED, Outcome(0, b"tree\ndir /\ndir /a\nfile /a/f 61\n")),
+                        ("--at 2", STARTED, Outcome(0, b"tree\ndir /\ndir /b%20c\nfile /b%20c/f 61\n")),
+                        ("--who /a/f", STARTED, Outcome(0, b"commit 2 call 2 7#2 rename /a /b%20c\n")),
+                        ("--who /b%20c/f", STARTED, Outcome(0, b"commit 2 call 2 7#2 rename /a /b%20c\n")),
+                        ("--who /", STARTED, Outcome(1, b"nobody\n")),
+                        # Input that is none.
+                        ("--at 0", b"atomfs-journal 5\n", Outcome(3, b"", b"atomfs: line 1: BadHeader\n")),
+                        ("--at 0", b"atomfs 1\nthread t\nstat /\n", Outcome(3, b"", b"atomfs: line 4: NoSchedule\n")),
+                        (
+                            "--at 0",
+                            b"atomfs 1\nthread t\nmkdir /a\nschedule\nt !checkpoint\n",
+                            Outcome(1, b"", b"atomfs: call 1 under way\n"),
+                        ),
+                    )
+                )
+            ),
+            self.look,
+        )
 
 
 if __name__ == "__main__":

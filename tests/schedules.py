@@ -17,7 +17,14 @@ SCRIPTS = 2_000
 EXCHANGING_SCRIPTS = 500
 LISTING_SCRIPTS = 200
 # How often each event came where another generator drew by the same shares. Here it comes as often but for an eighth, and never where it did not.
-NARROW_EVENTS = {"begun": 18_000, "took": 25_499, "busy": 13_384, "let go": 25_499, "committed": 18_000, "returned": 18_000}
+NARROW_EVENTS = {
+    "begun": 18_000,
+    "took": 25_499,
+    "busy": 13_384,
+    "let go": 25_499,
+    "committed": 18_000,
+    "returned": 18_000,
+}
 EVENTS = {
     "begun": 202_625, "full": 2_113, "took": 412_912, "busy": 630_269, "let go": 412_912,
     "helped": 2_621, "committed": 200_004, "carried out": 2_621, "returned": 202_625,
@@ -61,18 +68,30 @@ class Schedules(harness.Case):
     def test_exchanges(self):
         """Each event comes that comes with the other calls."""
         orders = events.rounds, events.drawn, events.words
-        rows = ((f"script_{number}_{order.__name__}", drawn.exchanging, number, order) for number in range(EXCHANGING_SCRIPTS) for order in orders)
+        rows = (
+            (f"script_{number}_{order.__name__}", drawn.exchanging, number, order)
+            for number in range(EXCHANGING_SCRIPTS)
+            for order in orders
+        )
         self.each(rows, self.look)
         if "ROW" not in os.environ:
             self.same("the events that did not come", [event for event in EVENTS if not self.counts[event]], [])
 
     def test_third_limits(self):
-        rows = ((f"script_{number}_{order.__name__}", drawn.listing, number, order, 3) for number in range(LISTING_SCRIPTS) for order in (events.rounds, events.drawn))
+        rows = (
+            (f"script_{number}_{order.__name__}", drawn.listing, number, order, 3)
+            for number in range(LISTING_SCRIPTS)
+            for order in (events.rounds, events.drawn)
+        )
         self.each(rows, self.look)
 
     def test_all_calls(self):
         orders = events.rounds, events.drawn, events.words
-        rows = ((f"script_{number}_{order.__name__}", drawn.moving, number, order) for number in range(SCRIPTS) for order in orders)
+        rows = (
+            (f"script_{number}_{order.__name__}", drawn.moving, number, order)
+            for number in range(SCRIPTS)
+            for order in orders
+        )
         self.each(rows, self.look)
         self.came(EVENTS)
 

@@ -83,9 +83,15 @@ class Scripts(harness.Case):
             came.update(kinds(outcome.output.decode()))
 
         orders = ("run",), ("run", "--robin"), ("run", "--seed", "7"), ("threads",)
-        self.each(((f"script_{number}_{words[-1]}", number, *words) for number in range(LISTING) for words in orders), look)
+        self.each(
+            ((f"script_{number}_{words[-1]}", number, *words) for number in range(LISTING) for words in orders), look
+        )
         if "ROW" not in os.environ and harness.compares:
-            self.same("what has not come", sorted({"begin list", "return names", "return ENOTDIR", "return EFBIG"} - set(came)), [])
+            self.same(
+                "what has not come",
+                sorted({"begin list", "return names", "return ENOTDIR", "return EFBIG"} - set(came)),
+                [],
+            )
 
     def test_robin(self):
         self.runs(lambda number: ("run", "--robin"))
@@ -97,12 +103,14 @@ class Scripts(harness.Case):
         def look(number):
             threads, script = scripted(number)
             count = sum(map(len, threads))
-            self.same(script, harness.run(script.encode(), "threads"), harness.Outcome(0, f"lawful calls {count}\n".encode()))
+            self.same(
+                script, harness.run(script.encode(), "threads"), harness.Outcome(0, f"lawful calls {count}\n".encode())
+            )
 
         self.each(((f"script_{number}", number) for number in range(SCRIPTS)), look)
 
     def test_journals_of_threads(self):
-        """They are lawful, also by the model, and on each seat the calls of a thread have begun, in order."""
+        """They are lawful, also by the model, and on the seat of each thread's number its calls have begun, in order."""
         harness.asks_of_answers()
 
         def look(number):
@@ -111,10 +119,12 @@ class Scripts(harness.Case):
             self.same(script, journal._replace(output=b""), harness.Outcome(0))
             self.same(script, harness.run(journal.output, "check"), harness.Outcome(0, b"lawful\n"))
             count = sum(map(len, threads))
-            text = (journal.output + harness.run(journal.output, "tree").output).decode() + f"begun {count} committed {count} returned {count}\n"
+            text = (
+                journal.output + harness.run(journal.output, "tree").output
+            ).decode() + f"begun {count} committed {count} returned {count}\n"
             wrong = model.replayed(text)
             self.same(script, wrong and f"{wrong}\n{text}", None)
-            self.same(script, sorted(model.begun(text).values()), sorted(calls for calls in threads if calls))
+            self.same(script, model.begun(text), {seat: calls for seat, calls in enumerate(threads) if calls})
 
         self.each(((f"script_{number}", number) for number in range(SCRIPTS)), look)
 
@@ -139,7 +149,10 @@ class Ordered(harness.Case):
         name = {node: f"{FILES - at:03}" for at, node in enumerate(nodes)}
         calls = ["mkdir /d", "mkdir /s", "mkdir /e", *(f"mknod /s/{node:03}" for node in sorted(nodes))]
         calls += [f"rename /s/{node:03} /d/{name[node]}" for node in nodes]
-        calls += [f"rename /d/{name[nodes[FEW]]} /e/left", *(f"rename /d/{name[node]} /s/{node:03}" for node in nodes[FILES // 2 :])]
+        calls += [
+            f"rename /d/{name[nodes[FEW]]} /e/left",
+            *(f"rename /d/{name[node]} /s/{node:03}" for node in nodes[FILES // 2 :]),
+        ]
         calls += ["mknod /d/new", "readdir /d", "readdir /e"]
         script = drawn.script([calls])
         outcome = harness.run(script.encode(), "run")

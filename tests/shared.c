@@ -1,5 +1,5 @@
-/* A tree that threads share, of embed/shared.c: what each function answers, and calls of threads that overlap. The argument is
- * how many calls each thread makes.
+/* A tree that threads share, of embed/shared.c: what each function answers, calls of threads that overlap, and cancellations,
+ * signals and forks beside them. The argument is how many calls each thread makes, and how many of those come.
  *
  * With COUNTED the source is compiled into this program, which then stands round each of its steps and each taking of its lock:
  * it counts steps that wait and that help, lets other threads run, and has a thread stop before a step. What it counts has no
@@ -9,7 +9,10 @@
 #include <pthread.h>
 #include <sched.h>
 #include <semaphore.h>
+#include <signal.h>
+#include <sys/wait.h>
 #include <time.h>
+#include <unistd.h>
 
 enum { THREADS = 8 };
 
@@ -24,7 +27,7 @@ static struct atomfs_stat stat_;
 static uint64_t waits, helps;
 static sem_t gate, stopped, waited;
 /* How often this thread takes the lock before it stops, below 0 it never does; and how often it has taken it. */
-static _Thread_local int before_stop = -1, taken;
+static _Thread_local int before_stop = -1, takes;
 
 static uint8_t counted_step(atomfs *fs, uint64_t on, uint8_t *did, uint64_t *about) {
     uint8_t status = atomfs_step(fs, on, did, about);
@@ -42,7 +45,7 @@ static int passing_lock(pthread_mutex_t *lock) {
         sem_wait(&gate);
     }
     /* Seldom: what each costs is the time of all that runs on the machine. */
-    if (++taken % 127 == 0) sched_yield();
+    if (++takes % 127 == 0) sched_yield();
     return pthread_mutex_lock(lock);
 }
 
@@ -114,17 +117,71 @@ static void sessions(void) {
     IS(atomfs_shared_end(&ended), ATOMFS_NO_SEAT);
     IS(atomfs_shared_session(shared, &session, &seat), ATOMFS_OK);
     IS(seat, 0);
+    /* What leads to an ended session makes no calls, though another has its seat. */
+    IS(atomfs_shared_stat(ended, PATH("/"), &stat_, NULL), ATOMFS_NO_SEAT);
+    IS(atomfs_shared_stat(session, PATH("/"), &stat_, NULL), ATOMFS_OK);
+    IS(atomfs_shared_end(&ended), ATOMFS_NO_SEAT);
     close_shared();
 }
 
+/* A tree of a handle: that is closed, and its tree, journal and seats go over. A call that is under way there returns. */
+static void of_a_handle(void) {
+    static const char text[] = "tree\ndir /\ndir /a\n";
+    atomfs handle = ATOMFS_INIT, *fs;
+    size_t line;
+    IS(atomfs_shared_from(&shared, &handle), ATOMFS_CLOSED);
+    IS(atomfs_open_from(&handle, 10, ATOMFS_V2, text, sizeof text - 1, &line), ATOMFS_OK);
+    IS(atomfs_seat(&handle, &seat), ATOMFS_OK);
+    IS(atomfs_begin(&handle, seat, PATH("mkdir /a/b"), &number), ATOMFS_OK);
+    IS(atomfs_shared_from(&shared, &handle), ATOMFS_OK);
+    IS(atomfs_stat(&handle, seat, PATH("/"), &stat_, NULL), ATOMFS_CLOSED);
+    IS(atomfs_close(&handle), ATOMFS_CLOSED);
+    IS(atomfs_open(&handle, 1), ATOMFS_OK);
+    IS(atomfs_shared_from(&shared, &handle), ATOMFS_ALREADY_OPEN);
+    IS(atomfs_close(&handle), ATOMFS_OK);
+    IS(atomfs_shared_session(shared, &session, &seat), ATOMFS_OK);
+    IS(seat, 1);
+    IS(atomfs_shared_stat(session, PATH("/a/b"), &stat_, &number), ATOMFS_OK);
+    IS(number, 2);
+    IS(atomfs_shared_lock(shared, &fs), ATOMFS_OK);
+    IS(atomfs_reply_done(fs, 1), ATOMFS_OK);
+    IS(atomfs_shared_unlock(shared), ATOMFS_OK);
+    close_shared();
+}
+
+/* The seed of the environment. */
+static void environment(void) {
+    IS(setenv("ATOMFS_PAUSES", "7a", 1), 0);
+    IS(atomfs_shared_open(&shared, 1, ATOMFS_V1), ATOMFS_BAD_CHOICE);
+    IS(setenv("ATOMFS_PAUSES", "12345678901234567890", 1), 0);
+    IS(atomfs_shared_open(&shared, 1, ATOMFS_V1), ATOMFS_BAD_CHOICE);
+    IS(shared == NULL, 1);
+    IS(setenv("ATOMFS_PAUSES", "7", 1), 0);
+    open_shared(10, ATOMFS_V1);
+    for (int i = 0; i < 100; i++) IS(atomfs_shared_stat(session, PATH("/"), &stat_, NULL), ATOMFS_OK);
+    close_shared();
+    IS(unsetenv("ATOMFS_PAUSES"), 0);
+}
+
 static void nulls(void) {
-    atomfs *fs;
+    atomfs *fs, closed = ATOMFS_INIT;
     IS(atomfs_shared_open(NULL, 1, ATOMFS_V1), ATOMFS_NULL);
     IS(atomfs_shared_close(NULL), ATOMFS_NULL);
+    IS(atomfs_shared_from(NULL, &closed), ATOMFS_CLOSED);
+    IS(atomfs_shared_from(&shared, NULL), ATOMFS_NULL);
     IS(atomfs_shared_lock(NULL, &fs), ATOMFS_CLOSED);
     IS(atomfs_shared_unlock(NULL), ATOMFS_CLOSED);
+    IS(atomfs_shared_gate(NULL, NULL, NULL), ATOMFS_CLOSED);
+    IS(atomfs_shared_pauses(NULL, 1), ATOMFS_CLOSED);
+    IS(atomfs_shared_wait_most(NULL, 1), ATOMFS_CLOSED);
+    IS(atomfs_shared_holders(NULL, out, sizeof out, &count), ATOMFS_CLOSED);
+    IS(atomfs_shared_finish(NULL, &number), ATOMFS_CLOSED);
     open_shared(10, ATOMFS_V1);
     IS(atomfs_shared_session(shared, NULL, NULL), ATOMFS_NULL);
+    IS(atomfs_shared_holders(shared, NULL, 1, &count), ATOMFS_NULL);
+    IS(atomfs_shared_holders(shared, out, 1, NULL), ATOMFS_NULL);
+    IS(atomfs_shared_finish(shared, NULL), ATOMFS_NULL);
+    IS(atomfs_shared_unlock(shared), ATOMFS_CLOSED);
     IS(atomfs_shared_end(NULL), ATOMFS_NULL);
     IS(atomfs_shared_end(&other_session), ATOMFS_NULL);
     IS(atomfs_shared_lock(shared, NULL), ATOMFS_NULL);
@@ -245,16 +302,22 @@ static uint8_t drawn_call(thread *self, atomfs_session *its, uint64_t *its_numbe
     uint64_t its_wrote;
     size_t its_count, length = draw_path(self, path), other_length = draw_path(self, other);
     switch (draw(self, 16)) {
-    case 0: case 1: case 2: case 3: return atomfs_shared_mkdir(its, path, length, its_number);
-    case 4: case 5: return atomfs_shared_mknod(its, path, length, its_number);
+    case 0:
+    case 1:
+    case 2:
+    case 3: return atomfs_shared_mkdir(its, path, length, its_number);
+    case 4:
+    case 5: return atomfs_shared_mknod(its, path, length, its_number);
     case 6: return atomfs_shared_unlink(its, path, length, its_number);
     case 7: return atomfs_shared_rmdir(its, path, length, its_number);
-    case 8: case 9: return atomfs_shared_rename(its, path, length, other, other_length, its_number);
+    case 8:
+    case 9: return atomfs_shared_rename(its, path, length, other, other_length, its_number);
     case 10: return atomfs_shared_exchange(its, path, length, other, other_length, its_number);
     case 11: return atomfs_shared_stat(its, path, length, &found, its_number);
     case 12:
         if (has_lists && draw(self, 4) > 0)
-            return atomfs_shared_list(its, path, length, other, other_length, draw(self, 4), room, sizeof room, &its_count, its_number);
+            return atomfs_shared_list(its, path, length, other, other_length, draw(self, 4), room, sizeof room,
+                                      &its_count, its_number);
         return atomfs_shared_readdir(its, path, length, room, sizeof room, &its_count, its_number);
     case 13: return atomfs_shared_read(its, path, length, draw(self, 9), room, sizeof room, &its_count, its_number);
     case 14: return atomfs_shared_write(its, path, length, draw(self, 9), "bytes", 5, &its_wrote, its_number);
@@ -302,7 +365,7 @@ static char *journal_of(atomfs *fs, size_t *length) {
     if (text == NULL) exit(1);
     IS(atomfs_opening(fs, text, opening, &opening), ATOMFS_OK);
     IS(atomfs_journal(fs, 0, text + opening, lines, &lines, &entries), ATOMFS_OK);
-    text[*length = opening + lines] = '\0';
+    text[ *length = opening + lines] = '\0';
     return text;
 }
 
@@ -318,6 +381,9 @@ static int overlapped(const char *text, int *returned) {
     return found;
 }
 
+/* Whether calls of a round pause. */
+static int pauses;
+
 /* The threads' calls by a seed, and how many of them overlapped. */
 static int round_of_calls(int calls, uint32_t seed) {
     thread threads[THREADS];
@@ -328,7 +394,8 @@ static int round_of_calls(int calls, uint32_t seed) {
     int returned;
     has_lists = seed % 2 == 0;
     IS(atomfs_shared_open(&shared, 1000, has_lists ? ATOMFS_V3 : ATOMFS_V2), ATOMFS_OK);
-    start(threads, calls, 1, seed);
+    if (pauses) IS(atomfs_shared_pauses(shared, seed), ATOMFS_OK);
+    start(threads, calls, !pauses, seed);
     join(threads);
     IS(atomfs_shared_lock(shared, &fs), ATOMFS_OK);
     IS(atomfs_verdict(fs, &place, &kind), ATOMFS_OK);
@@ -360,6 +427,14 @@ static void drawn_calls(int calls) {
         IS(seed > 100, 0);
         found += round_of_calls(calls, seed);
     }
+}
+
+/* With pauses half of all calls and more begin where another is under way. */
+static void drawn_pauses(int calls) {
+    pauses = 1;
+    int found = round_of_calls(calls, 1);
+    IS(2 * found > calls * THREADS, 1);
+    pauses = 0;
 }
 
 /* Checkpoints while threads make calls: none is under way at any, and each piece begins with the tree by which the last ended. */
@@ -397,6 +472,367 @@ static void checkpoints(int calls) {
     }
     free(last);
     join(threads);
+    close_shared();
+}
+
+/* The tree that threads leave: no call is under way, and the journal is lawful. */
+static void is_lawful(void) {
+    atomfs *fs;
+    uint64_t place;
+    uint8_t kind;
+    size_t length;
+    int returned;
+    IS(atomfs_shared_lock(shared, &fs), ATOMFS_OK);
+    IS(atomfs_verdict(fs, &place, &kind), ATOMFS_OK);
+    IS(kind, ATOMFS_FAULT_NONE);
+    char *text = journal_of(fs, &length);
+    overlapped(text, &returned);
+    IS(returned > 0, 1);
+    free(text);
+    IS(atomfs_shared_unlock(shared), ATOMFS_OK);
+}
+
+/* ---- Gates, and calls that stand half-way */
+
+/* What a gate heard, and where it stands: at the event of a number it stops, or ends its thread. */
+typedef struct heard {
+    uint8_t did[64];
+    uint64_t about[64];
+    size_t events, stands_at;
+    int ends;
+    sem_t stands, goes;
+} heard;
+
+/* The gate of seat 0. */
+static void hears(void *context, uint64_t seat_, uint8_t did, uint64_t about) {
+    heard *self = context;
+    if (seat_ != 0) return;
+    size_t event = self->events++;
+    self->did[event] = did;
+    self->about[event] = about;
+    if (event != self->stands_at) return;
+    IS(sem_post(&self->stands), 0);
+    if (self->ends) pthread_exit(NULL);
+    while (sem_wait(&self->goes) != 0) continue;
+}
+
+static void hears_from(heard *self, size_t stands_at, int ends) {
+    *self = (heard){ .stands_at = stands_at, .ends = ends };
+    IS(sem_init(&self->stands, 0, 0) + sem_init(&self->goes, 0, 0), 0);
+    IS(atomfs_shared_gate(shared, hears, self), ATOMFS_OK);
+}
+
+/* Behind each event of a call the gate is called, in the thread of the call: begin, each step, return. */
+static void gates(void) {
+    heard its;
+    static const uint8_t wanted[] = { ATOMFS_DID_BEGIN, ATOMFS_DID_TAKE, ATOMFS_DID_COMMIT, ATOMFS_DID_LET_GO,
+                                      ATOMFS_DID_RETURN };
+    open_shared(10, ATOMFS_V1);
+    hears_from(&its, sizeof wanted, 0);
+    IS(atomfs_shared_mkdir(session, PATH("/a"), &number), ATOMFS_OK);
+    IS(its.events, sizeof wanted);
+    IS(memcmp(its.did, wanted, sizeof wanted), 0);
+    IS(its.about[0], number);
+    IS(its.about[3], its.about[1]);
+    IS(atomfs_shared_gate(shared, NULL, NULL), ATOMFS_OK);
+    IS(atomfs_shared_mkdir(session, PATH("/b"), &number), ATOMFS_OK);
+    IS(its.events, sizeof wanted);
+    close_shared();
+}
+
+static void *makes_directory(void *given) {
+    *(uint8_t *)given = atomfs_shared_mkdir(session, PATH("/a/b"), NULL);
+    return NULL;
+}
+
+static void *looks_below(void *given) {
+    *(uint8_t *)given = atomfs_shared_stat(other_session, PATH("/a/b"), &stat_, NULL);
+    return NULL;
+}
+
+/* A directory /a with a call in it that stands, once it holds /a alone: 0 takes the root, 1 takes /a, and lets the root go. */
+static pthread_t stands_in_directory(heard *its, uint8_t *status, int ends) {
+    pthread_t maker;
+    open_shared(10, ATOMFS_V1);
+    IS(atomfs_shared_session(shared, &other_session, NULL), ATOMFS_OK);
+    IS(atomfs_shared_mkdir(session, PATH("/a"), NULL), ATOMFS_OK);
+    hears_from(its, 3, ends);
+    IS(pthread_create(&maker, NULL, makes_directory, status), 0);
+    while (sem_wait(&its->stands) != 0) continue;
+    IS(its->did[3], ATOMFS_DID_LET_GO);
+    return maker;
+}
+
+/* One that waits for a call that stands sleeps, and is woken once it goes on. A deadline ends the wait, the tree says who holds what,
+ * and the call on which the wait was given up returns by atomfs_shared_finish, like the one that stood. */
+static void deadlines(void) {
+    heard its;
+    uint8_t made = 255, looked = 255;
+    pthread_t looker, maker = stands_in_directory(&its, &made, 0);
+    IS(pthread_create(&looker, NULL, looks_below, &looked), 0);
+    do IS(atomfs_shared_holders(shared, out, sizeof out, &count), ATOMFS_OK);
+    while (memchr(out, ',', count) == NULL);
+    SAYS(out, count, "call 2 on seat 0 holds 1\ncall 3 on seat 1 holds 0, waits for call 2\n");
+    IS(atomfs_shared_holders(shared, out, count - 1, &count), ATOMFS_TOO_SMALL);
+    IS(count, 68);
+    IS(atomfs_shared_close(&shared), ATOMFS_UNDER_WAY);
+    IS(sem_post(&its.goes), 0);
+    IS(pthread_join(maker, NULL) + pthread_join(looker, NULL), 0);
+    IS(made, ATOMFS_OK);
+    IS(looked, ATOMFS_OK);
+    IS(atomfs_shared_holders(shared, out, sizeof out, &count), ATOMFS_OK);
+    IS(count, 0);
+    close_shared();
+
+    atomfs *fs = NULL;
+    maker = stands_in_directory(&its, &made, 0);
+    IS(atomfs_shared_wait_most(shared, 30), ATOMFS_OK);
+    IS(atomfs_shared_stat(other_session, PATH("/a/b"), &stat_, &number), ATOMFS_WAITS);
+    IS(number, 3);
+    IS(atomfs_shared_stat(other_session, PATH("/"), &stat_, &number), ATOMFS_SEAT_BUSY);
+    IS(atomfs_shared_lock(shared, &fs), ATOMFS_WAITS);
+    IS(fs == NULL, 1);
+    IS(atomfs_shared_end(&other_session), ATOMFS_SEAT_BUSY);
+    IS(atomfs_shared_holders(shared, out, sizeof out, &count), ATOMFS_OK);
+    SAYS(out, count, "call 2 on seat 0 holds 1\ncall 3 on seat 1 holds 0, waits for call 2\n");
+    IS(atomfs_shared_finish(shared, &number), ATOMFS_OK);
+    IS(number, 2);
+    IS(atomfs_shared_lock(shared, &fs), ATOMFS_OK);
+    IS(atomfs_reply_stat(fs, 3, &stat_), ATOMFS_OK);
+    IS(atomfs_shared_holders(shared, out, sizeof out, &count), ATOMFS_OK);
+    SAYS(out, count, "the handle is lent\n");
+    IS(atomfs_shared_mkdir(other_session, PATH("/b"), &number), ATOMFS_WAITS);
+    IS(number, 0);
+    IS(atomfs_shared_close(&shared), ATOMFS_UNDER_WAY);
+    IS(atomfs_shared_unlock(shared), ATOMFS_OK);
+    IS(atomfs_shared_mkdir(other_session, PATH("/b"), &number), ATOMFS_OK);
+    IS(sem_post(&its.goes), 0);
+    IS(pthread_join(maker, NULL), 0);
+    IS(made, ATOMFS_OK);
+    is_lawful();
+    close_shared();
+}
+
+/* A thread that ends in the midst of its call: others go on behind atomfs_shared_finish, and its session is free again. */
+static void dead_threads(void) {
+    heard its;
+    uint8_t made = 255;
+    pthread_t maker = stands_in_directory(&its, &made, 1);
+    IS(pthread_join(maker, NULL), 0);
+    IS(made, 255);
+    IS(atomfs_shared_wait_most(shared, 30), ATOMFS_OK);
+    IS(atomfs_shared_stat(other_session, PATH("/a/b"), &stat_, &number), ATOMFS_WAITS);
+    IS(atomfs_shared_finish(shared, &number), ATOMFS_OK);
+    IS(number, 2);
+    IS(atomfs_shared_finish(shared, &number), ATOMFS_OK);
+    IS(number, 0);
+    IS(atomfs_shared_gate(shared, NULL, NULL), ATOMFS_OK);
+    IS(atomfs_shared_rmdir(session, PATH("/a/b"), NULL), ATOMFS_OK);
+    is_lawful();
+    close_shared();
+}
+
+/* A gate that now and then keeps its call for longer than others wait. */
+static void dawdles(void *context, uint64_t seat_, uint8_t did, uint64_t about) {
+    static const struct timespec pause = { .tv_nsec = 4000000 };
+    (void)context;
+    if (did == ATOMFS_DID_LET_GO && (seat_ + about) % 5 == 0) nanosleep(&pause, NULL);
+}
+
+/* A thread whose calls may be given up: then it has all calls finished, and goes on. */
+static void *gives_up(void *given) {
+    thread *self = given;
+    atomfs_session *its = NULL;
+    uint64_t its_number, finished;
+    int given_up = 0;
+    IS(atomfs_shared_session(shared, &its, NULL), ATOMFS_OK);
+    for (int i = 0; i < self->calls; i++) {
+        uint8_t status = drawn_call(self, its, &its_number);
+        if (status == ATOMFS_WAITS) {
+            given_up++;
+            IS(its_number > 0, 1);
+            IS(atomfs_shared_finish(shared, &finished), ATOMFS_OK);
+        } else if (status != ATOMFS_OK && status < ATOMFS_FAILED) {
+            IS(status, ATOMFS_OK);
+        }
+    }
+    IS(atomfs_shared_end(&its), ATOMFS_OK);
+    self->calls = given_up;
+    return NULL;
+}
+
+/* Calls that are given up and finished while others go on: none is lost, and the journal is lawful. */
+static void given_up(int calls) {
+    thread threads[THREADS];
+    int times = 0;
+    has_lists = 1;
+    IS(atomfs_shared_open(&shared, ATOMFS_NODE_LIMIT, ATOMFS_V3), ATOMFS_OK);
+    IS(atomfs_shared_wait_most(shared, 1), ATOMFS_OK);
+    IS(atomfs_shared_pauses(shared, 3), ATOMFS_OK);
+    IS(atomfs_shared_gate(shared, dawdles, NULL), ATOMFS_OK);
+    for (uint32_t i = 0; i < THREADS; i++) {
+        threads[i] = (thread){ .drawn = i, .calls = calls };
+        IS(pthread_create(&threads[i].id, NULL, gives_up, &threads[i]), 0);
+    }
+    join(threads);
+    for (int i = 0; i < THREADS; i++) times += threads[i].calls;
+    IS(times > 0 || calls < 100, 1);
+    IS(atomfs_shared_wait_most(shared, 0), ATOMFS_OK);
+    is_lawful();
+    close_shared();
+}
+
+static void *gives_back(void *given) {
+    (void)given;
+    IS(atomfs_shared_unlock(shared), ATOMFS_OK);
+    return NULL;
+}
+
+/* A call that a lender leaves under way has returned once the handle is given back. */
+static void left_by_lender(void) {
+    atomfs *fs;
+    uint64_t lent;
+    open_shared(10, ATOMFS_V1);
+    IS(atomfs_shared_lock(shared, &fs), ATOMFS_OK);
+    IS(atomfs_seat(fs, &lent), ATOMFS_OK);
+    IS(atomfs_begin(fs, lent, PATH("mkdir /a"), &number), ATOMFS_OK);
+    IS(atomfs_reply_done(fs, number), ATOMFS_NO_REPLY);
+    /* Another thread may give it back, for one that has ended. */
+    pthread_t other;
+    IS(pthread_create(&other, NULL, gives_back, NULL), 0);
+    IS(pthread_join(other, NULL), 0);
+    IS(atomfs_shared_stat(session, PATH("/a"), &stat_, NULL), ATOMFS_OK);
+    IS(atomfs_shared_lock(shared, &fs), ATOMFS_OK);
+    IS(atomfs_reply_done(fs, number), ATOMFS_OK);
+    IS(atomfs_shared_unlock(shared), ATOMFS_OK);
+    close_shared();
+}
+
+/* ---- What may come beside a call */
+
+static void end_of(void *its) { IS(atomfs_shared_end(its), ATOMFS_OK); }
+
+/* A thread that makes calls until it is cancelled, and ends its session then, so no call is under way on it. Now and then it has the
+ * handle. */
+static void *calls_for_ever(void *given) {
+    thread *self = given;
+    atomfs_session *its = NULL;
+    atomfs *fs;
+    uint64_t its_number;
+    IS(atomfs_shared_session(shared, &its, NULL), ATOMFS_OK);
+    pthread_cleanup_push(end_of, &its);
+    for (;;) {
+        uint8_t status = drawn_call(self, its, &its_number);
+        if (status != ATOMFS_OK && status < ATOMFS_FAILED) IS(status, ATOMFS_OK);
+        if (draw(self, 8) == 0) {
+            IS(atomfs_shared_lock(shared, &fs), ATOMFS_OK);
+            pthread_testcancel();
+            IS(atomfs_shared_unlock(shared), ATOMFS_OK);
+        }
+        pthread_testcancel();
+    }
+    pthread_cleanup_pop(0);
+    return NULL;
+}
+
+static void starts_anew(thread *self, uint32_t seed) {
+    *self = (thread){ .drawn = seed };
+    IS(pthread_create(&self->id, NULL, calls_for_ever, self), 0);
+}
+
+static void is_cancelled(thread *self) {
+    void *came;
+    IS(pthread_cancel(self->id), 0);
+    IS(pthread_join(self->id, &came), 0);
+    IS(came == PTHREAD_CANCELED, 1);
+}
+
+/* So many cancellations of threads in calls: none leaves the lock taken or its call half-way, so each thread comes to its end. */
+static void cancels(int times) {
+    thread threads[THREADS];
+    static const struct timespec pause = { .tv_nsec = 200000 };
+    has_lists = 1;
+    IS(atomfs_shared_open(&shared, ATOMFS_NODE_LIMIT, ATOMFS_V3), ATOMFS_OK);
+    for (int i = 0; i < THREADS; i++) starts_anew(&threads[i], (uint32_t)i);
+    for (int i = 0; i < times; i++) {
+        nanosleep(&pause, NULL);
+        is_cancelled(&threads[i % THREADS]);
+        starts_anew(&threads[i % THREADS], (uint32_t)(i + THREADS));
+    }
+    for (int i = 0; i < THREADS; i++) is_cancelled(&threads[i]);
+    is_lawful();
+    close_shared();
+}
+
+static sem_t caught;
+
+static void catches(int signal) {
+    (void)signal;
+    sem_post(&caught);
+}
+
+/* Signals that interrupt calls, and children that are forked in the midst of them: the calls go on. */
+static void signals_and_forks(int times) {
+    thread threads[THREADS];
+    struct sigaction action = { .sa_handler = catches };
+    IS(sem_init(&caught, 0, 0), 0);
+    IS(sigaction(SIGUSR1, &action, NULL), 0);
+    has_lists = 1;
+    IS(atomfs_shared_open(&shared, ATOMFS_NODE_LIMIT, ATOMFS_V3), ATOMFS_OK);
+    for (int i = 0; i < THREADS; i++) starts_anew(&threads[i], (uint32_t)i);
+    for (int i = 0; i < times; i++) {
+        IS(pthread_kill(threads[i % THREADS].id, SIGUSR1), 0);
+        while (sem_wait(&caught) != 0) continue;
+        if (i % 100 > 0) continue;
+        int status = 1;
+        pid_t child = fork();
+        if (child == 0) execl("/bin/true", "true", (char *)NULL), _exit(1);
+        while (waitpid(child, &status, 0) != child) continue;
+        IS(status, 0);
+    }
+    for (int i = 0; i < THREADS; i++) is_cancelled(&threads[i]);
+    is_lawful();
+    close_shared();
+}
+
+/* A thread that waits for the handle, which another has. */
+static void *waits_for_handle(void *given) {
+    atomfs *fs;
+    IS(sem_post(given), 0);
+    IS(atomfs_shared_lock(shared, &fs), ATOMFS_OK);
+    IS(atomfs_shared_unlock(shared), ATOMFS_OK);
+    return NULL;
+}
+
+/* A thread that has the handle is cancelled once it has given it back; another then has it. */
+static void *has_handle(void *given) {
+    atomfs *fs;
+    IS(atomfs_shared_lock(shared, &fs), ATOMFS_OK);
+    IS(sem_post(given), 0);
+    for (int i = 0; i < 1000; i++) {
+        sched_yield();
+        pthread_testcancel();
+    }
+    IS(atomfs_mkdir(fs, 0, PATH("/a"), &number), ATOMFS_OK);
+    IS(atomfs_shared_unlock(shared), ATOMFS_OK);
+    for (;;) pthread_testcancel();
+    return NULL;
+}
+
+static void cancelled_with_handle(void) {
+    pthread_t has, waits_;
+    sem_t says_so;
+    void *came;
+    IS(sem_init(&says_so, 0, 0), 0);
+    open_shared(10, ATOMFS_V1);
+    IS(pthread_create(&has, NULL, has_handle, &says_so), 0);
+    IS(sem_wait(&says_so), 0);
+    IS(pthread_create(&waits_, NULL, waits_for_handle, &says_so), 0);
+    IS(pthread_cancel(has), 0);
+    IS(pthread_join(has, &came), 0);
+    IS(came == PTHREAD_CANCELED, 1);
+    IS(pthread_join(waits_, NULL), 0);
+    IS(atomfs_shared_stat(session, PATH("/a"), &stat_, NULL), ATOMFS_OK);
     close_shared();
 }
 
@@ -449,19 +885,34 @@ static void helps_and_sleeps(void) {
 
 int main(int argc, char **argv) {
     int calls = argc > 1 ? atoi(argv[1]) : 1000;
+#ifdef COUNTED
+    IS(sem_init(&gate, 0, 0) + sem_init(&stopped, 0, 0) + sem_init(&waited, 0, 0), 0);
+    helps_and_sleeps();
+#endif
     each_call();
     sessions();
     nulls();
+    of_a_handle();
+    environment();
+    gates();
+    deadlines();
+    dead_threads();
+    left_by_lender();
     all_names(ATOMFS_V2, 64);
     all_names(ATOMFS_V3, 255);
     pieces();
 #ifdef COUNTED
-    IS(sem_init(&gate, 0, 0) + sem_init(&stopped, 0, 0) + sem_init(&waited, 0, 0), 0);
-    helps_and_sleeps();
     helps = waits = 0;
 #endif
     drawn_calls(calls);
+    /* Each yield takes as long as others on the machine have work. */
+    drawn_pauses(calls < 1000 ? calls : calls / 10);
     checkpoints(calls / 10);
+    /* Not under helgrind: a timed wait of glibc signals within itself, without the lock. */
+    if (calls >= 50) given_up(calls / 10);
+    cancelled_with_handle();
+    cancels(calls);
+    signals_and_forks(calls);
     puts("a shared tree: as it is to be");
     return 0;
 }

@@ -83,13 +83,17 @@ class Shrinks(Case):
         told = TOLD.fullmatch(came.message)
         self.assertTrue(came.status == 0 and told, f"{given}\n{came}")
         shrunk, now = read(came.output), told.group(3).decode()
-        self.assertEqual((sum(map(len, shrunk.threads.values())), len(shrunk.words)), (int(told.group(1)), int(told.group(2))), given)
+        self.assertEqual(
+            (sum(map(len, shrunk.threads.values())), len(shrunk.words)), (int(told.group(1)), int(told.group(2))), given
+        )
         self.assertEqual(list(shrunk.threads), list(script.threads), given)
         for name, calls in shrunk.threads.items():
             self.assertTrue(is_sublist(calls, script.threads[name]), f"{given}\n{came}")
         self.assertTrue(is_sublist(shrunk.words, script.words), f"{given}\n{came}")
         for (name, place), (other, new) in zip(re.findall(r"\b(\w+)#(\d+)", what), re.findall(r"\b(\w+)#(\d+)", now)):
-            self.assertEqual((other, shrunk.threads[other][int(new) - 1]), (name, script.threads[name][int(place) - 1]), given)
+            self.assertEqual(
+                (other, shrunk.threads[other][int(new) - 1]), (name, script.threads[name][int(place) - 1]), given
+            )
         self.assertTrue(has_it(shrunk, now), f"{given}\n{came}")
         for less, said in smaller(shrunk, now):
             self.assertFalse(has_it(less, said), f"{given}\n{came}\nand less\n{less.text().decode()}")
@@ -108,15 +112,72 @@ class Rows(Case):
 
     def test_shrunk(self):
         nothing = b"atomfs 1\n# two threads\nthread m\nthread r\nschedule\n# the rest\n"
-        self.all_end((
-            ("a call that fails", "reply m#2 failed ENOENT", RACE, Outcome(0, b"atomfs 1\n# two threads\nthread m\nmkdir /a/d\nthread r\nschedule\n# the rest\nfinish\n", b"atomfs: calls 1, words 1, where reply m#1 failed ENOENT\n")),
-            ("nothing needed", "tree dir /", RACE, Outcome(0, nothing, b"atomfs: calls 0, words 0, where tree dir /\n")),
-            ("behind not", "not tree dir /none", RACE, Outcome(0, nothing, b"atomfs: calls 0, words 0, where not tree dir /none\n")),
-            ("a call that is named stays", "not helped m#3 and tree dir /", RACE, Outcome(0, b"atomfs 1\n# two threads\nthread m\nmkdir /e\nthread r\nschedule\n# the rest\n", b"atomfs: calls 1, words 0, where not helped m#1 and tree dir /\n")),
-            ("checkpoints go", "tree dir /a", b"atomfs 1\nthread m\nmkdir /a\nmkdir /b\nschedule\nm*5 !checkpoint m*9 !checkpoint finish\n", Outcome(0, b"atomfs 1\nthread m\nmkdir /a\nschedule\nm*5\n", b"atomfs: calls 1, words 1, where tree dir /a\n")),
-            ("a call that can go once a later one went", "tree dir /d", b"atomfs 1\nthread m\nmkdir /d\nmknod /d/f\nrmdir /d\nschedule\nfinish\n", Outcome(0, b"atomfs 1\nthread m\nmkdir /d\nschedule\nfinish\n", b"atomfs: calls 1, words 1, where tree dir /d\n")),
-            ("version 2", "tree file /f 00", b"atomfs 2\nthread m\nmknod /f\nmkdir /a\nwrite /f 0 00\nschedule\nfinish\n", Outcome(0, b"atomfs 2\nthread m\nmknod /f\nwrite /f 0 00\nschedule\nfinish\n", b"atomfs: calls 2, words 1, where tree file /f 00\n")),
-        ))
+        self.all_end(
+            (
+                (
+                    "a call that fails",
+                    "reply m#2 failed ENOENT",
+                    RACE,
+                    Outcome(
+                        0,
+                        b"atomfs 1\n# two threads\nthread m\nmkdir /a/d\nthread r\nschedule\n# the rest\nfinish\n",
+                        b"atomfs: calls 1, words 1, where reply m#1 failed ENOENT\n",
+                    ),
+                ),
+                (
+                    "nothing needed",
+                    "tree dir /",
+                    RACE,
+                    Outcome(0, nothing, b"atomfs: calls 0, words 0, where tree dir /\n"),
+                ),
+                (
+                    "behind not",
+                    "not tree dir /none",
+                    RACE,
+                    Outcome(0, nothing, b"atomfs: calls 0, words 0, where not tree dir /none\n"),
+                ),
+                (
+                    "a call that is named stays",
+                    "not helped m#3 and tree dir /",
+                    RACE,
+                    Outcome(
+                        0,
+                        b"atomfs 1\n# two threads\nthread m\nmkdir /e\nthread r\nschedule\n# the rest\n",
+                        b"atomfs: calls 1, words 0, where not helped m#1 and tree dir /\n",
+                    ),
+                ),
+                (
+                    "checkpoints go",
+                    "tree dir /a",
+                    b"atomfs 1\nthread m\nmkdir /a\nmkdir /b\nschedule\nm*5 !checkpoint m*9 !checkpoint finish\n",
+                    Outcome(
+                        0,
+                        b"atomfs 1\nthread m\nmkdir /a\nschedule\nm*5\n",
+                        b"atomfs: calls 1, words 1, where tree dir /a\n",
+                    ),
+                ),
+                (
+                    "a call that can go once a later one went",
+                    "tree dir /d",
+                    b"atomfs 1\nthread m\nmkdir /d\nmknod /d/f\nrmdir /d\nschedule\nfinish\n",
+                    Outcome(
+                        0,
+                        b"atomfs 1\nthread m\nmkdir /d\nschedule\nfinish\n",
+                        b"atomfs: calls 1, words 1, where tree dir /d\n",
+                    ),
+                ),
+                (
+                    "version 2",
+                    "tree file /f 00",
+                    b"atomfs 2\nthread m\nmknod /f\nmkdir /a\nwrite /f 0 00\nschedule\nfinish\n",
+                    Outcome(
+                        0,
+                        b"atomfs 2\nthread m\nmknod /f\nwrite /f 0 00\nschedule\nfinish\n",
+                        b"atomfs: calls 2, words 1, where tree file /f 00\n",
+                    ),
+                ),
+            )
+        )
 
     def test_not_had(self):
         """Nothing is written."""
@@ -134,8 +195,13 @@ class Rows(Case):
             return Outcome(2, b"", b"atomfs: " + why + b"\n")
 
         rows = (("", WORDS), ("and", WORDS), ("helped m", CALL), ("reply m#1", REPLY), ("tree dir", LINE))
-        self.all_end((f"words {number}", what, RACE, bad(b"--where: " + why)) for number, (what, why) in enumerate(rows))
-        self.all_end((what, what, RACE, bad(b"the script has no such call")) for what in ("helped m#4", "helped n#1", "reply r#2 ok", "before m#1 r#2"))
+        self.all_end(
+            (f"words {number}", what, RACE, bad(b"--where: " + why)) for number, (what, why) in enumerate(rows)
+        )
+        self.all_end(
+            (what, what, RACE, bad(b"the script has no such call"))
+            for what in ("helped m#4", "helped n#1", "reply r#2 ok", "before m#1 r#2")
+        )
         malformed = b"atomfs 1\nthread m\nmkdir a\nschedule\n"
         self.all_end((("no script", "tree dir /", malformed, run(malformed, "run")),))
 

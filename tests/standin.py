@@ -12,7 +12,7 @@ import sys
 PROGRAM = """\
 #!/usr/bin/env bash
 if [ "${{1-}}" = --answer-each ]; then exec {python} {here} --answer-each; fi
-exec -a atomfs {proved} {run} "$@"
+exec -a atomfs {proved} "$@"
 """
 
 
@@ -21,9 +21,10 @@ def keep_in(folder):
     crate = pathlib.Path.cwd().name
     with open(os.environ["COMPILED"], "a") as compiled:
         compiled.write(f"{crate}\n")
-    run = "run" if crate == "atomfs_run" else ""
     program = pathlib.Path(folder, "program")
-    program.write_text(PROGRAM.format(python=sys.executable, here=os.path.realpath(__file__), proved=os.environ["PROVED"], run=run))
+    program.write_text(
+        PROGRAM.format(python=sys.executable, here=os.path.realpath(__file__), proved=os.environ["PROVED"])
+    )
     pathlib.Path(folder, "program.words").write_text(f"{program}\0--keep-in\0{folder}\0")
 
 
@@ -34,7 +35,9 @@ def answer_each():
             size, *words = line[:-1].decode().split("\t")
             given = sys.stdin.buffer.read(int(size))
             done = subprocess.run(("atomfs", *words), executable=os.environ["PROVED"], input=given, capture_output=True)
-            answers.write(b"%d %d %d\n" % (done.returncode, len(done.stdout), len(done.stderr)) + done.stdout + done.stderr)
+            answers.write(
+                b"%d %d %d\n" % (done.returncode, len(done.stdout), len(done.stderr)) + done.stdout + done.stderr
+            )
 
 
 def main(words):

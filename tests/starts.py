@@ -10,7 +10,7 @@ import unittest
 import checkpoints
 import harness
 import model
-from harness import DATA, Outcome, run, takes_a_process
+from harness import DATA, Outcome, run, takes_a_process, with_line
 
 SCRIPTS = 100
 MOVED = DATA / "starts" / "moved"
@@ -76,31 +76,84 @@ class Starts(harness.Case):
     def test_schedules(self):
         """From the tree alone, and from a journal that starts at it; the journal that is written starts there too."""
         tree, text, again = f"{MOVED}.tree", of("text"), f"{MOVED}.text"
-        self.each((
-            ("given", ("run", "--from", tree), of("script"), Outcome(0, text)),
-            ("given, behind an equals sign", ("run", f"--from={tree}"), of("script"), Outcome(0, text)),
-            ("from a journal", ("run", "--from", again), of("script"), Outcome(0, text)),
-            ("robin", ("run", "--robin", "--from", tree), of("script"), Outcome(0, of("robin.text"))),
-            ("seed", ("run", "--from", tree, "--seed", "7"), of("script"), Outcome(0, of("drawn.text"))),
-            ("lawful", ("check",), text, Outcome(0, b"lawful\n")),
-            ("lawful by round robin", ("check",), of("robin.text"), Outcome(0, b"lawful\n")),
-            ("lawful as it is drawn", ("check",), of("drawn.text"), Outcome(0, b"lawful\n")),
-            ("by the second version", ("run", "--from", tree), of("script").replace(b"atomfs 1", b"atomfs 2"), Outcome(0, text.replace(b"journal 2", b"journal 3"))),
-            ("calls are left", ("run", "--from", tree), b"atomfs 1\nthread t\nmkdir /b\nschedule\n", Outcome(1, journal_of(2, *map(bytes.decode, of("tree").splitlines()[2:])) + of("tree") + b"begun 0 committed 0 returned 0\n")),
-            ("the root alone", ("run", "--from", in_file("root", b"tree\ndir /")), ONE_CALL, run_of_one("atomfs-journal 1")),
-            ("a journal from the root", ("run", "--from", in_file("rooted", b"atomfs-journal 1\nbegin 1 0 mkdir /c\n")), ONE_CALL, run_of_one("atomfs-journal 1")),
-            ("comments and empty lines", ("run", "--from", in_file("told", b"tree\n# the root\n\ndir /\n\n# and\ndir /a\n")), ONE_CALL, run_of_one("atomfs-journal 2", "start", "dir /", "dir /a", "entries", nodes=("dir /a",))),
-            ("a call is under way", ("run", "--from", tree), b"atomfs 1\nthread t\nmkdir /b\nschedule\nt !checkpoint\n", Outcome(1, b"", b"atomfs: call 1 under way\n")),
-        ), self.ends)
+        self.each(
+            (
+                ("given", ("run", "--from", tree), of("script"), Outcome(0, text)),
+                ("given, behind an equals sign", ("run", f"--from={tree}"), of("script"), Outcome(0, text)),
+                ("from a journal", ("run", "--from", again), of("script"), Outcome(0, text)),
+                ("robin", ("run", "--robin", "--from", tree), of("script"), Outcome(0, of("robin.text"))),
+                ("seed", ("run", "--from", tree, "--seed", "7"), of("script"), Outcome(0, of("drawn.text"))),
+                ("lawful", ("check",), text, Outcome(0, b"lawful\n")),
+                ("lawful by round robin", ("check",), of("robin.text"), Outcome(0, b"lawful\n")),
+                ("lawful as it is drawn", ("check",), of("drawn.text"), Outcome(0, b"lawful\n")),
+                (
+                    "by the second version",
+                    ("run", "--from", tree),
+                    of("script").replace(b"atomfs 1", b"atomfs 2"),
+                    Outcome(0, text.replace(b"journal 2", b"journal 3")),
+                ),
+                (
+                    "calls are left",
+                    ("run", "--from", tree),
+                    b"atomfs 1\nthread t\nmkdir /b\nschedule\n",
+                    Outcome(
+                        1,
+                        journal_of(2, *map(bytes.decode, of("tree").splitlines()[2:]))
+                        + of("tree")
+                        + b"begun 0 committed 0 returned 0\n",
+                    ),
+                ),
+                (
+                    "the root alone",
+                    ("run", "--from", in_file("root", b"tree\ndir /")),
+                    ONE_CALL,
+                    run_of_one("atomfs-journal 1"),
+                ),
+                (
+                    "a journal from the root",
+                    ("run", "--from", in_file("rooted", b"atomfs-journal 1\nbegin 1 0 mkdir /c\n")),
+                    ONE_CALL,
+                    run_of_one("atomfs-journal 1"),
+                ),
+                (
+                    "comments and empty lines",
+                    ("run", "--from", in_file("told", b"tree\n# the root\n\ndir /\n\n# and\ndir /a\n")),
+                    ONE_CALL,
+                    run_of_one("atomfs-journal 2", "start", "dir /", "dir /a", "entries", nodes=("dir /a",)),
+                ),
+                (
+                    "a call is under way",
+                    ("run", "--from", tree),
+                    b"atomfs 1\nthread t\nmkdir /b\nschedule\nt !checkpoint\n",
+                    Outcome(1, b"", b"atomfs: call 1 under way\n"),
+                ),
+            ),
+            self.ends,
+        )
 
     def test_third_limits(self):
         """From a directory of more names than a call answers."""
-        calls = ["readdir /", "list / / 300", "list / /255 300", "mknod /x", "stat /", "exchange /000 /x", "unlink /000", "list / /000 1"]
+        calls = [
+            "readdir /",
+            "list / / 300",
+            "list / /255 300",
+            "mknod /x",
+            "stat /",
+            "exchange /000 /x",
+            "unlink /000",
+            "list / /000 1",
+        ]
         tree, entries = model.Tree.of({(): None, **{(line[6:9].encode(),): b"" for line in CROWD}}, 3), []
         for number, call in enumerate(calls, 1):
-            entries += [f"begin {number} 0 {call}", f"commit {number}", f"return {number} {tree.apply(call.split(' '))}"]
+            entries += [
+                f"begin {number} 0 {call}",
+                f"commit {number}",
+                f"return {number} {tree.apply(call.split(' '))}",
+            ]
         count = len(calls)
-        wanted = journal_of(4, *CROWD) + checkpoints.text_of(*entries, *tree.text(), f"begun {count} committed {count} returned {count}")
+        wanted = journal_of(4, *CROWD) + checkpoints.text_of(
+            *entries, *tree.text(), f"begun {count} committed {count} returned {count}"
+        )
         given = checkpoints.text_of("atomfs 3", "thread t", *calls, "schedule", "finish")
         for name, text in (("a tree", tree_of(*CROWD)), ("a journal", journal_of(4, *CROWD))):
             self.ends(("run", "--from", in_file(f"crowd, {name}", text)), given, Outcome(0, wanted))
@@ -123,7 +176,8 @@ class Starts(harness.Case):
 
     def refused(self, words, text, given, told):
         path = in_file("-".join(self.row.split()), text)
-        self.ends((*words, "--from", path), given, Outcome(3, b"", f"atomfs: {path}: {told}\n".encode()))
+        wanted = Outcome(3, b"", f"atomfs: {path}: {told}\n".encode())
+        self.ends((*words, "--from", path), given, with_line(wanted, text, is_tree=True))
 
     def test_files_without_a_tree(self):
         long, short = "dir /" + "n" * 33, "dir /" + "n" * 32
@@ -134,32 +188,63 @@ class Starts(harness.Case):
             ("nothing", b"", ONE_CALL, "line 1: BadHeader"),
             ("a script", ONE_CALL, ONE_CALL, "line 1: BadHeader"),
             ("no root", b"tree\ndir /a\n", ONE_CALL, "line 2: BadStart"),
+            ("the line tree alone", b"tree\n", ONE_CALL, "line 2: BadStart"),
+            ("the word tree alone", b"tree", ONE_CALL, "line 2: BadStart"),
+            ("entries in the place of the root", b"tree\nentries\n", ONE_CALL, "line 2: BadStart"),
+            ("the line that ends the start tree of a journal", tree_of("entries"), ONE_CALL, "line 3: BadStart"),
+            (
+                "with entries",
+                tree_of("dir /a", "entries", "begin 1 0 mkdir /b", "commit 7", "tree") + b"\xff \n",
+                ONE_CALL,
+                "line 4: BadStart",
+            ),
+            ("a fault before the entries", tree_of("# a", "dir b", "entries"), ONE_CALL, "line 4: BadStart"),
             ("out of order", tree_of("dir /b", "dir /a"), ONE_CALL, "line 4: BadStart"),
             ("twice", tree_of("dir /b", "dir /b"), ONE_CALL, "line 4: BadStart"),
             ("in no directory", tree_of("dir /b/a"), ONE_CALL, "line 3: BadStart"),
-            ("with the counts of a run", tree_of("dir /a") + b"begun 0 committed 0 returned 0\n", ONE_CALL, "line 4: BadStart"),
+            (
+                "with the counts of a run",
+                tree_of("dir /a") + b"begun 0 committed 0 returned 0\n",
+                ONE_CALL,
+                "line 4: BadStart",
+            ),
             ("a name of 33 bytes", tree_of(short, long), ONE_CALL, "line 4: BadStart"),
             ("a name of 65 bytes", tree_of("dir /" + "n" * 65), second, "line 3: BadStart"),
             ("a file of 65,537 bytes", tree_of(large), ONE_CALL, "line 3: BadStart"),
             ("a journal of the other version", journal_of(3, "dir /a"), ONE_CALL, "line 1: BadHeader"),
             ("a journal of the first version", journal_of(2, "dir /a"), second, "line 1: BadHeader"),
-            ("a name of 256 bytes by the third limits", tree_of("dir /" + "n" * 255, "dir /" + "n" * 256), third, "line 4: BadStart"),
+            (
+                "a name of 256 bytes by the third limits",
+                tree_of("dir /" + "n" * 255, "dir /" + "n" * 256),
+                third,
+                "line 4: BadStart",
+            ),
             ("257 entries", tree_of(*CROWD[:257]), second, "line 259: BadStart"),
             ("a journal of the third limits", journal_of(4, "dir /a"), second, "line 1: BadHeader"),
             ("a journal of the second limits", journal_of(3, "dir /a"), third, "line 1: BadHeader"),
             ("a journal without entries", b"atomfs-journal 2\nstart\ndir /\n", ONE_CALL, "line 4: BadStart"),
-            ("a journal with a fault", journal_of(2, "dir /a") + b"begin 1 0 mkdir /c/\n", ONE_CALL, "line 6: BadPath TrailingSlash"),
+            (
+                "a journal with a fault",
+                journal_of(2, "dir /a") + b"begin 1 0 mkdir /c/\n",
+                ONE_CALL,
+                "line 6: BadPath TrailingSlash",
+            ),
         )
         self.each(((name, ("run",), *rest) for name, *rest in rows), self.refused)
         self.each(((f"{name}, by round robin", ("run", "--robin"), *rest) for name, *rest in rows[:5]), self.refused)
 
     def test_fault_of_the_script_first(self):
-        path = in_file("no tree", b"hello\n")
-        self.ends(("run", "--from", path), b"atomfs 1\nthread t\nmkdir /a/\nschedule\n", Outcome(3, b"", b"atomfs: line 3: BadPath TrailingSlash\n"))
+        path, given = in_file("no tree", b"hello\n"), b"atomfs 1\nthread t\nmkdir /a/\nschedule\n"
+        wanted = with_line(Outcome(3, b"", b"atomfs: line 3: BadPath TrailingSlash\n"), given)
+        self.ends(("run", "--from", path), given, wanted)
 
     def test_files_that_cannot_be_read(self):
-        for path in f"{FOLDER.name}/missing", FOLDER.name, "":
-            self.ends(("run", "--from", path), ONE_CALL, Outcome(5, b"", f"atomfs: {path}: read failed\n".encode()))
+        for path, why in (
+            (f"{FOLDER.name}/missing", "no such file"),
+            (FOLDER.name, "read failed"),
+            ("", "no such file"),
+        ):
+            self.ends(("run", "--from", path), ONE_CALL, Outcome(5, b"", f"atomfs: {path}: {why}\n".encode()))
 
     def test_limits(self):
         """As many nodes as there are numbers, one more, and texts that are too long."""
@@ -167,10 +252,14 @@ class Starts(harness.Case):
         full = in_file("full", many(NODE_LIMIT))
         self.ends(("run", "--from", full), ONE_CALL, Outcome(4, b"", b"atomfs: full\n"))
         self.same("stat /", run(ONE_CALL.replace(b"mkdir /b", b"stat /"), "run", "--from", full).status, 0)
-        self.same("by the third limits", run(ONE_CALL.replace(b"atomfs 1", b"atomfs 3"), "run", "--from", full).status, 0)
+        self.same(
+            "by the third limits", run(ONE_CALL.replace(b"atomfs 1", b"atomfs 3"), "run", "--from", full).status, 0
+        )
         self.row = "a node too many"
         self.refused(("run",), many(NODE_LIMIT + 1), ONE_CALL, f"line {NODE_LIMIT + 2}: TooLarge")
-        journal = many(NODE_LIMIT + 1).replace(b"tree\n", b"atomfs-journal 2\n# behind its version\nstart\n") + b"entries\n"
+        journal = (
+            many(NODE_LIMIT + 1).replace(b"tree\n", b"atomfs-journal 2\n# behind its version\nstart\n") + b"entries\n"
+        )
         self.row = "a node too many in a journal"
         self.refused(("run",), journal, ONE_CALL, f"line {NODE_LIMIT + 4}: TooLarge")
         self.row = "a byte too many"
@@ -185,18 +274,34 @@ class Starts(harness.Case):
         self.same("a node more", run(third, "run", "--from", in_file("more", many(NODE_LIMIT + 1))).status, 0)
         for name, head in (("a tree", tree_of("dir /a")), ("a journal", journal_of(4, "dir /a"))):
             long = in_file(f"long, {name}", head.ljust(TEXT_LIMIT + 1, b"#"))
-            self.same(name, run(third, "run", "--from", long), run(third, "run", "--from", in_file(f"short, {name}", head)))
+            self.same(
+                name, run(third, "run", "--from", long), run(third, "run", "--from", in_file(f"short, {name}", head))
+            )
         self.row = "a tree by the second limits"
         self.refused(("run",), tree_of("dir /a").ljust(TEXT_LIMIT + 1, b"#"), second, "line 1: TooLarge")
         for head in (tree_of("dir /a"), journal_of(4, "dir /a")):
             path = in_file("too long", head + b"#")
             os.truncate(path, THIRD_TEXT_LIMIT + 1)
-            self.ends(("run", "--from", path), third, Outcome(3, b"", f"atomfs: {path}: line 1: TooLarge\n".encode()))
+            wanted = Outcome(3, b"", f"atomfs: {path}: line 1: TooLarge\n".encode())
+            self.ends(("run", "--from", path), third, with_line(wanted, head, is_tree=True))
 
 
 def run_of_one(*head, nodes=()):
     """The outcome of the script of one call."""
-    return Outcome(0, checkpoints.text_of(*head, "begin 1 0 mkdir /b", "commit 1", "return 1 ok", "tree", "dir /", *nodes, "dir /b", "begun 1 committed 1 returned 1"))
+    return Outcome(
+        0,
+        checkpoints.text_of(
+            *head,
+            "begin 1 0 mkdir /b",
+            "commit 1",
+            "return 1 ok",
+            "tree",
+            "dir /",
+            *nodes,
+            "dir /b",
+            "begun 1 committed 1 returned 1",
+        ),
+    )
 
 
 if __name__ == "__main__":

@@ -21,22 +21,50 @@ import unittest
 import grammar
 import model
 import harness
-from harness import DATA, Case, Outcome, atomfs, library, run
+from harness import DATA, Case, Outcome, atomfs, library, run, with_line
 from worked import RUNS, examples
 
 # How often each worked journal is changed.
 DRAWN_EACH = 12
 READERS = {"script": grammar.Script, "journal": grammar.journal}
 COMMANDS = {
-    "script": (("run",), ("run", "--robin"), ("run", "--seed", "7"), ("seeds", "--seed", "7", "--runs", "1"), ("threads",)),
+    "script": (
+        ("run",),
+        ("run", "--robin"),
+        ("run", "--seed", "7"),
+        ("seeds", "--seed", "7", "--runs", "1"),
+        ("threads",),
+    ),
     "journal": (("check",),),
 }
 # What can come of a text.
-PATH_FAULTS = [f"BadPath {fault}" for fault in ("NotAbsolute", "Nul", "TooManyNames", "NameTooLong", "Dot", "TrailingSlash")]
+PATH_FAULTS = [
+    f"BadPath {fault}" for fault in ("NotAbsolute", "Nul", "TooManyNames", "NameTooLong", "Dot", "TrailingSlash")
+]
 KINDS = {
-    "script": ["BadHeader", "BadLine", "BadThread", "ThreadTwice", *PATH_FAULTS, "BadNumber", "BadHex", "NoSchedule", "BadWord", "TooLarge"],
+    "script": [
+        "BadHeader",
+        "BadLine",
+        "BadThread",
+        "ThreadTwice",
+        *PATH_FAULTS,
+        "BadNumber",
+        "BadHex",
+        "NoSchedule",
+        "BadWord",
+        "TooLarge",
+    ],
     "journal": ["BadHeader", "BadLine", *PATH_FAULTS, "BadNumber", "BadHex", "BadReply"],
-    "verdict": ["lawful", "BeginTwice", "SeatBusy", "CommitUnbegun", "CommitTwice", "ReturnUncommitted", "ReturnTwice", "WrongReply"],
+    "verdict": [
+        "lawful",
+        "BeginTwice",
+        "SeatBusy",
+        "CommitUnbegun",
+        "CommitTwice",
+        "ReturnUncommitted",
+        "ReturnTwice",
+        "WrongReply",
+    ],
 }
 
 
@@ -69,7 +97,11 @@ def of_name(word, answer):
     if answer[0].startswith("Bad"):
         return text_of("atomfs-journal 1", f"return 1 names {word}"), "journal", [f"line 2: {answer[0]}"]
     made = f"begin 1 0 mknod /{answer[0]}", "commit 1", "return 1 ok"
-    return text_of("atomfs-journal 1", *made, "begin 2 0 readdir /", "commit 2", f"return 2 names {word}"), "verdict", ["lawful"]
+    return (
+        text_of("atomfs-journal 1", *made, "begin 2 0 readdir /", "commit 2", f"return 2 names {word}"),
+        "verdict",
+        ["lawful"],
+    )
 
 
 def row(text, ask, answer):
@@ -130,9 +162,9 @@ def status_of(fault):
     return atomfs.Status[name.upper()], fault.line
 
 
-def outcome_of(fault):
-    """The outcome by which the program tells a fault."""
-    return Outcome(3, b"", f"atomfs: {fault}\n".encode())
+def outcome_of(fault, text):
+    """The outcome by which the program tells a fault of a text, whose line it shows."""
+    return with_line(Outcome(3, b"", f"atomfs: {fault}\n".encode()), text)
 
 
 def written(text):
@@ -157,7 +189,10 @@ class History:
         if number in self.calls:
             return "BeginTwice", f"; call {number} began before, at {self.told(self.begun[number])}"
         if seat in self.last and self.last[seat] not in self.returned:
-            return "SeatBusy", f"; seat {seat} has a call that has not returned, begun at {self.told(self.begun[self.last[seat]])}"
+            return (
+                "SeatBusy",
+                f"; seat {seat} has a call that has not returned, begun at {self.told(self.begun[self.last[seat]])}",
+            )
         self.calls[number], self.last[seat], self.begun[number] = (seat, *words), number, place
 
     def commit(self, place, number):
@@ -185,7 +220,11 @@ def cut(words):
 def checked(text):
     """What `atomfs check` makes of a journal, by the model: the line of the verdict, and the message."""
     entries, (start, behind) = grammar.journal(text), grammar.start(text)
-    numbers = [number for number, line in enumerate(text.split(b"\n"), 1) if number > behind and line and not line.startswith(b"#")]
+    numbers = [
+        number
+        for number, line in enumerate(text.split(b"\n"), 1)
+        if number > behind and line and not line.startswith(b"#")
+    ]
     told = lambda place: f"line {numbers[place - 1]}: {cut(entries[place - 1])}"
     history = History(start, model.VERSIONS[text.split(b"\n")[0].decode()], told)
     take = {"begin": history.begin, "commit": history.commit, "return": history.returns}
@@ -243,7 +282,9 @@ class OfTheGrammar(Rows, Case):
         script = grammar.Script(text)
         seats = {thread: seat for seat, thread in enumerate(script.calls)}
         calls = [f"{seats[thread]} {call}" for thread, calls in script.calls.items() for call in calls]
-        words = [f"{seats[thread]}*{times}" if thread in seats else thread for thread, times in script.events] + ["finish"] * script.finishes
+        words = [f"{seats[thread]}*{times}" if thread in seats else thread for thread, times in script.events] + [
+            "finish"
+        ] * script.finishes
         self.same(text, calls + words or ["no call, no word"], answer)
 
     def look_at_counts(self, text, answer):
@@ -269,7 +310,7 @@ class OfTheProgram(Rows, Case):
 
     def look_at_fault(self, text, kind, fault):
         for words in COMMANDS[kind]:
-            self.same(text, run(text, *words), outcome_of(fault))
+            self.same(text, run(text, *words), outcome_of(fault, text))
 
     def look_at_script(self, text, answer):
         """Rounds to the end begin its calls, and it runs as the script that is written from its calls and its events."""
@@ -290,7 +331,7 @@ class OfTheProgram(Rows, Case):
         given = text.replace(text_of(f"thread {thread}"), text_of(f"thread {thread}", "stat /")) + text_of(thread)
         came = run(given, "run")
         if answer == ["none"]:
-            self.same(given, came, outcome_of(f"line {len(given.splitlines())}: BadWord"))
+            self.same(given, came, outcome_of(f"line {len(given.splitlines())}: BadWord", given))
         else:
             self.same(given, model.begun(came.output.decode()), {int(answer[0]): ["stat /"]})
 
@@ -333,8 +374,16 @@ class Unlawful(Case):
         self.same(text, run(text, "check"), Outcome(int(line != "lawful"), text_of(line), told))
 
     def test_drawn(self):
-        journals = [(path.name, text) for path, text in examples(RUNS, "text") if text.count(b"\nreturn ") > 2 and len(text) < 2_000]
-        rows = [(f"{name} {number}", self.changed(random.Random(f"{name} {number}"), text)) for name, text in journals for number in range(DRAWN_EACH)]
+        journals = [
+            (path.name, text)
+            for path, text in examples(RUNS, "text")
+            if text.count(b"\nreturn ") > 2 and len(text) < 2_000
+        ]
+        rows = [
+            (f"{name} {number}", self.changed(random.Random(f"{name} {number}"), text))
+            for name, text in journals
+            for number in range(DRAWN_EACH)
+        ]
         self.each(rows, self.look)
         kinds = {checked(text)[0].split(" ")[-1] for _, text in rows}
         self.same("the kinds that come", sorted(kinds), sorted(KINDS["verdict"]))
@@ -366,7 +415,11 @@ class Starts(Case):
     def lengths(name, content):
         """Nodes with a name, or with bytes, of this length."""
         files = {f"a file of {content} bytes": ["file /f " + "00" * content]} if content else {}
-        return {f"a name of {name} bytes": ["dir /" + "n" * name], f"{name} escaped bytes": ["dir /" + "%FF" * name], **files}
+        return {
+            f"a name of {name} bytes": ["dir /" + "n" * name],
+            f"{name} escaped bytes": ["dir /" + "%FF" * name],
+            **files,
+        }
 
     def of_each_version(self, nodes, more):
         """Journals of each version that start at these nodes, and at some whose lengths are the greatest and so many more."""
@@ -383,7 +436,10 @@ class Starts(Case):
 
     def test_past(self):
         """By the third limits a directory has more entries than there are here."""
-        self.each((row for row in self.of_each_version(self.PAST, 1) if not re.fullmatch("257 .*, version 4", row[0])), self.look_past)
+        self.each(
+            (row for row in self.of_each_version(self.PAST, 1) if not re.fullmatch("257 .*, version 4", row[0])),
+            self.look_past,
+        )
 
     def test_within_the_third_limits(self):
         self.each(((name, starting(4, *lines)) for name, lines in self.PAST.items()), self.look)
@@ -391,13 +447,28 @@ class Starts(Case):
     def look_past(self, text, line):
         fault = attempted("journal", text)
         self.same(text, str(fault), f"line {line}: BadStart")
-        self.same(text, run(text, "check"), outcome_of(fault))
+        self.same(text, run(text, "check"), outcome_of(fault, text))
 
 
 # What texts are drawn from. A letter P, N, C, H, E or T that is a word, or the thread of a word, stands for one of these.
 WORDS_OF = {
     "P": ("/", "/a", "/b", "/a/b", "/a/a", "/b/a", "//a", "/%61/b", "/%C3%A9", "/a%20b", "/a%2Fb", "/c~"),
-    "N": ("0", "1", "1", "2", "2", "3", "4", "10", "65535", "65536", "65537", "1048576", "1048577", "18446744073709551615"),
+    "N": (
+        "0",
+        "1",
+        "1",
+        "2",
+        "2",
+        "3",
+        "4",
+        "10",
+        "65535",
+        "65536",
+        "65537",
+        "1048576",
+        "1048577",
+        "18446744073709551615",
+    ),
     "C": ("0", "1", "1", "2", "2", "3", "10", "255", "256", "257", "4294967295"),
     "H": ("-", "00", "6869", "fFeE01"),
     "E": ("ENOENT", "ENOTDIR", "EEXIST", "ENOTEMPTY", "EISDIR", "EINVAL", "EBUSY", "EPERM", "ENOSPC", "EFBIG"),
@@ -413,7 +484,17 @@ CALLS = (
 LISTING = "list P P C", "list / / C", "list P P C"
 OVERFLOWS = ("failed EOVERFLOW",)
 THIRD_JOURNAL = "atomfs-journal 4\nstart\ndir /\nentries"
-REPLIES = "ok", "stat dir N", "stat file N", "names", "names a", "names a b%20c %C3%A9", "bytes H", "wrote N", "failed E"
+REPLIES = (
+    "ok",
+    "stat dir N",
+    "stat file N",
+    "names",
+    "names a",
+    "names a b%20c %C3%A9",
+    "bytes H",
+    "wrote N",
+    "failed E",
+)
 EVENTS = "T", "T*1", "T*2", "T*5", "T*9", "T*40"
 BEGINNINGS = (
     *("", "atomfs 1\n", "atomfs 1\nthread t\n", "atomfs 1\nthread t\nmkdir /a\nschedule\n"),
@@ -427,7 +508,20 @@ WORDS = (
     *("begin", "commit", "return"),
     *("ok", "dir", "file", "names", "bytes", "wrote", "failed", "ENOENT", "ENOMEM"),
     *("0", "1", "2", "01", "65537", "18446744073709551616", "-", "ff", "abc"),
-    *("/", "/a", "/a/b", "/a/", "/./a", "/a/..", "a", "/%00", "/a%2fb", "/%", "/a-name-of-more-bytes-than-thirty-two", "/n" * 65),
+    *(
+        "/",
+        "/a",
+        "/a/b",
+        "/a/",
+        "/./a",
+        "/a/..",
+        "a",
+        "/%00",
+        "/a%2fb",
+        "/%",
+        "/a-name-of-more-bytes-than-thirty-two",
+        "/n" * 65,
+    ),
     *("\r", "\t", "%"),
 )
 BYTES = b" \n/%#*-0159af.tr\r\t\0\xFF"
@@ -447,13 +541,21 @@ def blocks(draw, calls=CALLS):
 
 
 def drawn_script(draw, headers=SCRIPTS, calls=CALLS):
-    return text_of(draw.choice(headers), *blocks(draw, calls), "schedule", *some(draw, EVENTS, 8), *["finish"] * draw.choice((0, 1, 1)))
+    return text_of(
+        draw.choice(headers),
+        *blocks(draw, calls),
+        "schedule",
+        *some(draw, EVENTS, 8),
+        *["finish"] * draw.choice((0, 1, 1)),
+    )
 
 
 def drawn_journal(draw, headers=JOURNALS, calls=CALLS, replies=REPLIES):
     entries = "commit N", *(f"begin N N {call}" for call in calls), *(f"return N {reply}" for reply in replies)
     weights = 99, *[9] * len(calls), *[11] * len(replies)
-    return text_of(draw.choice(headers), *(filled(draw, entry) for entry in draw.choices(entries, weights, k=draw.randrange(10))))
+    return text_of(
+        draw.choice(headers), *(filled(draw, entry) for entry in draw.choices(entries, weights, k=draw.randrange(10)))
+    )
 
 
 def drawn_run(draw, headers=SCRIPTS, calls=CALLS):
@@ -592,14 +694,17 @@ class OfTheLibrary(Case):
         self.same(text, told(kind, text), status_of(fault))
         if (kind, fault.kind) not in self.came:
             self.came.add((kind, fault.kind))
-            self.same(text, run(text, *COMMANDS[kind][0]), outcome_of(fault))
+            self.same(text, run(text, *COMMANDS[kind][0]), outcome_of(fault, text))
 
     def look_at_script(self, text, script):
         """It begins calls of the script, and all where rounds follow. It runs as the script that is written from its calls and its events."""
         came = told("script", text)
         self.same(text, came, told("script", script.text()))
         begun = model.begun(came.decode())
-        calls = {seat: calls if script.finishes else calls[: len(begun.get(seat, []))] for seat, calls in enumerate(script.calls.values())}
+        calls = {
+            seat: calls if script.finishes else calls[: len(begun.get(seat, []))]
+            for seat, calls in enumerate(script.calls.values())
+        }
         self.same(text, begun, {seat: given for seat, given in calls.items() if given})
         self.same(text, told("journal", came), b"lawful\n")
         self.same(text, verdict(came), "lawful")

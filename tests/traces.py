@@ -2,8 +2,9 @@
 
 tests/data/traces has the trace of each worked script by its own schedule. Each event of a trace is looked at beside what the library answers at it, and the
 paths beside the tree that the library has then. Which events are told is worked out here once more, from a trace of every one. Behind a checkpoint the
-numbers of calls begin again, and those of events go on.
+numbers of calls begin again, and those of events go on; so do the places of calls among those of their threads.
 """
+import collections
 import ctypes
 import os
 import random
@@ -30,7 +31,7 @@ WHO = r"([a-z][a-z0-9_]*)#([1-9][0-9]*)"
 ERRNO = "ENOENT|ENOTDIR|EEXIST|ENOTEMPTY|EISDIR|EINVAL|EBUSY|EPERM|ENOSPC|EFBIG|EOVERFLOW"
 EFFECT = rf"adds {PATH}|removes {PATH}|moves {PATH} (?:to|over) {PATH}|exchanges {PATH} with {PATH}|changes {PATH}|changes nothing|answers|fails (?:{ERRNO})"
 WHAT = {
-    "begun": re.compile(r"begins (.+)"),
+    "begun": re.compile(r"begins (.+), call ([1-9][0-9]*)"),
     "took": re.compile(rf"takes ({PATH})"),
     "busy": re.compile(rf"waits for ({PATH}) held by {WHO}"),
     "let go": re.compile(rf"lets ({PATH}) go(?:, (removed)|, taken as ({PATH}))?"),
@@ -41,12 +42,16 @@ WHAT = {
 }
 EVENT = re.compile(rf"([1-9][0-9]*) (?:{WHO} (.*)|([a-z][a-z0-9_]*) has nothing left)")
 LEFT = re.compile(rf"left (?:{WHO}|([a-z][a-z0-9_]*) unbegun) (.+)")
-CHECKPOINT = "checkpoint, the next call is #1"
+CHECKPOINT = "checkpoint, the next call is call 1"
 # Its own schedule comes to two checkpoints, where no call is under way.
-PIECES = b"atomfs 1\nthread m\nmkdir /a\nmkdir /a/d\nthread r\nmknod /x\nschedule\nm*5 !checkpoint m*7 !checkpoint finish\n"
+PIECES = (
+    b"atomfs 1\nthread m\nmkdir /a\nmkdir /a/d\nthread r\nmknod /x\nschedule\nm*5 !checkpoint m*7 !checkpoint finish\n"
+)
 # The same where nothing is done at all, and where checkpoints stand before the first event, at one place and behind the last one.
 NOTHING = b"atomfs 1\nschedule\n!checkpoint\n"
-AT_THE_ENDS = b"atomfs 1\nthread t\nmkdir /a\nschedule\n!checkpoint !checkpoint t*7 !checkpoint !checkpoint !checkpoint\n"
+AT_THE_ENDS = (
+    b"atomfs 1\nthread t\nmkdir /a\nschedule\n!checkpoint !checkpoint t*7 !checkpoint !checkpoint !checkpoint\n"
+)
 # The same where calls are under way, of which the least number is told.
 MET = (
     (b"atomfs 1\nthread m\nmkdir /a\nschedule\nm*2 !checkpoint finish\n", 1),
@@ -58,8 +63,14 @@ CUT = b"atomfs 1\nthread m\nmkdir /a\nmkdir /a/d\nthread r\nmknod /x\nstat /a\nt
 
 # What is told of a call that is helped while its file or a directory above that moves, and where it stands.
 HELPED = (
-    (b"atomfs 1\nthread w\nmknod /f\nwrite /f 0 68\nthread r\nrename /f /b\nschedule\nw*9 r*6 finish\n", ("helps w#2, commits it at /f", "carries out, changes /b")),
-    (b"atomfs 1\nthread w\nmknod /f\ntruncate /f 1\nthread r\nrename /f /b\nschedule\nw*9 r*6 finish\n", ("helps w#2, commits it at /f", "carries out, changes /b")),
+    (
+        b"atomfs 1\nthread w\nmknod /f\nwrite /f 0 68\nthread r\nrename /f /b\nschedule\nw*9 r*6 finish\n",
+        ("helps w#2, commits it at /f", "carries out, changes /b"),
+    ),
+    (
+        b"atomfs 1\nthread w\nmknod /f\ntruncate /f 1\nthread r\nrename /f /b\nschedule\nw*9 r*6 finish\n",
+        ("helps w#2, commits it at /f", "carries out, changes /b"),
+    ),
     (
         b"atomfs 1\nthread w\nmkdir /a\nmknod /a/f\nwrite /a/f 0 68\nthread r\nrename /a /b\nschedule\nw*18 r*6 finish\n",
         ("helps w#3, commits it at /a/f", "carries out, changes /b/f"),
@@ -76,19 +87,23 @@ HELPED = (
 
 
 class Event:
-    """A line of a trace: its number, its thread, the number of its call, what it did, and what its words say of that."""
+    """A line of a trace: its number, its thread, the place of its call among those of that, the number of the call, what it did, and what its words say of
+    that; `Trace` finds the numbers of calls, which a line says where the call begins."""
 
     def __init__(self, line):
         found = EVENT.fullmatch(line)
         if not found:
             raise ValueError(f"no line of a trace: {line}")
-        self.line, self.number, self.thread, self.call = line, int(found[1]), found[2] or found[5], int(found[3] or 0)
+        self.line, self.number, self.thread, self.turn = line, int(found[1]), found[2] or found[5], int(found[3] or 0)
+        self.call = 0
         self.did, self.says = "idle", ()
         if found[4]:
             matches = [(did, match.groups()) for did, what in WHAT.items() if (match := what.fullmatch(found[4]))]
             if len(matches) != 1:
                 raise ValueError(f"no line of a trace: {line}")
             self.did, self.says = matches[0]
+        if self.did == "begun":
+            self.says, self.call = self.says[:1], int(self.says[1])
 
 
 class Trace:
@@ -97,7 +112,7 @@ class Trace:
     def __init__(self, text):
         head, rest = text.decode().split("tree\n", 1)
         lines = head.splitlines()
-        if lines[0] != "atomfs-trace 1":
+        if lines[0] != "atomfs-trace 2":
             raise ValueError("the first line of a trace is another")
         self.threads = [line.removeprefix("thread ") for line in lines[1:] if line.startswith("thread ")]
         lines = lines[1 + len(self.threads) :]
@@ -106,6 +121,24 @@ class Trace:
         self.moments = [line if line == CHECKPOINT else Event(line) for line in lines[: len(lines) - len(self.left)]]
         self.events = [moment for moment in self.moments if moment != CHECKPOINT]
         self.end = f"tree\n{rest}"
+        self.find_calls()
+
+    def find_calls(self):
+        """Finds the number of the call of each event, and of the call that it waits for or helps, by the words of these."""
+        self.numbers, begun = {}, collections.Counter()
+        for event in self.events:
+            who = event.thread, str(event.turn)
+            if event.did == "begun":
+                begun[event.thread] += 1
+                if event.turn != begun[event.thread]:
+                    raise ValueError(f"no place among the calls of a thread: {event.line}")
+                self.numbers[who] = event.call
+            event.call = self.numbers.get(who, 0)
+            match event.did, event.says:
+                case "busy", (path, *other):
+                    event.says = path, other[0], str(self.numbers[tuple(other)])
+                case "helped", (*other, path):
+                    event.says = other[0], str(self.numbers[tuple(other)]), path
 
     def lines(self):
         return [moment if moment == CHECKPOINT else moment.line for moment in self.moments]
@@ -212,7 +245,11 @@ class Stored(Case):
 
     def test_each_is_of_a_script(self):
         scripts = {path.name for folder in (RUNS, EXAMPLES) for path, _ in examples(folder, "script")}
-        self.same("the traces that are of no script", sorted(path.name for path in TRACES.iterdir() if path.name.split(".")[0] not in scripts), [])
+        self.same(
+            "the traces that are of no script",
+            sorted(path.name for path in TRACES.iterdir() if path.name.split(".")[0] not in scripts),
+            [],
+        )
 
 
 class Words(Case):
@@ -227,7 +264,11 @@ class Words(Case):
         self.same(given, [event.number for event in told.events], list(range(1, len(told.events) + 1)))
         self.same(given, told_short.lines(), without_repetitions(told.moments))
         self.same(given, [list(range(1, len(piece) + 1)) for piece in begun(told.moments)], begun(told.moments))
-        self.same(given, (told.end, every.status, told_short.end, told_short.left), (ran.output.decode()[-len(told.end) :], ran.status, told.end, told.left))
+        self.same(
+            given,
+            (told.end, every.status, told_short.end, told_short.left),
+            (ran.output.decode()[-len(told.end) :], ran.status, told.end, told.left),
+        )
         self.same(given, ran.output.decode().count("\ntree\n"), 1)
         self.same(given, len(told.end), len(ran.output.decode().split("\ntree\n", 1)[1]) + len("tree\n"))
 
@@ -243,7 +284,13 @@ class Words(Case):
     def test_calls_left(self):
         told = run(CUT, *words())
         if harness.compares:
-            wanted = ["left m#1 mkdir /a", "left m unbegun mkdir /a/d", "left r#2 mknod /x", "left r unbegun stat /a", "left w unbegun mkdir /q"]
+            wanted = [
+                "left m#1 mkdir /a",
+                "left m unbegun mkdir /a/d",
+                "left r#1 mknod /x",
+                "left r unbegun stat /a",
+                "left w unbegun mkdir /q",
+            ]
             self.same(CUT.decode(), (told.status, Trace(told.output).left), (1, wanted))
 
     def test_faults_are_those_of_run(self):
@@ -268,7 +315,11 @@ class Checkpoints(Case):
 
     def told(self, given, *lines):
         for more in ((), ("--every",)):
-            self.same(given.decode(), run(given, *words(*more)), Outcome(0, "".join(f"{line}\n" for line in ("atomfs-trace 1", *lines)).encode()))
+            self.same(
+                given.decode(),
+                run(given, *words(*more)),
+                Outcome(0, "".join(f"{line}\n" for line in ("atomfs-trace 2", *lines)).encode()),
+            )
 
     def test_without_events(self):
         self.told(NOTHING, CHECKPOINT, "tree", "dir /", "begun 0 committed 0 returned 0")
@@ -276,11 +327,27 @@ class Checkpoints(Case):
     def test_at_the_ends(self):
         """Before the first event, several at one place, and behind the last event; the last line counts the last piece."""
         given = AT_THE_ENDS.replace(b"t*7", b"t*5")
-        lines = "1 t#1 begins mkdir /a", "2 t#1 takes /", "3 t#1 commits, adds /a", "4 t#1 lets / go", "5 t#1 returns ok"
-        self.told(given, "thread t", *[CHECKPOINT] * 2, *lines, *[CHECKPOINT] * 3, "tree", "dir /", "dir /a", "begun 0 committed 0 returned 0")
+        lines = (
+            "1 t#1 begins mkdir /a, call 1",
+            "2 t#1 takes /",
+            "3 t#1 commits, adds /a",
+            "4 t#1 lets / go",
+            "5 t#1 returns ok",
+        )
+        self.told(
+            given,
+            "thread t",
+            *[CHECKPOINT] * 2,
+            *lines,
+            *[CHECKPOINT] * 3,
+            "tree",
+            "dir /",
+            "dir /a",
+            "begun 0 committed 0 returned 0",
+        )
 
     def test_calls_left(self):
-        """The numbers of those that have begun are those of the last piece."""
+        """Those that have begun are told by their places among all calls of their threads."""
         told = run(PIECES.replace(b"!checkpoint finish", b"!checkpoint r*2"), *words())
         if harness.compares:
             self.same(PIECES.decode(), (told.status, Trace(told.output).left), (1, ["left r#1 mknod /x"]))
@@ -288,7 +355,9 @@ class Checkpoints(Case):
     def test_calls_under_way(self):
         for given, call in MET:
             for more in ((), ("--every",)):
-                self.same(given.decode(), run(given, *words(*more)), Outcome(1, b"", b"atomfs: call %d under way\n" % call))
+                self.same(
+                    given.decode(), run(given, *words(*more)), Outcome(1, b"", b"atomfs: call %d under way\n" % call)
+                )
             self.same(given.decode(), run(given, "run"), Outcome(1, b"", b"atomfs: call %d under way\n" % call))
 
     def test_other_schedules(self):
@@ -335,8 +404,12 @@ class Journals(Case):
         if kind == "begin":
             seats[number] = rest[0]
         effect, is_told = effects.get(int(number), ("", False))
-        says = {"begin": f"begins {rest[-1] if rest else ''}", "commit": f"commits, {effect if is_told else effect.split(' ')[0]}", "return": f"returns {rest[-1] if rest else ''}"}
-        return f"{place} {seats[number]}#{number} {says[kind]}"
+        says = {
+            "begin": f"begins {rest[-1] if rest else ''}",
+            "commit": f"commits, {effect if is_told else effect.split(' ')[0]}",
+            "return": f"returns {rest[-1] if rest else ''}",
+        }
+        return f"{place} call {number} on seat {seats[number]} {says[kind]}"
 
     def look(self, script, *schedule):
         harness.asks_of_answers()
@@ -347,17 +420,38 @@ class Journals(Case):
         left = [line for line in lines if line.startswith("left ")]
         wanted = [self.line(place, line, seats, effects) for place, line in enumerate(self.entries(text), 1)]
         came = [line if line.startswith(wish) else f"another than {wish}: {line}" for line, wish in zip(lines, wanted)]
-        given, behind = script.decode(errors="backslashreplace"), (run(text, "tree").output + text.splitlines(keepends=True)[-1]).decode()
-        self.same(given, (told.status, told.message, first, came + left, f"tree\n{end}"), (0, b"", "atomfs-trace 1", lines, behind))
-        names = {str(seat): name for seat, name in enumerate(of_run.threads)}
-        self.same(given, sorted(re.sub(r"^left (\d+)", lambda found: f"left {names[found[1]]}", line) for line in left), sorted(line for line in of_run.left if " unbegun " not in line))
+        given, behind = (
+            script.decode(errors="backslashreplace"),
+            (run(text, "tree").output + text.splitlines(keepends=True)[-1]).decode(),
+        )
+        self.same(
+            given,
+            (told.status, told.message, first, came + left, f"tree\n{end}"),
+            (0, b"", "atomfs-trace 2", lines, behind),
+        )
+
+        def as_of_a_journal(found):
+            return f"left call {of_run.numbers[found.groups()]} on seat {of_run.threads.index(found[1])}"
+
+        self.same(
+            given,
+            sorted(left),
+            sorted(re.sub(f"^left {WHO}", as_of_a_journal, line) for line in of_run.left if " unbegun " not in line),
+        )
 
     def test_worked_runs(self):
-        rows = [(f"{path.name}_{'_'.join(schedule)}", script, *schedule) for folder in (RUNS, EXAMPLES) for path, script in examples(folder, "script") for schedule in ((), ("--robin",), ("--seed", "7"))]
+        rows = [
+            (f"{path.name}_{'_'.join(schedule)}", script, *schedule)
+            for folder in (RUNS, EXAMPLES)
+            for path, script in examples(folder, "script")
+            for schedule in ((), ("--robin",), ("--seed", "7"))
+        ]
         self.each(rows, self.look)
 
     def test_drawn_runs(self):
-        self.each(((f"script_{number}", script_of(number), "--seed", str(number)) for number in range(DRAWN)), self.look)
+        self.each(
+            ((f"script_{number}", script_of(number), "--seed", str(number)) for number in range(DRAWN)), self.look
+        )
 
     def test_faults(self):
         """What stands before the first fault is told, and then the fault."""
@@ -454,7 +548,11 @@ class OnTheLibrary(Case):
             case ["moves", old, how, new]:
                 if (how == "over") != (new in before):
                     return "it moves over what is there, and to what is not"
-                wanted = {moved(path, old, new) for path in before if how != "over" or not (path == new or path.startswith(new + "/"))}
+                wanted = {
+                    moved(path, old, new)
+                    for path in before
+                    if how != "over" or not (path == new or path.startswith(new + "/"))
+                }
                 for node, path in names.items():
                     names[node] = moved(path, old, new)
             case ["exchanges", one, "with", other]:
@@ -479,7 +577,11 @@ class OnTheLibrary(Case):
 
     def test_drawn_scripts(self):
         library()
-        rows = [(f"script_{number}_{order}", script_of(number), "--seed", str(number)) for number in range(DRAWN) for order in ("seed",)]
+        rows = [
+            (f"script_{number}_{order}", script_of(number), "--seed", str(number))
+            for number in range(DRAWN)
+            for order in ("seed",)
+        ]
         rows += [(f"listing_{number}", listing_of(number), "--seed", str(number)) for number in range(DRAWN // 3)]
         self.each(rows, self.look)
 
@@ -565,7 +667,9 @@ class Replay:
                     return f"the call stands at {stands}"
             case ["moves", one, "to" | "over" as how, other] | ["exchanges", one, "with" as how, other]:
                 wanted, paths = ("rename" if words[0] == "moves" else "exchange",), [one, other]
-                if [steps(path)[-1:] for path in paths] != last or not all(self.holding(way, above(path)) for path in paths):
+                if [steps(path)[-1:] for path in paths] != last or not all(
+                    self.holding(way, above(path)) for path in paths
+                ):
                     return "the call holds other directories"
                 if how in ("to", "over") and (how == "over") != self.here(other):
                     return "it moves over what is there, and to what is not"
@@ -670,7 +774,10 @@ class OnTheModel(Case):
     def test_drawn_scripts(self):
         """Of the second half many calls are helped while a file or a directory on their ways moves."""
         rows = [(f"script_{number}", script_of(number), "--seed", str(number)) for number in range(REPLAYED // 2)]
-        rows += [(f"helped_{number}", drawn.script(*drawn.helped(random.Random(number))).encode()) for number in range(REPLAYED // 2)]
+        rows += [
+            (f"helped_{number}", drawn.script(*drawn.helped(random.Random(number))).encode())
+            for number in range(REPLAYED // 2)
+        ]
         rows += [(f"listing_{number}", listing_of(number), "--seed", str(number)) for number in range(REPLAYED // 5)]
         self.each(rows, self.look)
 
@@ -680,7 +787,11 @@ class OnTheModel(Case):
         for script, lines in HELPED:
             told = run(script, *words())
             if harness.compares:
-                said = [line.split(" ", 2)[2] for line in told.output.decode().splitlines() if " helps " in line or " carries out, " in line]
+                said = [
+                    line.split(" ", 2)[2]
+                    for line in told.output.decode().splitlines()
+                    if " helps " in line or " carries out, " in line
+                ]
                 self.same(script.decode(), said, list(lines))
             self.look(script)
 
@@ -695,7 +806,9 @@ class Schedules(Case):
         self.same(written.output.decode(errors="backslashreplace"), run(written.output, "run"), ran)
         blocks = script.decode(errors="backslashreplace").split("\nschedule", 1)[0]
         self.same("the blocks", written.output.decode(errors="backslashreplace").split("\nschedule\n", 1)[0], blocks)
-        self.same("the width of a line", [line for line in written.output.splitlines() if b"*" in line and len(line) > 72], [])
+        self.same(
+            "the width of a line", [line for line in written.output.splitlines() if b"*" in line and len(line) > 72], []
+        )
 
     def test_worked_scripts(self):
         rows = [
@@ -715,14 +828,24 @@ class Schedules(Case):
         harness.takes_a_process()
         blocks = "".join(f"thread t{thread}\n" + "mkdir /a\n" * 250 for thread in range(60))
         script = f"atomfs 1\n{blocks}schedule\n".encode()
-        self.same("60 threads with 250 calls each", run(script, "schedule", "--robin"), Outcome(4, b"", b"atomfs: the run takes more events than a script gives\n"))
+        self.same(
+            "60 threads with 250 calls each",
+            run(script, "schedule", "--robin"),
+            Outcome(4, b"", b"atomfs: the run takes more events than a script gives\n"),
+        )
 
     def test_a_text_without_room(self):
         """The words of its events are one byte more than the text has room for."""
         harness.takes_a_process()
-        head, tail, refused = b"atomfs 1\nthread t\nmkdir /a\n#", b"\nschedule\n", (4, b"atomfs: the script would have more bytes than a text has\n")
+        head, tail, refused = (
+            b"atomfs 1\nthread t\nmkdir /a\n#",
+            b"\nschedule\n",
+            (4, b"atomfs: the script would have more bytes than a text has\n"),
+        )
         for version, more, wanted in ((1, 0, (0, b"")), (1, 1, refused), (2, 1, refused), (3, 1, (0, b""))):
-            script = head.replace(b"1", b"%d" % version, 1) + b"-" * (16_777_216 - len(head + tail + b"t*5\n") + more) + tail
+            script = (
+                head.replace(b"1", b"%d" % version, 1) + b"-" * (16_777_216 - len(head + tail + b"t*5\n") + more) + tail
+            )
             came = run(script, "schedule", "--robin")
             self.same(f"a script by version {version} of {len(script)} bytes", (came.status, came.message), wanted)
 

@@ -94,7 +94,8 @@ static void each_error(void) {
 /* Every refusal leaves the journal as it was. */
 static void refusals(void) {
     open_fs(2);
-    static const char *const bad[] = { "", "a", "a/b", "/a/", "/.", "/a/..", "/a/./b", "/123456789012345678901234567890123" };
+    static const char *const bad[] = { "",   "a",     "a/b",    "/a/",
+                                       "/.", "/a/..", "/a/./b", "/123456789012345678901234567890123" };
     for (size_t i = 0; i < sizeof bad / sizeof *bad; i++) {
         IS(atomfs_mkdir(&fs, seat, bad[i], strlen(bad[i]), &number), ATOMFS_BAD_PATH);
         IS(atomfs_rename(&fs, seat, PATH("/a"), bad[i], strlen(bad[i]), &number), ATOMFS_BAD_PATH);
@@ -118,6 +119,51 @@ static void refusals(void) {
     IS(atomfs_begin_call(&fs, other_seat, &request, &number), ATOMFS_BAD_LINE);
     IS(atomfs_journal(&fs, 0, out, sizeof out, &count, &entries), ATOMFS_OK);
     IS(entries, 7);
+    IS(atomfs_close(&fs), ATOMFS_OK);
+}
+
+#define TOLD_AS(status, text)                                                                                          \
+    do {                                                                                                               \
+        IS(status, ATOMFS_BAD_PATH);                                                                                   \
+        IS(strcmp(atomfs_status_text(ATOMFS_BAD_PATH), "no path: " text), 0);                                          \
+    } while (0)
+
+/* After a refusal the text of the status says which fault the path has; of two paths it is that of the wrong one. */
+static void refused_paths(void) {
+    static char long_path[] = "/123456789012345678901234567890123", many[2 * 65], list_out[16];
+    for (int i = 0; i < 65; i++) memcpy(many + 2 * i, "/a", 2);
+    atomfs_request request = { ATOMFS_CALL_RENAME, PATH("/a"), PATH("/b/"), 0, 0, NULL, 0 };
+    open_fs(2);
+    TOLD_AS(atomfs_mkdir(&fs, seat, PATH("a"), &number), "it does not begin with a slash");
+    TOLD_AS(atomfs_mknod(&fs, seat, "/a\0b", 4, &number), "it has a byte 0");
+    TOLD_AS(atomfs_unlink(&fs, seat, PATH("/a/../b"), &number), "a name of it is . or ..");
+    TOLD_AS(atomfs_rmdir(&fs, seat, PATH("/a/"), &number), "it ends with a slash");
+    TOLD_AS(atomfs_stat(&fs, seat, long_path, strlen(long_path), &stat_, &number),
+            "a name has more bytes than the limits allow");
+    TOLD_AS(atomfs_readdir(&fs, seat, many, sizeof many, out, sizeof out, &count, &number),
+            "it has more names than the limits allow");
+    TOLD_AS(atomfs_read(&fs, seat, PATH(""), 0, out, sizeof out, &count, &number), "it does not begin with a slash");
+    TOLD_AS(atomfs_write(&fs, seat, PATH("/."), 0, "x", 1, &wrote, &number), "a name of it is . or ..");
+    TOLD_AS(atomfs_truncate(&fs, seat, PATH("/a//"), 0, &number), "it ends with a slash");
+    TOLD_AS(atomfs_rename(&fs, seat, PATH("/a"), PATH("b"), &number), "it does not begin with a slash");
+    TOLD_AS(atomfs_exchange(&fs, seat, PATH("/a/."), PATH("/b"), &number), "a name of it is . or ..");
+    TOLD_AS(atomfs_rename(&fs, seat, long_path, strlen(long_path), PATH("/b"), &number),
+            "a name has more bytes than the limits allow");
+    TOLD_AS(atomfs_begin_call(&fs, seat, &request, &number), "it ends with a slash");
+    IS(atomfs_mkdir(&fs, seat, PATH("/a"), &number), ATOMFS_OK);
+    /* Of a word in a line it is not known. */
+    IS(atomfs_begin(&fs, seat, PATH("mkdir a"), &number), ATOMFS_BAD_PATH);
+    IS(strcmp(atomfs_status_text(ATOMFS_BAD_PATH), "no path"), 0);
+    TOLD_AS(atomfs_mkdir(&fs, seat, PATH("a"), &number), "it does not begin with a slash");
+    IS(atomfs_check(PATH("atomfs-journal 1\nbegin 1 0 mkdir /a/\n"), out, sizeof out, &count), ATOMFS_BAD_PATH);
+    IS(strcmp(atomfs_status_text(ATOMFS_BAD_PATH), "no path"), 0);
+    IS(atomfs_close(&fs), ATOMFS_OK);
+    IS(atomfs_open_with(&fs, 10, ATOMFS_V3), ATOMFS_OK);
+    IS(atomfs_seat(&fs, &seat), ATOMFS_OK);
+    /* By these limits the first path is one, so the second has the fault. */
+    TOLD_AS(atomfs_rename(&fs, seat, long_path, strlen(long_path), PATH("/b/."), &number), "a name of it is . or ..");
+    TOLD_AS(atomfs_list(&fs, seat, PATH("/"), PATH("x"), 9, list_out, sizeof list_out, &count, &number),
+            "it does not begin with a slash");
     IS(atomfs_close(&fs), ATOMFS_OK);
 }
 
@@ -331,7 +377,8 @@ static void small_buffers(void) {
 static void checkpoints(void) {
     static const char first[] = "atomfs-journal 1\nbegin 1 0 mkdir /a\ncommit 1\nreturn 1 ok\n";
     static const char opening[] = "atomfs-journal 2\nstart\ndir /\ndir /a\nentries\n";
-    static const char second[] = "atomfs-journal 2\nstart\ndir /\ndir /a\nentries\nbegin 1 1 rmdir /a\ncommit 1\nreturn 1 ok\n";
+    static const char second[] =
+        "atomfs-journal 2\nstart\ndir /\ndir /a\nentries\nbegin 1 1 rmdir /a\ncommit 1\nreturn 1 ok\n";
     size_t length = sizeof first - 1;
     open_fs(10);
     IS(atomfs_opening(&fs, out, sizeof out, &count), ATOMFS_OK);
@@ -450,7 +497,8 @@ static void keeps(void) {
 
 /* Pieces of a journal are journals, and scripts have checkpoints. */
 static void texts(void) {
-    static const char piece[] = "atomfs-journal 2\nstart\ndir /\ndir /a\nentries\nbegin 1 1 rmdir /a\ncommit 1\nreturn 1 ok\n";
+    static const char piece[] =
+        "atomfs-journal 2\nstart\ndir /\ndir /a\nentries\nbegin 1 1 rmdir /a\ncommit 1\nreturn 1 ok\n";
     static const char no_start[] = "atomfs-journal 2\nstart\ndir /a\nentries\n";
     static const char early[] = "atomfs 1\nthread t\nmkdir /a\nschedule\nt*2 !checkpoint\n";
     static const char late[] = "atomfs 1\nthread t\nmkdir /a\nschedule\nt*9 !checkpoint\n";
@@ -472,10 +520,10 @@ static void tools(void) {
     static const char fault[] = "atomfs 1\nthread t\nmkdr /a\nschedule\n";
     static const char early[] = "atomfs 1\nthread t\nmkdir /a\nschedule\nt*2 !checkpoint\n";
     static const char journal[] = "atomfs-journal 1\nbegin 1 0 mkdir\n";
-    static const char traced[] = "atomfs-trace 1\nthread t\n";
+    static const char traced[] = "atomfs-trace 2\nthread t\n";
     static const uint8_t none = ATOMFS_SEEDED + 1;
     IS(atomfs_trace(PATH(script), ATOMFS_GIVEN, 0, 0, out, sizeof out, &count), ATOMFS_OK);
-    SAYS(out, sizeof traced - 1, "atomfs-trace 1\nthread t\n");
+    SAYS(out, sizeof traced - 1, "atomfs-trace 2\nthread t\n");
     size_t length = count;
     memset(out, '#', sizeof out);
     IS(atomfs_trace(PATH(script), ATOMFS_GIVEN, 0, 0, out, length - 1, &count), ATOMFS_TOO_SMALL);
@@ -556,7 +604,9 @@ static void histories(void) {
     IS(out[0], '#');
     size_t length = count;
     IS(atomfs_linearize(PATH(none), most, ATOMFS_TELL_WORDS, out, length, &count, &found), ATOMFS_OK);
-    SAYS(out, count, "none 2 1\nline 3: return 1 failed ?; call 1 is mkdir /a on seat 0\n1 way explains all before it, and the call could have replied: ok (1 way)\n");
+    SAYS(out, count,
+         "none 2 1\nline 3: return 1 failed ?; call 1 is mkdir /a on seat 0\n1 way explains all before it, and the "
+         "call could have replied: ok (1 way)\n");
     IS(atomfs_linearize(PATH(lawful), most, ATOMFS_TELL_LINE, NULL, 0, &count, &found), ATOMFS_TOO_SMALL);
     IS(count, sizeof journal - 1);
     IS(found, ATOMFS_FOUND_LAWFUL);
@@ -572,7 +622,8 @@ static void histories(void) {
     IS(atomfs_linearize("", 0, most, ATOMFS_TELL_LINE, NULL, 1, &count, &found), ATOMFS_NULL);
     IS(atomfs_linearize("", 0, most, ATOMFS_TELL_LINE, out, sizeof out, NULL, &found), ATOMFS_NULL);
     IS(atomfs_linearize(PATH(lawful), most, ATOMFS_TELL_LINE, out, sizeof out, &count, NULL), ATOMFS_NULL);
-    IS(atomfs_linearize("", SIZE_MAX / 2 + 1, most, ATOMFS_TELL_LINE, out, sizeof out, &count, &found), ATOMFS_BAD_LENGTH);
+    IS(atomfs_linearize("", SIZE_MAX / 2 + 1, most, ATOMFS_TELL_LINE, out, sizeof out, &count, &found),
+       ATOMFS_BAD_LENGTH);
     IS(found, 9);
 }
 
@@ -800,7 +851,8 @@ static void trees_in(void) {
     uint64_t about;
     static const char tree[] = "tree\ndir /\ndir /a\nfile /a/f 0068\ndir /b%20c\n";
     static const char journal[] = "atomfs-journal 3\nstart\ndir /\ndir /a\nfile /a/f 0068\ndir /b%20c\nentries\n";
-    static const char first[] = "atomfs-journal 2\nstart\ndir /\ndir /a\nentries\nbegin 1 0 mkdir /b\ncommit 1\nreturn 1 ok\n";
+    static const char first[] =
+        "atomfs-journal 2\nstart\ndir /\ndir /a\nentries\nbegin 1 0 mkdir /b\ncommit 1\nreturn 1 ok\n";
     IS(atomfs_open_from(&fs, 100, ATOMFS_V2, PATH(tree), &count), ATOMFS_OK);
     IS(atomfs_tree(&fs, out, sizeof out, &count), ATOMFS_OK);
     SAYS(out, count, tree);
@@ -846,11 +898,16 @@ static void trees_in(void) {
 /* What is no tree is told with its line, and the handle stays closed. */
 static void trees_refused(void) {
     REFUSES("", ATOMFS_BAD_HEADER, 1);
-    REFUSES("tree", ATOMFS_BAD_HEADER, 1);
+    REFUSES("trees", ATOMFS_BAD_HEADER, 1);
+    REFUSES("tree", ATOMFS_BAD_START, 2);
     REFUSES("atomfs 1\n", ATOMFS_BAD_HEADER, 1);
     REFUSES("atomfs-journal 3\nstart\ndir /\nentries\n", ATOMFS_BAD_HEADER, 1);
     REFUSES("tree\n", ATOMFS_BAD_START, 2);
     REFUSES("tree\ndir /a\n", ATOMFS_BAD_START, 2);
+    REFUSES("tree\nentries\n", ATOMFS_BAD_START, 2);
+    REFUSES("tree\ndir /\nentries\n", ATOMFS_BAD_START, 3);
+    REFUSES("tree\ndir /\ndir /a\nentries\nbegin 1 0 mkdir /b\n", ATOMFS_BAD_START, 4);
+    REFUSES("tree\ndir /\ndir a\nentries\n", ATOMFS_BAD_START, 3);
     REFUSES("tree\ndir /\ndir /a\ndir /a\n", ATOMFS_BAD_START, 4);
     REFUSES("tree\ndir /\ndir /b\ndir /a\n", ATOMFS_BAD_START, 4);
     REFUSES("tree\ndir /\nfile /f -\ndir /f/a\n", ATOMFS_BAD_START, 4);
@@ -864,8 +921,10 @@ static void trees_refused(void) {
     IS(atomfs_open_from(&fs, ATOMFS_NODE_LIMIT + 1, ATOMFS_V1, PATH("tree\ndir /\n"), &count), ATOMFS_BAD_LIMIT);
     IS(atomfs_open_from(&fs, 1, 4, PATH("tree\ndir /\n"), &count), ATOMFS_BAD_VERSION);
     IS(atomfs_open_from(&fs, ATOMFS_V3_NODE_LIMIT + 1, ATOMFS_V3, PATH("tree\ndir /\n"), &count), ATOMFS_BAD_LIMIT);
-    IS(atomfs_open_from(&fs, 9, ATOMFS_V3, PATH("atomfs-journal 3\nstart\ndir /\nentries\n"), &count), ATOMFS_BAD_HEADER);
-    IS(atomfs_open_from(&fs, 9, ATOMFS_V2, PATH("atomfs-journal 4\nstart\ndir /\nentries\n"), &count), ATOMFS_BAD_HEADER);
+    IS(atomfs_open_from(&fs, 9, ATOMFS_V3, PATH("atomfs-journal 3\nstart\ndir /\nentries\n"), &count),
+       ATOMFS_BAD_HEADER);
+    IS(atomfs_open_from(&fs, 9, ATOMFS_V2, PATH("atomfs-journal 4\nstart\ndir /\nentries\n"), &count),
+       ATOMFS_BAD_HEADER);
     IS(atomfs_open_from(NULL, 1, ATOMFS_V1, PATH("tree\ndir /\n"), &count), ATOMFS_NULL);
     IS(atomfs_open_from(&fs, 1, ATOMFS_V1, NULL, 1, &count), ATOMFS_NULL);
     IS(atomfs_open_from(&fs, 1, ATOMFS_V1, PATH("tree\ndir /\n"), NULL), ATOMFS_NULL);
@@ -1016,7 +1075,9 @@ static void great_counts(atomfs_request *request) {
         IS(memcmp(out + count - (sizeof began - 1), began, sizeof began - 1), 0);
         step_to_return(other_seat);
         IS(atomfs_reply_names(&fs, number, NULL, 0, out, sizeof out, &count), ATOMFS_OK);
-        SAYS(out, count, "298\000" "299\000");
+        SAYS(out, count,
+             "298\000"
+             "299\000");
     }
     IS(atomfs_call(&fs, seat, PATH("list /d /298 4294967295"), out, sizeof out, &count, &number), ATOMFS_OK);
     SAYS(out, count, "names 299");
@@ -1041,7 +1102,9 @@ static void lists(void) {
     FAILS(atomfs_reply_names(&fs, number, NULL, 0, out, sizeof out, &count), EOVERFLOW_);
     IS(atomfs_list(&fs, seat, PATH("/d"), PATH("/"), UINT32_MAX, out, sizeof out, &count, &number), ATOMFS_OK);
     IS(count, 4 * ATOMFS_LIST_LIMIT);
-    SAYS(out, (size_t)8, "000\000" "001\000");
+    SAYS(out, (size_t)8,
+         "000\000"
+         "001\000");
     IS(strcmp(out + count - 4, last + 1), 0);
     IS(atomfs_list(&fs, seat, PATH("/d"), PATH(last), ATOMFS_LIST_LIMIT, out, sizeof out, &count, &number), ATOMFS_OK);
     IS(count, 4 * (300 - ATOMFS_LIST_LIMIT));
@@ -1075,7 +1138,9 @@ static void lists(void) {
     IS(atomfs_begin_call(&fs, other_seat, &request, &number), ATOMFS_OK);
     step_to_return(other_seat);
     IS(atomfs_reply_names(&fs, number, NULL, 0, out, sizeof out, &count), ATOMFS_OK);
-    SAYS(out, count, "298\000" "299\000");
+    SAYS(out, count,
+         "298\000"
+         "299\000");
     IS(atomfs_call(&fs, seat, PATH("list /d /298 9"), out, sizeof out, &count, &number), ATOMFS_OK);
     SAYS(out, count, "names 299");
     great_counts(&request);
@@ -1177,6 +1242,7 @@ int main(void) {
     plain_paths();
     each_error();
     refusals();
+    refused_paths();
     step_by_step();
     waits();
     some_step();

@@ -1,6 +1,6 @@
 """The program where nothing is proved: built of the sources as they stand, kept beside them, and what it answers to all that tests ask.
 
-`rt try` takes about a minute to build a program, and then runs it once. So the program gets a few lines of this file at the head of its `main`. By the
+`rt try` takes some five processor-minutes to build the program, and then runs it once. So the program gets a few lines of this file at the head of its `main`. By the
 word `--keep-in` it leaves itself in a folder, from which it starts at once as long as its sources are the same. By `--answer-each` it answers one
 request after the other. A request is the words of a command line and an input; it goes to the function to which the real `main` hands the arguments of
 the process, standard input and standard output. By other words it does what it always does.
@@ -13,9 +13,13 @@ import hashlib
 import os
 import pathlib
 import re
+import resource
 import shutil
+import signal
 import subprocess
+import sys
 import tempfile
+import time
 import unittest
 
 import harness
@@ -26,7 +30,12 @@ KEPT = ROOT / "dist" / "unproved"
 MOST_KEPT = 3
 # The program stops at a fault of memory or of arithmetic, and is started anew for the requests behind that one: at most so often in all.
 MOST_STARTS = 3
+# So many processor-seconds it may take for what it is asked at once. What it has not answered then is left out.
 MOST_SECONDS = 1_200
+# While a program is built, and while it answers, a line says each second on a terminal how far that is, and else after so many seconds.
+SECONDS_BETWEEN = 30
+# What a build takes.
+COST = "about five processor-minutes and 6 GB of memory"
 # Longer inputs would take most of these seconds, since the unproved program looks for such faults at each access.
 MOST_BYTES = 2**16
 # Standard input is a line with the path of the file for the answers, and then the requests. A request is a line with the number of bytes of its input
@@ -89,6 +98,8 @@ fn next_line<'a>(rest: &mut &'a [u8]) -> Option<&'a str> {
 
 fn answer_each<T: Threads + Wait + Clock + Files + Sync>(rt: &HostRuntime, threads: &T) -> Option<()> {
     let alloc = rt.alloc();
+    let screen = Screen::new(alloc, rt.stderr(), false);
+    let terminals = Terminals { input: false, output: false };
     let mut given = Vec::new(alloc);
     rt.stdin().read_to_end(&mut given).ok()?;
     let mut rest = given.as_slice();
@@ -102,7 +113,8 @@ fn answer_each<T: Threads + Wait + Clock + Files + Sync>(rt: &HostRuntime, threa
         words[0] = "atomfs";
         let mut output = Vec::new(alloc);
         let mut errors = Vec::new(alloc);
-        let status = status_of_args(threads, alloc, words.as_slice(), &rest[..size], &mut output, &mut errors, None);
+        let input = &rest[..size];
+        let status = status_of_args(threads, alloc, words.as_slice(), input, &mut output, &mut errors, terminals, &screen);
         writeln!(answers, "{} {} {}", status, output.len(), errors.len()).ok()?;
         answers.write_all(output.as_slice()).ok()?;
         answers.write_all(errors.as_slice()).ok()?;
@@ -134,7 +146,9 @@ def stands_on(crate):
 
 def sources(crate):
     """The files of which the program of a crate is built."""
-    return sorted(path for name in stands_on(crate) for path in (ROOT / "crates" / name / "src").rglob("*") if path.is_file())
+    return sorted(
+        path for name in stands_on(crate) for path in (ROOT / "crates" / name / "src").rglob("*") if path.is_file()
+    )
 
 
 def sum_of(crate):
@@ -154,8 +168,30 @@ def copy_sources(crate, folder):
     if not found:
         raise SystemExit(f"tests/unproved.py: crates/{crate}/src/main.rt has no line `{MAIN.strip()}`")
     answers = "fn status_of_args<" in before
-    main.write_text(before + (ANSWERING if answers else "") + MAIN + KEEPS + (ANSWERS if answers else "") + body + "\nmod kept;\n")
+    main.write_text(
+        before + (ANSWERING if answers else "") + MAIN + KEEPS + (ANSWERS if answers else "") + body + "\nmod kept;\n"
+    )
     main.with_name("kept.rt").write_text(KEPT_MODULE)
+
+
+def wait(process, how_far, between=SECONDS_BETWEEN):
+    """Waits for a process, and says meanwhile how far it is: on a terminal in one line, which is gone at the end. Answers what it wrote to its pipes."""
+    began, on_terminal, width = time.monotonic(), sys.stderr.isatty(), 0
+    try:
+        while True:
+            try:
+                return process.communicate(timeout=1 if on_terminal else between)
+            except subprocess.TimeoutExpired:
+                line = how_far(int(time.monotonic() - began))
+                width = max(width, len(line))
+                print(f"\r{line:{width}}" if on_terminal else line, end="" if on_terminal else "\n", file=sys.stderr)
+                sys.stderr.flush()
+    except BaseException:
+        process.kill()
+        raise
+    finally:
+        if width and on_terminal:
+            print(f"\r{'':{width}}\r", end="", file=sys.stderr, flush=True)
 
 
 def build(crate, into):
@@ -164,10 +200,14 @@ def build(crate, into):
         copy_sources(crate, pathlib.Path(folder))
         # The compiled program alone is to answer, so the interpreter of `rt try` does one step.
         words = ("rt", "try", "--steps", "1", "--seconds", str(MOST_SECONDS), "--", "--keep-in", into)
-        done = subprocess.run(words, cwd=f"{folder}/crates/{crate}", stdin=subprocess.DEVNULL, capture_output=True)
+        pipes = {"stdin": subprocess.DEVNULL, "stdout": subprocess.PIPE, "stderr": subprocess.PIPE}
+        with subprocess.Popen(words, cwd=f"{folder}/crates/{crate}", **pipes) as compiler:
+            _, told = wait(compiler, lambda seconds: f"compiles {crate}: {seconds} s")
     program, words = pathlib.Path(into, "program"), pathlib.Path(into, "program.words")
     if not words.exists():
-        raise SystemExit(f"tests/unproved.py: the program is not built unproved\n{done.stderr.decode(errors='replace')[-4_000:]}")
+        raise SystemExit(
+            f"tests/unproved.py: the program is not built unproved\n{told.decode(errors='replace')[-4_000:]}"
+        )
     program.chmod(0o755)
 
 
@@ -205,6 +245,12 @@ def is_kept(crate):
     return words_of(folder_of(crate)) is not None
 
 
+def told_before(crate):
+    """What a command says before it starts the unproved program of a crate."""
+    once = "" if is_kept(crate) else f", and it is compiled first, once for these sources: {COST}"
+    return f"no proved program is built yet, so this run is unproved{once}."
+
+
 def started(crate):
     """The words that start the unproved program of a crate, which is built where it is not kept."""
     folder = folder_of(crate)
@@ -229,22 +275,37 @@ def decoded(answers):
             yield Outcome(status, answers[header.end() : middle], answers[middle:at])
 
 
-def asked(requests):
-    """The answers to requests up to the first at which the program stopped, and what it told."""
+def limit_processor(seconds):
+    """The process stops once it has taken so many seconds of a processor, however long it waited for one."""
+    resource.setrlimit(resource.RLIMIT_CPU, (seconds, seconds + 1))
+
+
+def asked(requests, seconds=MOST_SECONDS):
+    """The answers to requests up to the first at which the program stopped, what it told, and whether it had taken all its processor-seconds."""
     with tempfile.TemporaryDirectory(prefix="atomfs-") as folder:
         answers = pathlib.Path(folder, "answers")
         answers.touch()
+
+        def how_far(seconds):
+            return (
+                f"{len(list(decoded(answers.read_bytes()))):,} of {len(requests):,} requests are answered: {seconds} s"
+            )
+
         words = (*started("atomfs"), "--answer-each")
-        try:
-            done = subprocess.run(words, input=f"{answers}\n".encode() + encoded(requests), capture_output=True, timeout=MOST_SECONDS)
-        except subprocess.TimeoutExpired:
-            raise SystemExit(f"tests/unproved.py: the unproved program has not answered after {MOST_SECONDS} seconds: tests/run --quick PART asks less of it") from None
-        return list(decoded(answers.read_bytes())), done.stderr
+        with tempfile.TemporaryFile() as given:
+            given.write(f"{answers}\n".encode() + encoded(requests))
+            given.seek(0)
+            pipes = {"stdin": given, "stdout": subprocess.DEVNULL, "stderr": subprocess.PIPE}
+            with subprocess.Popen(words, preexec_fn=lambda: limit_processor(seconds), **pipes) as program:
+                _, told = wait(program, how_far)
+        return list(decoded(answers.read_bytes())), told, program.returncode == -signal.SIGXCPU
 
 
 def leave_out_long(given):
     if len(given) > MOST_BYTES:
-        raise unittest.SkipTest("inputs of more than 65,536 bytes are looked at in the program that is proved and built")
+        raise unittest.SkipTest(
+            "inputs of more than 65,536 bytes are looked at in the program that is proved and built"
+        )
 
 
 @contextlib.contextmanager
@@ -261,8 +322,8 @@ def in_place_of_the_program(answer, compares):
 class Batch:
     """Requests to the program, and the answers."""
 
-    def __init__(self):
-        self.answered = {}
+    def __init__(self, seconds=MOST_SECONDS):
+        self.answered, self.seconds, self.is_stopped = {}, seconds, False
 
     def record(self, words, given):
         leave_out_long(given)
@@ -273,7 +334,17 @@ class Batch:
         leave_out_long(given)
         if (words, given) not in self.answered:
             raise LookupError("this was not asked before there were answers")
-        return self.answered[words, given] or Outcome(-1, b"", b"the program stopped at other requests before this one\n")
+        if self.answered[words, given] is None and self.is_stopped:
+            raise unittest.SkipTest(
+                f"the unproved program had taken its {self.seconds} processor-seconds before it answered: tests/run --quick PART asks less of it"
+            )
+        return self.answered[words, given] or Outcome(
+            -1, b"", b"the program stopped at other requests before this one\n"
+        )
+
+    def left(self):
+        """The requests that are not answered."""
+        return [request for request, outcome in self.answered.items() if outcome is None]
 
     def collect(self, modules, run):
         """Has some modules run, to ask, and then asks the program."""
@@ -281,15 +352,21 @@ class Batch:
             for module in modules:
                 run(module)
         for _ in range(MOST_STARTS):
-            self.ask([request for request, outcome in self.answered.items() if outcome is None])
+            if self.left() and not self.is_stopped:
+                self.ask(self.left())
 
     def ask(self, requests):
-        if not requests:
-            return
-        outcomes, told = asked(requests)
-        if len(outcomes) < len(requests):
+        outcomes, told, self.is_stopped = asked(requests, self.seconds)
+        if len(outcomes) < len(requests) and not self.is_stopped:
             outcomes.append(Outcome(-1, b"", told))
         self.answered.update(zip(requests, outcomes))
+
+    def told(self):
+        """How many requests are answered, and why others are not."""
+        count = f"{len(self.answered) - len(self.left()):,} of {len(self.answered):,} requests are answered"
+        if self.is_stopped:
+            return f"{count}: the unproved program has taken its {self.seconds} processor-seconds, and what it did not answer is left out"
+        return count
 
     def answers(self):
         """Meanwhile the program answers what it answered."""

@@ -19,7 +19,10 @@ import grammar
 import harness
 from harness import DATA, ROOT, Case, Outcome, atomfs, library, run, told
 
-RUNS, JOURNALS, FAULTS, EXAMPLES = (*(DATA / "worked" / folder for folder in ("runs", "journals", "faults")), ROOT / "examples")
+RUNS, JOURNALS, FAULTS, EXAMPLES = (
+    *(DATA / "worked" / folder for folder in ("runs", "journals", "faults")),
+    ROOT / "examples",
+)
 TOUR = EXAMPLES / "tour"
 # How many inputs a folder has, and what stands behind the name of one.
 FOLDERS = (
@@ -62,7 +65,7 @@ def calls(script):
 
 def fault(message):
     """What the library answers where the program tells this: a status, and a line."""
-    line, kind = re.fullmatch(r"atomfs: line (\d+): (\w+)( \w+)?\n", message.decode()).group(1, 2)
+    line, kind = re.match(r"atomfs: line (\d+): (\w+)( \w+)?\n", message.decode()).group(1, 2)
     return KINDS[kind], int(line)
 
 
@@ -73,7 +76,11 @@ class Files(Case):
         files = [path.name.split(".", 1) for path in folder.iterdir()]
         inputs = {name for name, ending in files if ending in ("script", "journal")}
         self.same(f"the inputs of {folder.name}", len(inputs), count)
-        self.same(f"the files of {folder.name} that belong to none", [file for file in files if file[0] not in inputs or file[1] not in endings], [])
+        self.same(
+            f"the files of {folder.name} that belong to none",
+            [file for file in files if file[0] not in inputs or file[1] not in endings],
+            [],
+        )
 
     def test_each_belongs_to_an_input(self):
         self.each(FOLDERS, self.look)
@@ -83,14 +90,18 @@ class OfTheProgram(Case):
     """What the program writes, tells and ends with. What is asked depends on the stored files alone."""
 
     def ends(self, words, given, wanted):
-        self.same(f"atomfs {' '.join(words)}\n{given.decode(errors='backslashreplace')}", run(given, *words), wanted)
+        shown = f"atomfs {' '.join(words)}\n{given.decode(errors='backslashreplace')}"
+        self.same(shown, run(given, *words), harness.with_line(wanted, given))
 
     def all_end(self, rows):
         """Looks at rows of an example, words, an input, and the outcome."""
         self.each(((f"{example.name} {' '.join(words)}", words, *rest) for example, words, *rest in rows), self.ends)
 
     def test_runs_by_their_own_schedule(self):
-        self.all_end((example, RUN, script, Outcome(status(example), beside(example, "text"))) for example, script in examples(RUNS, "script"))
+        self.all_end(
+            (example, RUN, script, Outcome(status(example), beside(example, "text")))
+            for example, script in examples(RUNS, "script")
+        )
 
     def test_runs_by_other_schedules(self):
         """These go on until no call is left."""
@@ -109,7 +120,11 @@ class OfTheProgram(Case):
 
     def test_a_hundred_drawn_runs(self):
         words, wanted = drawn(1, 100)
-        self.all_end((example, words, script, wanted) for folder in (EXAMPLES, TOUR) for example, script in examples(folder, "script"))
+        self.all_end(
+            (example, words, script, wanted)
+            for folder in (EXAMPLES, TOUR)
+            for example, script in examples(folder, "script")
+        )
         helped = RUNS / "helped_rename"
         self.all_end([(helped, words, beside(helped, "script"), wanted)])
 
@@ -121,7 +136,10 @@ class OfTheProgram(Case):
         )
 
     def test_journals(self):
-        rows = [(example, CHECK, journal, Outcome(status(example), beside(example, "verdict"), beside(example, "message"))) for example, journal in examples(JOURNALS, "journal")]
+        rows = [
+            (example, CHECK, journal, Outcome(status(example), beside(example, "verdict"), beside(example, "message")))
+            for example, journal in examples(JOURNALS, "journal")
+        ]
         told = b"atomfs: line 14: return 3 failed ENOENT; call 3 is mkdir /a/d/x on seat 0; due: ok\n"
         for name, wanted in (("moved_ancestor", LAWFUL), ("wrong_reply", Outcome(1, b"fault 12 WrongReply\n", told))):
             rows.append((EXAMPLES / name, CHECK, beside(EXAMPLES / name, "journal"), wanted))
@@ -147,17 +165,24 @@ class OfTheLibrary(Case):
         self.each(((example.name, ask, given, wanted) for example, given, wanted in rows), self.answers)
 
     def test_runs(self):
-        self.all_answer(library().run, ((example, script, beside(example, "text")) for example, script in examples(RUNS, "script")))
+        self.all_answer(
+            library().run, ((example, script, beside(example, "text")) for example, script in examples(RUNS, "script"))
+        )
 
     def test_texts_of_runs_are_lawful(self):
         self.all_answer(library().check, ((example, text, LAWFUL.output) for example, text in examples(RUNS, "text")))
 
     def test_journals(self):
-        self.all_answer(library().check, ((example, journal, beside(example, "verdict")) for example, journal in examples(JOURNALS, "journal")))
+        self.all_answer(
+            library().check,
+            ((example, journal, beside(example, "verdict")) for example, journal in examples(JOURNALS, "journal")),
+        )
 
     def test_faults(self):
         for ending, ask in (("script", library().run), ("journal", library().check)):
-            self.all_answer(ask, ((example, text, fault(beside(example, "message"))) for example, text in examples(FAULTS, ending)))
+            self.all_answer(
+                ask, ((example, text, fault(beside(example, "message"))) for example, text in examples(FAULTS, ending))
+            )
 
 
 class Beginnings(Case):
@@ -173,7 +198,9 @@ class Beginnings(Case):
         return LAWFUL.output
 
     def look(self, beginning):
-        self.same(beginning, told(lambda script: library().check(library().run(script)), beginning), self.due(beginning))
+        self.same(
+            beginning, told(lambda script: library().check(library().run(script)), beginning), self.due(beginning)
+        )
 
     def test_each(self):
         self.each(((f"{end} bytes", self.SCRIPT[:end]) for end in range(len(self.SCRIPT))), self.look)
@@ -183,7 +210,11 @@ class Beginnings(Case):
         end = self.SCRIPT.index(b"schedule") + len(b"schedule")
         refused = [at for at in range(end + 1) if isinstance(told(library().run, self.SCRIPT[:at]), tuple)]
         self.same(self.SCRIPT, refused, list(range(end)))
-        self.same(self.SCRIPT[:end], library().run(self.SCRIPT[:end]), b"atomfs-journal 1\ntree\ndir /\nbegun 0 committed 0 returned 0\n")
+        self.same(
+            self.SCRIPT[:end],
+            library().run(self.SCRIPT[:end]),
+            b"atomfs-journal 1\ntree\ndir /\nbegun 0 committed 0 returned 0\n",
+        )
 
 
 class Command(typing.NamedTuple):
@@ -208,7 +239,16 @@ def without_comments(text):
 class Tour(Case):
     """examples/tour/: each command that its files show, what it writes, and what its page says to look for."""
 
-    STEPS = "1_one_call.script", "2_race.script", "3_helping_rename.script", "4_both_won.journal", "5_kept_seed.script", "6_race.py", "7_what_can_happen.script", "8_smallest.script"
+    STEPS = (
+        "1_one_call.script",
+        "2_race.script",
+        "3_helping_rename.script",
+        "4_both_won.journal",
+        "5_kept_seed.script",
+        "6_race.py",
+        "7_what_can_happen.script",
+        "8_smallest.script",
+    )
     # Stored elsewhere: what comes of the calls of the third step.
     HELPED = {"trace": DATA / "traces" / "helped_mkdir.trace", "draw": ROOT / "docs" / "helped_mkdir.svg"}
     # What the sixth step writes, and the commands behind it read.
@@ -237,7 +277,9 @@ class Tour(Case):
         self.same("examples/tour", sorted(path.name for path in TOUR.iterdir()), sorted((*self.STEPS, "README.md")))
         for step in self.STEPS:
             reads = self.JOURNAL if step.endswith(".py") else f"examples/tour/{step}"
-            self.same(f"the last command of {step}", list(shown(TOUR / step))[-1], Command(("draw",), reads, "tour.svg"))
+            self.same(
+                f"the last command of {step}", list(shown(TOUR / step))[-1], Command(("draw",), reads, "tour.svg")
+            )
 
     def test_what_they_write(self):
         self.each(self.commands(), self.look)
@@ -247,7 +289,9 @@ class Tour(Case):
         is_wrong = step.endswith(".journal") and command.words[0] in ("check", "draw")
         self.same(f"{step}: {command}", came.status, int(is_wrong and harness.compares))
         if command.words[0] == "explain":
-            self.same(f"{step}: {command}", came.output.split(b":")[0], command.words[1].encode() if harness.compares else b"")
+            self.same(
+                f"{step}: {command}", came.output.split(b":")[0], command.words[1].encode() if harness.compares else b""
+            )
         elif command.words[0] == "draw" and not self.stored(command).exists():
             self.look_at_picture(step, command, came.output.decode())
         else:
@@ -259,37 +303,63 @@ class Tour(Case):
         text = text if step.endswith(".journal") else run(text.encode(), "run").output.decode()
         calls = dict(re.findall(r"^begin (\d+) \d+ (.*)$", text, re.M))
         replies = dict(re.findall(r"^return (\d+) (.*)$", text, re.M))
-        told = re.findall(r"<title>(#.*)$", picture, re.M)
-        self.same(f"the calls in the picture of {step}", sorted(told), [f"#{call} {calls[call]} &#8594; {replies[call]}" for call in calls])
+        told = re.findall(r"<title>(?:seat )?(\w+#\d+ .*)\n(call \d+),", picture)
+        self.same(
+            f"the calls in the picture of {step}",
+            sorted((number, words.split(" ", 1)[1]) for words, number in told),
+            [(f"call {call}", f"{calls[call]} &#8594; {replies[call]}") for call in calls],
+        )
         waits = re.findall(r'<text class="v".*?>(.*?)</text>', picture)
-        self.same(f"the waits in the picture of {step}", [wait for wait in re.findall(r"`(/ #\d+)`", (TOUR / step).read_text()) if wait not in waits], [])
+        self.same(
+            f"the waits in the picture of {step}",
+            [
+                wait
+                for wait in re.findall(r"`(\w+#\d+)` says for which call", (TOUR / step).read_text())
+                if wait not in waits
+            ],
+            [],
+        )
         due = re.findall(r"^due: (.*?)</title>", picture, re.M)
-        self.same(f"what is due in the picture of {step}", due, ["failed EEXIST"] if step.endswith(".journal") and harness.compares else [])
+        self.same(
+            f"what is due in the picture of {step}",
+            due,
+            ["failed EEXIST"] if step.endswith(".journal") and harness.compares else [],
+        )
 
     def test_what_to_look_for(self):
         """Each step has a row in the page, and what that says is a line that one of its commands writes."""
         page = (TOUR / "README.md").read_text()
         rows = re.findall(r"^\| \[(.*?)\]\((.*?)\) \| .* \| (.*?) \|$", page, re.M)
         self.same("the rows of the page", [row[:2] for row in rows], [(step, step) for step in self.STEPS])
-        self.each(((step, step, re.findall("`([^`]+)`", cell)) for step, _, cell in rows if not step.endswith(".py")), self.look_for)
+        self.each(
+            ((step, step, re.findall("`([^`]+)`", cell)) for step, _, cell in rows if not step.endswith(".py")),
+            self.look_for,
+        )
         first, answer = re.findall(r"^```\n(.*?)^```$", page, re.M | re.S)
         self.same("the command of the page", first, f"examples/run trace < examples/tour/{self.STEPS[0]}\n")
         self.same("what it answers", answer, (DATA / "tour" / "1_one_call.trace").read_text())
 
     def look_for(self, step, lines):
         stored = [self.stored(command) for _, of, command in self.commands() if of == step]
-        written = [line for path in stored if path.exists() and path.suffix != ".svg" for line in path.read_text().splitlines()]
+        written = [
+            line for path in stored if path.exists() and path.suffix != ".svg" for line in path.read_text().splitlines()
+        ]
         own = without_comments((TOUR / step).read_text())
         self.same(step, [line for line in lines if line not in (*written, *own)], [])
 
     def test_third_step(self):
-        """It is the worked example, with comments."""
-        helped = (RUNS / "helped_mkdir.script").read_text()
-        self.same(self.STEPS[2], without_comments((TOUR / self.STEPS[2]).read_text()), helped.splitlines())
+        """It is the worked example by the third limits, with comments."""
+        header, *helped = (RUNS / "helped_mkdir.script").read_text().splitlines()
+        self.same("the header of the worked example", header, "atomfs 1")
+        self.same(self.STEPS[2], without_comments((TOUR / self.STEPS[2]).read_text()), ["atomfs 3", *helped])
 
     def test_kept_seeds(self):
         """The fifth step is what its first command writes of the second, the seventh what its second writes of the third, and the eighth what its first writes of the seventh, with other comments."""
-        kept = [(step, command) for _, step, command in self.commands() if command.words[0] in ("schedule", "find", "shrink")]
+        kept = [
+            (step, command)
+            for _, step, command in self.commands()
+            if command.words[0] in ("schedule", "find", "shrink")
+        ]
         self.same("what is kept", [step for step, _ in kept], [self.STEPS[4], self.STEPS[6], self.STEPS[7]])
         for step, command in kept:
             written = self.stored(command).read_text()
@@ -306,9 +376,17 @@ class Tour(Case):
             self.each(((name, folder, command) for name, _, command in self.commands()), self.look_as_typed)
 
     def look_as_typed(self, folder, command):
-        reads, writes = (f" {sign} {name}" if name else "" for sign, name in (("<", command.reads), (">", command.writes)))
+        reads, writes = (
+            f" {sign} {name}" if name else "" for sign, name in (("<", command.reads), (">", command.writes))
+        )
         typed = f"examples/run {shlex.join(command.words)}{reads}{writes}"
-        done = subprocess.run(["bash", "-c", typed], cwd=folder, stdin=subprocess.DEVNULL, capture_output=True, timeout=harness.MOST_SECONDS)
+        done = subprocess.run(
+            ["bash", "-c", typed],
+            cwd=folder,
+            stdin=subprocess.DEVNULL,
+            capture_output=True,
+            timeout=harness.MOST_SECONDS,
+        )
         written = pathlib.Path(folder, command.writes).read_bytes() if command.writes else done.stdout
         due = run(self.given(command), *command.words)
         self.same(typed, (done.returncode, written), (due.status, due.output))
@@ -316,9 +394,15 @@ class Tour(Case):
     def test_in_python(self):
         """The sixth step: one of the two wins each race, and the journal that it writes is lawful."""
         harness.library()
-        variables = {"PYTHONPATH": str(ROOT / "bindings" / "python" / "src"), "ATOMFS_LIBRARY": harness.library_at(), "PYTHONDONTWRITEBYTECODE": "1"}
+        variables = {
+            "PYTHONPATH": str(ROOT / "bindings" / "python" / "src"),
+            "ATOMFS_LIBRARY": harness.library_at(),
+            "PYTHONDONTWRITEBYTECODE": "1",
+        }
         words = ["python3", f"examples/tour/{self.STEPS[5]}"]
-        done = subprocess.run(words, cwd=ROOT, env=os.environ | variables, capture_output=True, text=True, timeout=harness.MOST_SECONDS)
+        done = subprocess.run(
+            words, cwd=ROOT, env=os.environ | variables, capture_output=True, text=True, timeout=harness.MOST_SECONDS
+        )
         told = re.sub("^(seed [0-9]): (ann|bob) won, lawful$", r"\1", done.stderr, flags=re.M)
         self.same(" ".join(words), (done.returncode, told), (0, "".join(f"seed {seed}\n" for seed in range(10))))
         self.same("what it writes", run(done.stdout.encode(), "check"), LAWFUL)

@@ -17,10 +17,15 @@ import threading
 import time
 
 ROOT = pathlib.Path(__file__).resolve().parent.parent.parent
-PROGRAM = pathlib.Path(os.environ.get("ATOMFS", ROOT / "crates" / "atomfs" / "out" / "atomfs")).absolute()
+PROVED = ROOT / "crates" / "atomfs" / "out" / "atomfs"
 # Nobody is asked for a password, and a host that does not answer is soon given up.
 SSH = "ssh -o BatchMode=yes -o ConnectTimeout=10 -o ServerAliveInterval=10"
 THIS_MACHINE = ":"
+
+sys.dont_write_bytecode = True
+sys.path.insert(0, str(ROOT / "tests"))
+import harness
+import unproved
 
 
 def say(line):
@@ -61,7 +66,7 @@ def seconds_of(folder, script, *words):
     try:
         status = subprocess.run((folder / "atomfs", *words), input=script, stdout=subprocess.DEVNULL).returncode
     except OSError as error:
-        fail(f"cannot run {PROGRAM}: {error.strerror}")
+        fail(f"cannot run {os.environ.get('ATOMFS', PROVED)}: {error.strerror}")
     if status not in (0, 1):
         sys.exit(abs(status))
     return time.monotonic() - start
@@ -84,8 +89,34 @@ def look_for_tools(hosts):
         if subprocess.run(("parallel", "--version"), capture_output=True).stdout.startswith(b"GNU parallel"):
             if not any(map(is_far, hosts)) or shutil.which("rsync"):
                 return
-            fail("rsync is not on the path, by which GNU parallel sends files: apt-get install rsync, here and on the hosts")
+            fail(
+                "rsync is not on the path, by which GNU parallel sends files: apt-get install rsync, here and on the hosts"
+            )
     fail("GNU parallel is not on the path: apt-get install parallel")
+
+
+def put_program(folder, hosts):
+    """Lays the program into a folder, so that one does all, whatever is built meanwhile: the one that ATOMFS names, or the proved one. Without one it is
+    the unproved one, as of examples/run, but only this machine can start that."""
+    program = pathlib.Path(os.environ.get("ATOMFS", PROVED)).absolute()
+    if (
+        program.is_file()
+        and os.access(program, os.X_OK)
+        and ("ATOMFS" in os.environ or not harness.newer_source(program))
+    ):
+        shutil.copy(program, folder / "atomfs")
+    elif "ATOMFS" in os.environ:
+        fail(f"{program} is not there, which ATOMFS names")
+    elif any(map(is_far, hosts)):
+        fail("no proved program is built yet, and other machines get no other: examples/run --proved builds it")
+    elif not shutil.which("rt") and not unproved.is_kept("atomfs"):
+        fail(
+            "no program is built, and the command rt of the Rattle kit is not on the path: README.md says which kit it is"
+        )
+    else:
+        say(f"{unproved.told_before('atomfs')} To prove the program and build it: examples/run --proved")
+        (folder / "atomfs").write_text(f'#!/bin/sh\nexec {shlex.join(unproved.started("atomfs"))} "$@"\n')
+        (folder / "atomfs").chmod(0o755)
 
 
 def add_folder(folder, name, job, files):
@@ -104,7 +135,10 @@ def command(folder, hosts):
     words += ["--joblog", folder / "log", "--sshloginfile", folder / "hosts"]
     if any(map(is_far, hosts)):
         words += ["--workdir", "...", "--transferfile", "./{1}", "--rsync-opts", "-rLDzR"]
-    return [*words, f'[ "$PARALLEL_SSHLOGIN" != {THIS_MACHINE} ] || cd {shlex.quote(str(folder))}; cd {{1}} && sh ./job {{2}} {{3}}']
+    return [
+        *words,
+        f'[ "$PARALLEL_SSHLOGIN" != {THIS_MACHINE} ] || cd {shlex.quote(str(folder))}; cd {{1}} && sh ./job {{2}} {{3}}',
+    ]
 
 
 def feed(pipe, pieces):
@@ -175,9 +209,5 @@ def end(main, usage, counts):
         sys.exit(2)
     for number in (signal.SIGINT, signal.SIGTERM, signal.SIGHUP):
         signal.signal(number, lambda number, _: sys.exit(128 + number))
-    if not (PROGRAM.is_file() and os.access(PROGRAM, os.X_OK)):
-        fail(f"{PROGRAM} is not there: examples/run --proved builds the program, and ATOMFS names another one")
     with tempfile.TemporaryDirectory(prefix="atomfs-many-") as folder:
-        # One program does all, whatever is built meanwhile.
-        shutil.copy(PROGRAM, f"{folder}/atomfs")
         sys.exit(main(words, pathlib.Path(folder)))

@@ -97,10 +97,14 @@ static void write_entry(FILE *to, struct entry entry) {
         return;
     }
     fprintf(to, "return %d ", entry.call + 1);
-    if (call->error) fprintf(to, "failed %s\n", word_of(call));
-    else if (call->kind != STAT) fputs("ok\n", to);
-    else if (S_ISDIR(call->stat.st_mode)) fputs("stat dir ?\n", to);
-    else fprintf(to, "stat file %lld\n", (long long)call->stat.st_size);
+    if (call->error)
+        fprintf(to, "failed %s\n", word_of(call));
+    else if (call->kind != STAT)
+        fputs("ok\n", to);
+    else if (S_ISDIR(call->stat.st_mode))
+        fputs("stat dir ?\n", to);
+    else
+        fprintf(to, "stat file %lld\n", (long long)call->stat.st_size);
 }
 
 static int in_order(const void *one, const void *other) {
@@ -126,7 +130,8 @@ static void write_history(const char *path) {
 static const char *drawn_path(unsigned *seed, const char *beside) {
     for (;;) {
         const char *path = paths[rand_r(seed) % 5];
-        if (beside == NULL || (strncmp(path, beside, strlen(beside)) && strncmp(beside, path, strlen(path)))) return path;
+        if (beside == NULL || (strncmp(path, beside, strlen(beside)) && strncmp(beside, path, strlen(path))))
+            return path;
     }
 }
 

@@ -1,19 +1,20 @@
 #!/usr/bin/env python3
 """Records the calls of threads on a tree in memory, of PyFilesystem2 or of this package, and has an order of them found.
 
-Install the package, or build the library by `embed/build` and say where it is:
+Install the package, or build the library with `embed/build` and say where it is:
 
     export PYTHONPATH=bindings/python/src ATOMFS_LIBRARY=dist/lib/libatomfs.so
 
     python3 examples/record/record.py Tree
     python3 examples/record/record.py MemoryFS > none.history
 
-MemoryFS comes with Debian's python3-fs. One of its threads removes a directory, and what another one made in it meanwhile is lost.
+MemoryFS is a tree of PyFilesystem2: Debian's python3-fs, or `pip install fs`. One of its threads removes a directory, and what another
+one made in it meanwhile is lost.
 
 One thread records first: what nothing explains there is another kind of tree, and no race. Then three threads make four drawn calls each,
 round after round. The first history that no order explains goes to standard output.
 
-Exit status: 0 all histories are lawful; 1 one of threads is not; 2 one of one thread is not, or usage error.
+Exit status: 0 all histories are lawful; 1 one of threads is not; 2 one of one thread is not, a usage error, or a package is missing.
 """
 import argparse
 import concurrent.futures
@@ -24,7 +25,12 @@ import sys
 import threading
 import time
 
-import atomfs
+try:
+    import atomfs
+
+    atomfs.library_version()
+except (ImportError, OSError) as error:
+    atomfs, why_missing = None, error
 
 ALONE, THREADS, CALLS = 20, 3, 4
 NAMES = *3 * ["mkdir", "rmdir"], "mknod", "unlink", "stat", "readdir"
@@ -103,15 +109,25 @@ def judge(history, what, status):
     sys.exit(status)
 
 
+def needs(name, why):
+    """Ends for want of a package, by the status that no verdict has."""
+    print(f"examples/record/record.py: {name} is missing ({why}): see --help", file=sys.stderr)
+    sys.exit(2)
+
+
 def main():
     words = argparse.ArgumentParser(description=__doc__, formatter_class=argparse.RawDescriptionHelpFormatter)
     words.add_argument("tree", choices=("MemoryFS", "Tree"))
     words.add_argument("--rounds", type=int, default=2_000)
     words.add_argument("--seed", type=int, default=0, help="draws the calls, and where threads stop")
     given = words.parse_args()
+    if atomfs is None:
+        needs("the package atomfs", why_missing)
     if given.tree == "MemoryFS":
-        from fs.memoryfs import MemoryFS as new
-
+        try:
+            from fs.memoryfs import MemoryFS as new
+        except ImportError as error:
+            needs("PyFilesystem2", error)
         make = on_memory_fs
     else:
         new, make = atomfs.Tree, on_tree

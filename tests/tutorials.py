@@ -1,0 +1,83 @@
+"""What README.md and docs/FIRST-RACE.md have a reader type in Python prints what stands there. The blocks of a page are run one after the other."""
+import json
+import os
+import re
+import subprocess
+import tempfile
+import unittest
+
+import harness
+from documents import DOCS, README, blocks
+from harness import ROOT, Case
+
+FIRST_RACE = DOCS / "FIRST-RACE.md"
+# Runs blocks of Python, and writes what each printed, and the script of an error of a race at which it ended.
+DRIVER = """\
+import contextlib, io, json, sys
+
+names, told = {"__name__": "page"}, []
+for block in json.load(sys.stdin):
+    printed, script = io.StringIO(), None
+    with contextlib.redirect_stdout(printed):
+        try:
+            exec(block, names)
+        except names["atomfs"].ScheduleError as race:
+            script = race.script
+    told.append((printed.getvalue(), script))
+# The test that a page has is a function without arguments, as pytest calls it.
+for name, test in list(names.items()):
+    if name.startswith("test_"):
+        test()
+        told.append((f"{name} passes\\n", None))
+json.dump(told, sys.stdout)
+"""
+
+
+class Tutorials(Case):
+    @staticmethod
+    def printed(page):
+        """What each block in Python of a page prints, and the script of the race that it finds."""
+        harness.library()
+        variables = {
+            "PYTHONPATH": str(ROOT / "bindings" / "python" / "src"),
+            "ATOMFS_LIBRARY": os.path.abspath(harness.library_at()),
+            "PYTHONDONTWRITEBYTECODE": "1",
+        }
+        with tempfile.TemporaryDirectory(prefix="atomfs-") as folder:
+            done = subprocess.run(
+                ["python3", "-c", DRIVER],
+                input=json.dumps(blocks(page, "python")),
+                cwd=folder,
+                env=os.environ | variables,
+                capture_output=True,
+                text=True,
+                timeout=harness.MOST_SECONDS,
+            )
+            made = sorted(os.listdir(folder))
+        if done.returncode:
+            raise AssertionError(done.stderr)
+        return json.loads(done.stdout), made
+
+    def test_readme(self):
+        """The example ends with a race, whose script is the one that the page shows."""
+        told, _ = self.printed(README)
+        shown, *_ = blocks(README)
+        self.same("README.md", told, [["", shown]])
+
+    def test_first_race(self):
+        """Each block prints what follows it; of a trace the page has a part, and says where each call commits."""
+        told, made = self.printed(FIRST_RACE)
+        race, trace, passes = blocks(FIRST_RACE)
+        printed = [text for text, _ in told]
+        self.same("the blocks that end with an error", [script for _, script in told if script], [])
+        due = [race, passes, "", "test_never_half_written passes\n"]
+        self.same("but for the trace", [printed[1], *printed[3:]], due)
+        self.same("a part of the trace", trace in printed[2], True)
+        said = re.findall(r"commits at event (\d+)|only at event (\d+)", FIRST_RACE.read_text())
+        commits = re.findall(r"^(\d+) \S+ commits", printed[2], re.M)
+        self.same("where each call commits", [first or last for first, last in said], commits)
+        self.same("what it makes", made, ["race.script", "race.svg"])
+
+
+if __name__ == "__main__":
+    unittest.main()
