@@ -18,9 +18,11 @@ int main(void) {
     if ((status = atomfs_mkdir(&fs, seat, "/a", 2, &number))) return failed("mkdir", status);
     if ((status = atomfs_mknod(&fs, seat, "/a/f", 4, &number))) return failed("mknod", status);
     if ((status = atomfs_write(&fs, seat, "/a/f", 4, 0, "hello\n", 6, &wrote, &number))) return failed("write", status);
-    if ((status = atomfs_read(&fs, seat, "/a/f", 4, 0, out, sizeof out, &count, &number))) return failed("read", status);
+    if ((status = atomfs_read(&fs, seat, "/a/f", 4, 0, out, sizeof out, &count, &number)))
+        return failed("read", status);
     fwrite(out, 1, count, stdout);
     status = atomfs_unlink(&fs, seat, "/a", 2, &number);
-    if (status < ATOMFS_FAILED || strcmp(atomfs_errno_name(status), "EPERM") != 0) return failed("unlink of a directory", status);
+    if (status < ATOMFS_FAILED || strcmp(atomfs_errno_name(status), "EPERM") != 0)
+        return failed("unlink of a directory", status);
     return atomfs_close(&fs) != ATOMFS_OK || strcmp(atomfs_version(), ATOMFS_VERSION) != 0;
 }
