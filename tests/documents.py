@@ -1226,7 +1226,7 @@ class Believed(Sentences):
             ),
             (
                 "glue",
-                r"of its crate: some ([\d,]+) definitions of ([\d,]+) files, ([\d,]+) lines",
+                r"of its crate has: some ([\d,]+) definitions of ([\d,]+) files, ([\d,]+) lines",
                 self.size(path for path in specs if "code" in path.parts),
             ),
             ("proofs", r"All of `proofs/`: some ([\d,]+) files, ([\d,]+) lines", (len(proofs), lines[0])),
