@@ -1136,17 +1136,16 @@ class Believed(Sentences):
     def test_linearizable(self):
         """The functions that have the clause in the words of Herlihy and Wing are those that the page names."""
         named = spans(
-            re.search(r"^The clause `linearizable` of `Core::run` is also on .*", BELIEVE.read_text(), re.M)[0]
+            re.search(r"^The clause `linearizable` of (`Core::run` is also on [^.]*)\.", BELIEVE.read_text(), re.M)[1]
         )
         found = [
             function.name
-            for crate in ("fs_core", "fs_share")
+            for crate in ("fs_core", "fs_sched", "fs_share")
             for function in promises.public(CRATES / crate)
             if "linearizable" in [clause.name for clause in function.ensures]
         ]
-        shown = [span for span in named if "::" in span or span == "close_told"]
         self.agrees(
-            "BELIEVE", sorted(shown), sorted(name.replace("AtomFs::close_told", "close_told") for name in found)
+            "BELIEVE", sorted(named), sorted(name.replace("AtomFs::close_told", "close_told") for name in found)
         )
 
     def test_memory(self):

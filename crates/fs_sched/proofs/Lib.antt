@@ -26,3 +26,4 @@ pub mod ShortRuns
 pub mod Noting
 pub mod Telling
 pub mod FromRoot
+pub mod LinearizableRuns

@@ -12,7 +12,7 @@ ghost use Rattle.fs_script.specs.Script.{script_of};
 ghost use Rattle.fs_script.specs.Limits.{call_limit};
 ghost use Rattle.fs_sched.specs.Devices.{KeepsDevices, WritesBeginning};
 ghost use Rattle.fs_sched.specs.Runs.{before_all, calls_in, end_of, IsOutputFrom, IsFaultOfRun, IsWhole, HasFinish, ReachesStop, StopsFrom};
-ghost use Rattle.fs_sched.specs.EachRun.{AreOfTheRun, EachIsReadAgain, HasShortNames, SomeIsReadAgain};
+ghost use Rattle.fs_sched.specs.EachRun.{AreOfTheRun, EachIsReadAgain, HasShortNames, IsLinearizableRun, SomeIsReadAgain};
 ghost use Rattle.fs_sched.specs.code.Counts.{AreCounts};
 ghost use Rattle.fs_sched.specs.code.Mades.{IsRead, MakesRun};
 ghost use Rattle.fs_sched.specs.code.Done.{IsRun};
@@ -158,6 +158,7 @@ fn text_of_script<Listener: Witness>(
 /// The text of a run of a script in memory, as `run_script` writes it, without spare room. The script is read where it stands.
 pub fn run_bytes(alloc: Global, script: &[u8], schedule: Schedule) -> Result<Vec<u8>, RunFault>
     ensures ran { IfOk result (λ text. (end : RunEnd) × AreOfTheRun schedule script.now end text.items) }
+    ensures linearizable { IfOk result (λ text. IsLinearizableRun schedule script.now text.items) }
     ensures fault { IfErr result (IsFaultOfRun schedule script.now) }
 {
     let read = script_in(alloc, script)?;
@@ -186,6 +187,9 @@ pub fn run_script<R: Source, W: Sink, Listener: Witness>(
 
     // What is written is the text of every run of the script that was read, of which there is one.
     ensures ran { IfOk result (λ end. (text : List ℕ) × IfSome (R.remaining reader.old) (λ input. AreOfTheRun schedule input end text) × Appends (W.contents writer.old) (W.contents writer.new) text) }
+
+    // The history that is written is linearizable, in the words of Herlihy and Wing.
+    ensures linearizable { IfOk result (λ end. (text : List ℕ) × IfSome (R.remaining reader.old) (λ input. IsLinearizableRun schedule input text) × Appends (W.contents writer.old) (W.contents writer.new) text) }
     ensures end { OnOk result (IsAtEnd (R.remaining reader.new)) }
     ensures input { (f : ScriptFault) → result ≡ Err (RunFault.Input f) → IfSome (R.remaining reader.old) (λ input. script_of input ≡ Err f) }
     ensures full { result ≢ Err RunFault.Full }

@@ -6,6 +6,7 @@ use Rattle.fs_verdict.specs.declared.fault.RunFault.TheVariants.{Input, Write, F
 use Rattle.fs_verdict.proofs.Unmade.{unmade, unwritten}
 use Rattle.fs_sched.proofs.RunLemmas.{script_short, known_script, known_run}
 use Rattle.fs_sched.proofs.OneText.{known_each, known_again}
+use Rattle.fs_sched.proofs.LinearizableRuns.{known_linearizable}
 use Rattle.fs_sched.proofs.Reasons.{known_stop}
 use Rattle.fs_sched.proofs.Whole.{whole_always, known_whole}
 use Rattle.fs_sched.proofs.running.run_script.Goals as goal
@@ -18,6 +19,11 @@ returns-in-Ok-clause-ran g c =
     let told = c.in-Ok.ensures.made in
     let output = subst (λ end. IsRunOf c.args.schedule told.0.items end told.1.text.items) (sym told.5) told.4.1.output in
     (told.1.text.items, known_each _ _ _ c.args.schedule (known_run _ _ _ _ _ _ refl told.2 output), told.6)
+
+pub returns-in-Ok-clause-linearizable : goal.returns-in-Ok-clause-linearizable
+returns-in-Ok-clause-linearizable g c =
+    let told = c.in-Ok.ensures.made in
+    (told.1.text.items, known_linearizable _ _ _ _ c.args.schedule told.1.end refl told.2 told.4.1.output, told.6)
 
 pub returns-in-Ok-clause-again : goal.returns-in-Ok-clause-again
 returns-in-Ok-clause-again g c = let told = c.in-Ok.ensures.made in known_again _ _ _ c.args.schedule refl told.2 told.4.1.again
