@@ -1,7 +1,7 @@
 """The library for C as it is built: its typed calls, and calls that break its rules as far as it answers them (typed.c), a tree that threads share
-(shared.c), that some call always goes on, that forgetting costs the same in a large tree (bench/growth.c), why bytes are no path, its tools over texts, what
-it finds of histories, its header, what it exports and what is packed; the programs of examples/embed in C, Rust and Python, and the examples of
-docs/EMBEDDING.md and of the packages' pages.
+(shared.c), that some call always goes on, that forgetting costs the same in a large tree (bench/growth.c), what long jobs are answered
+(bench/trees.c), why bytes are no path, its tools over texts, what it finds of histories, its header, what it exports and what is packed; the
+programs of examples/embed in C, Rust and Python, and the examples of docs/EMBEDDING.md and of the packages' pages.
 
 With LIBATOMFS the programs of this folder take another library: its shared object, beside which the archive stands.
 """
@@ -218,6 +218,20 @@ class Growth(Programs):
         program = self.made("growth", LANGUAGES[0][1], "-O2")
         small, large = (self.cost(program, nodes) for nodes in (self.SMALL, self.LARGE))
         self.assertLess(large, self.MOST * small)
+
+
+class Trees(Programs):
+    """bench/trees.c: two jobs of thousands of calls in small, a sandbox and trees of awkward shapes. A digest is of each reply and of the trees that are left."""
+
+    SOURCE, WELL = "../bench/trees.c", "sandbox: 11471749041631745739\nshapes: 1197031400585579595"
+
+    def test_digests(self):
+        self.well("the jobs in small", self.made("trees", LANGUAGES[0][1], "-O2"))
+
+    def test_words(self):
+        program = self.made("trees", LANGUAGES[0][1], "-O2")
+        for words in (("sandbox",), ("many", "1"), ("sandbox", "one"), ("sandbox", ""), ("sandbox", "1", "2")):
+            self.same(words, said(program, *words), "trees: no word, or a job and a number\nstatus 2")
 
 
 class Progress(harness.Case):

@@ -1,7 +1,6 @@
-//! Runs real threads on shared trees, by sessions and lists, also under gates that hold a call at a place of its walk, and
+//! Runs real threads on shared trees, by sessions, lists and pools, also under gates that hold a call at a place of its walk, and
 //! says of each run whether it came out as it must. The program plays the lists of a script on threads and no more: it has no
-//! sessions and no gates, and tells no order of what its threads did. `check_pools` does the same of pools, and both play and
-//! compare by `check_sessions`.
+//! sessions, pools and gates, and tells no order of what its threads did. `check_sessions` plays and compares.
 #![tactic(auto)]
 
 mod again;
@@ -9,9 +8,12 @@ mod answers;
 mod crowds;
 mod drawing;
 mod held;
+mod jobs;
 mod limits;
 mod long;
+mod meeting;
 mod parked;
+mod pools;
 mod shared;
 
 use check_sessions::say;
@@ -69,6 +71,17 @@ fn say_parked<R: Print + Threads + Wait + Clock + Sync>(
     Ok(())
 }
 
+/// The same of pools: two jobs under one gate, a thousand jobs, and jobs that wait.
+fn say_pools<R: Print + Threads + Wait + Clock + Sync>(rt: &R, alloc: Global) -> io::Result<()> {
+    let meet = meeting::jobs_meet(rt, alloc);
+    say(rt, "two jobs run side by side", meet)?;
+    let jobs = jobs::are_done(rt, alloc);
+    say(rt, "a thousand jobs are done, once", jobs)?;
+    let again = pools::run_again(rt, alloc);
+    let what = "jobs wait where no worker is made, and a pool runs twice";
+    say(rt, what, again)
+}
+
 /// Writes of each part how it came out, in this order.
 fn say_all<R: Print + Threads + Wait + Clock + Sync>(rt: &R, alloc: Global) -> io::Result<()> {
     let sessions = answers::are_right(rt, alloc);
@@ -110,5 +123,6 @@ fn say_all<R: Print + Threads + Wait + Clock + Sync>(rt: &R, alloc: Global) -> i
 
 /// Runs all of this, and writes how it came out.
 pub fn run<R: Print + Threads + Wait + Clock + Sync>(rt: &R, alloc: Global) -> anyhow::Result<()> {
-    Ok(say_all(rt, alloc)?)
+    say_all(rt, alloc)?;
+    Ok(say_pools(rt, alloc)?)
 }

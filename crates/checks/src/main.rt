@@ -18,11 +18,10 @@ use std::thread::Threads;
 use std::time::Clock;
 
 /// The libraries, by the words that name them, in the order in which all are run.
-const NAMES: [&str; 7] = [
+const NAMES: [&str; 6] = [
     "calls",
     "stores",
     "threads",
-    "pools",
     "observers",
     "refused",
     "bench",
@@ -37,7 +36,6 @@ fn run<R: Files + AllocGlobal + Print + Threads + Wait + Clock + Sync>(
         "calls" => check_calls::run(rt),
         "stores" => check_stores::run(rt, rt.alloc()),
         "threads" => check_threads::run(rt, rt.alloc()),
-        "pools" => check_pools::run(rt, rt.alloc()),
         "observers" => check_observers::run(rt, rt.alloc()),
         "refused" => check_refused::run(rt, rt.alloc()),
         "bench" => bench::run(rt, rt.alloc()),

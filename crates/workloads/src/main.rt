@@ -1,15 +1,21 @@
 //! The jobs that users of AtomFS wait for, drawn from a number: `workloads JOB SEED` does one, and prints a digest of all that it
-//! was answered. `bench/workloads.txt` lists them, and `bench/run` times them. Without a word each is done in small.
+//! was answered. `bench/workloads.txt` lists them, and `bench/run` times them. Without a word each is done in small. Those of one
+//! thread on a tree in memory are in `bench/trees.c`.
 //!
-//! A job is done in rounds, each on a tree of its own and with calls that no other round has.
+//! A job is done in rounds, each on a tree of its own and with calls that no other round has. `Drawing` draws numbers, names and
+//! bytes for it, and a `Digest` is a number for all its answers.
 #![tactic(auto)]
 
+mod digest;
+mod drawing;
 mod runs;
 mod texts;
 mod threads;
 mod told;
 
 use anyhow::{Result, bail};
+use digest::Digest;
+use drawing::Drawing;
 use fs_sched::Schedule;
 use std::alloc::Global;
 use std::env;
@@ -18,16 +24,9 @@ use std::thread::Threads;
 use std::time::Clock;
 use texts::Names;
 use threads::Dirs;
-use workload_trees::{Digest, Drawing, Job};
 
 /// The jobs, and how many rounds each has.
-const JOBS: [(&str, usize); 5] = [
-    ("sandbox", 150),
-    ("shapes", 40),
-    ("texts", 10),
-    ("threads", 10),
-    ("runs", 6),
-];
+const JOBS: [(&str, usize); 3] = [("texts", 10), ("threads", 10), ("runs", 6)];
 
 /// How much a round does: what it does in full is divided by this number.
 #[derive(Clone, Copy)]
@@ -37,20 +36,6 @@ impl Size {
     fn of(self, count: usize) -> usize {
         count.checked_div(self.0).unwrap_or(0)
     }
-}
-
-/// Directories that are nearly full, a chain, large files, and entries that move about.
-fn do_shapes(alloc: Global, drawing: &mut Drawing, size: Size) -> Result<u64> {
-    let mut digest = Digest::new();
-    for job in [
-        Job::Wide(size.of(4000)),
-        Job::Deep(size.of(2000)),
-        Job::Pieces(size.of(60)),
-        Job::Moves(size.of(3000)),
-    ] {
-        digest.add(workload_trees::run(alloc, drawing, job)?);
-    }
-    Ok(digest.value())
 }
 
 /// Scripts of one thread and of several.
@@ -97,8 +82,6 @@ fn round<R: Threads + Wait + Clock + Sync>(
     size: Size,
 ) -> Result<u64> {
     match job {
-        "sandbox" => workload_trees::run(alloc, drawing, Job::Sandbox(size.of(2000))),
-        "shapes" => do_shapes(alloc, drawing, size),
         "texts" => do_texts(alloc, drawing, size),
         "threads" => do_threads(rt, alloc, drawing, size),
         "runs" => do_runs(alloc, drawing, size),

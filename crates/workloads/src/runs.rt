@@ -1,10 +1,11 @@
 //! Drawn runs of scripts whose threads are in each other's way. The whole text of each run goes through the devices of
 //! `run_script`, and its journal through those of `check_journal`.
 
+use crate::digest::Digest;
+use crate::drawing::{Drawing, add_number};
 use anyhow::{Result, bail};
 use fs_sched::{Device, Schedule, Silent, check_journal, run_script};
 use std::alloc::Global;
-use workload_trees::{Digest, Drawing, add_number};
 
 /// The directories that the threads of a script share, each behind the one above it.
 const DIRS: [&[u8]; 7] = [

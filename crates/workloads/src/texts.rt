@@ -1,10 +1,11 @@
 //! Long scripts, from their bytes to the bytes of their runs, and the journals of these runs, which are checked.
 
+use crate::digest::Digest;
+use crate::drawing::{Drawing, add_number};
 use anyhow::{Result, bail};
 use fs_sched::{Schedule, check_bytes, run_bytes};
 use hex::encode_to_slice;
 use std::alloc::Global;
-use workload_trees::{Digest, Drawing, add_number};
 
 /// How many directories a script knows at the most.
 const MOST_DIRS: usize = 400;

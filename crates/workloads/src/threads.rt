@@ -1,5 +1,7 @@
 //! Real threads on one tree, and told calls whose caller then asks an observer.
 
+use crate::digest::Digest;
+use crate::drawing::Drawing;
 use anyhow::{Result, bail};
 use fs_calls::Call;
 use fs_names::Path;
@@ -10,7 +12,6 @@ use std::alloc::Global;
 use std::sync::Wait;
 use std::thread::Threads;
 use std::time::Clock;
-use workload_trees::{Digest, Drawing};
 
 /// The list of one thread, and the files that it has made.
 #[derive(Drop)]

@@ -2,6 +2,8 @@
 
 ghost use Rattle.std.specs.Prelude.{◌≡◌, ◌^◌};
 
+use crate::digest::Digest;
+use crate::drawing::Drawing;
 use anyhow::{Result, bail};
 use fs_calls::Call;
 use fs_names::Path;
@@ -11,7 +13,6 @@ use std::marker::Brand;
 use std::sync::Wait;
 use std::sync::ledger::Blank;
 use std::time::Clock;
-use workload_trees::{Digest, Drawing};
 
 /// How many files there are.
 const FILES: usize = 32;

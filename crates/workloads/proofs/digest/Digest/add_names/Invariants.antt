@@ -1,5 +1,5 @@
 use Rattle.std.proofs.Common.{length}
-use Rattle.workload_trees.proofs.digest.Digest.add_names.Given as goal
+use Rattle.workloads.proofs.digest.Digest.add_names.Given as goal
 
 abbrev pub decreases-names : goal.decreases-names
 decreases-names l = length l.left

@@ -1,4 +1,4 @@
-use Rattle.check_pools.proofs.pools.run_again.Given as goal
+use Rattle.check_threads.proofs.pools.run_again.Given as goal
 
 abbrev pub ghosts-on_named-N-Named : goal.ghosts-on_named-N-Named
 ghosts-on_named-N-Named g a = record { book = a.opened }

@@ -1,4 +1,4 @@
-use Rattle.check_pools.proofs.jobs.work_all.Given as goal
+use Rattle.check_threads.proofs.jobs.work_all.Given as goal
 
 abbrev pub ghosts-work-N-Named : goal.ghosts-work-N-Named
 ghosts-work-N-Named g a = record { book = a.opened }
