@@ -8,9 +8,13 @@ A paragraph is a row. Its comment is its name; the lines below it are asked in o
     run SEAT CALL       runs a call from its begin to its return; `CALL` alone does so on the first seat
     *COUNT CALL; CALL   runs so many rounds of calls, each # the number of the round, and counts the replies ok
     find PATH           the node to which a path leads: the last that a `stat` of it takes, on a further seat
-    reply NUMBER, journal FIRST, entries, tree, last
-                        a reply; the journal from an entry on; its number of entries; the text of the tree; the last line of that
-    |LINE               adds a line to a text, which `script`, `robin` and `check` take for a script or a journal
+    reply NUMBER, journal FIRST, entries, opening, tree, last
+                        a reply; the journal from an entry on; its number of entries; what stands before the first one; the text of the tree; the last line
+                        of that
+    |LINE               adds a line to a text, which `script`, `robin` and `check` take for a script or a journal, and `from` for a tree
+    from LIMIT SEATS    opens a tree at that of the text, as `open` does an empty one
+    copy LIMIT          what a tree that opens where this one stands tells: its tree, its number of entries, and what a step of its first seat answers
+    checkpoint          hands the journal out, which begins again
 
 What is refused is answered with its status. At the end the calls under way go on to their returns. The journal has to be lawful then, and
 tests/model.py has to come to the same replies and to the same tree.
@@ -166,11 +170,30 @@ class Stage:
         ]
         return f"{replies.count('ok')} ok"
 
-    def on_open(self, limit, rest):
+    def on_open(self, limit, rest, text=None):
         self.seats, version = (*map(int, rest.split(" ")), 1)[:2]
-        self.tree = atomfs.Tree(harness.library(), int(limit), version)
+        self.tree = atomfs.Tree(harness.library(), int(limit), version, text)
         numbers = [self.tree.seat() for _ in range(self.seats)]
         return "" if numbers == list(range(self.seats)) else f"seats {numbers}"
+
+    def on_from(self, limit, rest):
+        return self.on_open(limit, rest, self.given.encode())
+
+    def on_copy(self, limit):
+        with atomfs.Tree(harness.library(), int(limit), other=self.tree) as copy:
+            try:
+                seat = copy.step(0)
+            except atomfs.Error as error:
+                seat = error.status.name
+            return f"{copy.tree().decode()}{copy.entries()[1]} entries, {seat}\n"
+
+    def on_checkpoint(self):
+        handed_out = self.tree.checkpoint().decode()
+        self.last, self.told = {}, {}
+        return handed_out
+
+    def on_opening(self):
+        return self.tree.opening().decode()
 
     def on_run(self, seat, call=""):
         number, reply = self.ran(int(seat), call)
@@ -244,6 +267,9 @@ class Transcripts(harness.Case):
 
     def test_embed(self):
         self.each(rows("embed"), self.play)
+
+    def test_starts(self):
+        self.each(rows("starts"), self.play)
 
 
 def functions(handle):

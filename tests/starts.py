@@ -189,6 +189,8 @@ class Starts(harness.Case):
             ("a script", ONE_CALL, ONE_CALL, "line 1: BadHeader"),
             ("no root", b"tree\ndir /a\n", ONE_CALL, "line 2: BadStart"),
             ("the line tree alone", b"tree\n", ONE_CALL, "line 2: BadStart"),
+            ("a file in the place of the root", b"tree\nfile / -\n", ONE_CALL, "line 2: BadStart"),
+            ("the root twice", tree_of("dir /"), ONE_CALL, "line 3: BadStart"),
             ("the word tree alone", b"tree", ONE_CALL, "line 2: BadStart"),
             ("entries in the place of the root", b"tree\nentries\n", ONE_CALL, "line 2: BadStart"),
             ("the line that ends the start tree of a journal", tree_of("entries"), ONE_CALL, "line 3: BadStart"),
@@ -201,6 +203,21 @@ class Starts(harness.Case):
             ("a fault before the entries", tree_of("# a", "dir b", "entries"), ONE_CALL, "line 4: BadStart"),
             ("out of order", tree_of("dir /b", "dir /a"), ONE_CALL, "line 4: BadStart"),
             ("twice", tree_of("dir /b", "dir /b"), ONE_CALL, "line 4: BadStart"),
+            ("a file in no directory", tree_of("file /a/f 6869"), ONE_CALL, "line 3: BadStart"),
+            (
+                "a directory again behind its file",
+                tree_of("dir /a", "file /a/f -", "dir /a"),
+                ONE_CALL,
+                "line 5: BadStart",
+            ),
+            (
+                "a file behind the next directory",
+                tree_of("dir /a", "dir /b", "file /a/f -"),
+                ONE_CALL,
+                "line 5: BadStart",
+            ),
+            ("in a file", tree_of("file /a -", "file /a/f -"), ONE_CALL, "line 4: BadStart"),
+            ("below a file", tree_of("dir /a", "file /a/f -", "dir /a/f/x"), ONE_CALL, "line 5: BadStart"),
             ("in no directory", tree_of("dir /b/a"), ONE_CALL, "line 3: BadStart"),
             (
                 "with the counts of a run",
@@ -211,6 +228,8 @@ class Starts(harness.Case):
             ("a name of 33 bytes", tree_of(short, long), ONE_CALL, "line 4: BadStart"),
             ("a name of 65 bytes", tree_of("dir /" + "n" * 65), second, "line 3: BadStart"),
             ("a file of 65,537 bytes", tree_of(large), ONE_CALL, "line 3: BadStart"),
+            ("a file of 1,048,577 bytes", tree_of("file /f " + "61" * 1_048_577), second, "line 3: BadStart"),
+            ("257 entries by the first limits", tree_of(*CROWD[:257]), ONE_CALL, "line 259: BadStart"),
             ("a journal of the other version", journal_of(3, "dir /a"), ONE_CALL, "line 1: BadHeader"),
             ("a journal of the first version", journal_of(2, "dir /a"), second, "line 1: BadHeader"),
             (
@@ -232,6 +251,47 @@ class Starts(harness.Case):
         )
         self.each(((name, ("run",), *rest) for name, *rest in rows), self.refused)
         self.each(((f"{name}, by round robin", ("run", "--robin"), *rest) for name, *rest in rows[:5]), self.refused)
+
+    def at_limit(self, version, nodes, call, reply):
+        """A tree goes in as it is, and a call finds it there."""
+        script = checkpoints.script("thread t", call, "schedule", "finish", version=version)
+        entries = f"begin 1 0 {call}", "commit 1", f"return 1 {reply}"
+        tree = checkpoints.text_of(*entries, "tree", "dir /", *nodes, "begun 1 committed 1 returned 1")
+        wanted = Outcome(0, journal_of(version + 1, *nodes) + tree)
+        self.ends(("run", "--from", in_file("-".join(self.row.split()), tree_of(*nodes))), script, wanted)
+
+    def test_at_each_limit(self):
+        """As many entries, as long a file, and more names on a branch than a path has."""
+        rows = []
+        for version, bytes_of_file, name in ((1, 65_536, 32), (2, 1_048_576, 64), (3, 1_048_577, 70)):
+            branch = ["dir " + count * ("/" + name * "d") for count in range(1, 71)]
+            rows += [
+                (f"256 entries, version {version}", version, CROWD[:256], "stat /", "stat dir 256"),
+                (
+                    f"a file, version {version}",
+                    version,
+                    ["file /f " + bytes_of_file * "61"],
+                    "stat /f",
+                    f"stat file {bytes_of_file}",
+                ),
+                (f"a branch, version {version}", version, branch, "stat /", "stat dir 1"),
+            ]
+        self.each(rows, self.at_limit)
+
+    def test_verdicts(self):
+        """A journal is checked from the tree at which it starts."""
+        rows = (
+            ("a directory that is there", "mkdir /a", "failed EEXIST", b"lawful\n"),
+            ("a directory that is made again", "mkdir /a", "ok", b"fault 3 WrongReply\n"),
+            ("a directory that goes", "rmdir /a", "ok", b"lawful\n"),
+        )
+        self.each(((name, *rest) for name, *rest in rows), self.checked)
+
+    def checked(self, call, reply, wanted):
+        given = journal_of(2, "dir /a") + checkpoints.text_of(f"begin 1 0 {call}", "commit 1", f"return 1 {reply}")
+        came = run(given, "check")
+        if harness.compares:
+            self.same(given, (came.status, came.output), (int(wanted != b"lawful\n"), wanted))
 
     def test_fault_of_the_script_first(self):
         path, given = in_file("no tree", b"hello\n"), b"atomfs 1\nthread t\nmkdir /a/\nschedule\n"
