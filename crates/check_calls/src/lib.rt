@@ -1,14 +1,19 @@
 //! Public calls whose answers no program and no call of the library for C shows: the order of names and how paths stand to
 //! each other (`names`); whether calls and replies are the same, and what texts are made of (`words`); where a walk and the
-//! heads of a rename stand, and a call that is cancelled (`walks`); parts of the runners, and the fault that no run ends with
-//! (`parts`); files at both sets of limits (`limits`). Those of cores are in `check_cores`.
+//! heads of a rename stand, and a call that is cancelled (`walks`); a core, its nodes, holders, commits and parts (`cores`), and
+//! the rows at which one begins (`starts`); parts of the runners, and the fault that no run ends with (`parts`); files at both
+//! sets of limits (`limits`).
 //!
-//! The lines of the folder `calls/` are written with their answers, as worked tables; the other modules compare.
+//! The lines of the folder `calls/` are written with their answers, as worked tables; the other modules compare. `spelled` reads
+//! the calls and the replies that texts spell.
 #![tactic(auto)]
 
+mod cores;
 mod limits;
 mod names;
 mod parts;
+mod spelled;
+mod starts;
 mod transcript;
 mod walks;
 mod words;
@@ -23,7 +28,8 @@ pub fn run<R: Files + AllocGlobal + Print>(rt: &R) -> Result<()> {
     go_through(rt, "calls/names")?;
     go_through(rt, "calls/words")?;
     walks::compare(alloc)?;
-    check_cores::compare(alloc)?;
+    cores::compare(alloc)?;
+    starts::compare(alloc)?;
     parts::compare(alloc)?;
     limits::compare(alloc)?;
     println!(rt;

@@ -1,8 +1,8 @@
 //! Calls and replies, told apart, and what texts are made of.
 
+use crate::spelled::{calls_of, reply_in, return_of};
 use crate::transcript::shown;
 use anyhow::{Result, bail, ensure};
-use check_cores::spelled::{calls_of, reply_in, return_of};
 use fs_calls::{Bytes, Data, NameList, Reply};
 use fs_memory::Memory;
 use fs_names::{Name, NameRoom};

@@ -23,7 +23,7 @@ const KINDS: [(&[u8], Option<Kind>); 5] = [
 ];
 
 /// Two seats of a core that has none.
-pub fn take_seats(core: &mut Core) -> Result<()>
+fn take_seats(core: &mut Core) -> Result<()>
     ensures { OnOk result (length core.new.seats ≡ 2) }
 {
     let first = core.seat()?;

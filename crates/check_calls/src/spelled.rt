@@ -40,9 +40,3 @@ pub fn reply_in(entries: &[Entry]) -> Result<&Reply> {
         _ => bail!("no reply"),
     }
 }
-
-/// Whether a reply is the one that a text spells.
-pub fn is_reply(alloc: Global, reply: &Reply, text: &str) -> Result<bool> {
-    let due = return_of(alloc, text)?;
-    Ok(reply_in(&due)?.same(reply))
-}
