@@ -1,9 +1,9 @@
-//! Times parts of AtomFS: the sequential tree and the journal checker on drawn calls, the calls of a script's threads on one
-//! shared tree, and observers beside a told writer. In the gate it does each with a few calls, counts the entries that calls look
-//! at as a tree grows, which neither the program nor the library for C tells, and writes no times.
+//! Times parts of AtomFS that neither the program nor the library for C times: the calls of a script's threads on one shared tree,
+//! and observers beside a told writer. In the gate it does each with a few calls, counts the entries that calls look at as a tree
+//! grows, which those do not tell either, and writes no times.
 //!
-//! Enter at `run`, or for one part, timed, at `time_tree`, `time_threads`, `time_observers` and `time_ended`. Only programs that are no part
-//! of the product stand on it, and it promises nothing.
+//! Enter at `run`, or for one part, timed, at `time_threads`, `time_observers` and `time_ended`. Only programs that are no part of the
+//! product stand on it, and it promises nothing.
 #![tactic(auto)]
 
 mod ended;
@@ -11,7 +11,6 @@ mod files;
 mod growth;
 mod observers;
 mod threads;
-mod tree;
 mod writes;
 
 use anyhow::Result;
@@ -22,7 +21,7 @@ use std::sync::Wait;
 use std::thread::Threads;
 use std::time::Clock;
 
-/// How many calls are drawn, and how many reads each observer does, in the gate.
+/// How many reads each observer does, in the gate.
 const FEW: u32 = 500;
 
 /// How many writes are played in the gate.
@@ -42,11 +41,6 @@ rename /b /c
 readdir /c
 schedule
 ";
-
-/// Draws so many calls, and times the sequential tree and the checker.
-pub fn time_tree<R: Print + Clock>(rt: &R, alloc: Global, calls: u32) -> Result<()> {
-    tree::run(rt, alloc, calls, true)
-}
 
 /// Times the calls of a script's threads.
 pub fn time_threads<R: Print + Threads + Wait + Clock + Sync>(
@@ -89,7 +83,6 @@ pub fn fill_file<R: Print>(rt: &R, alloc: Global, filling: Filling, mebibytes: u
 
 /// Each part with a few calls, and what calls cost as a tree grows.
 pub fn run<R: Print + Threads + Wait + Clock + Sync>(rt: &R, alloc: Global) -> Result<()> {
-    tree::run(rt, alloc, FEW, false)?;
     threads::run(rt, alloc, CALLS, false)?;
     observers::run(rt, alloc, FEW.into(), false)?;
     ended::run(rt, alloc, Before::Session, 2, true)?;

@@ -1,10 +1,10 @@
 //! Checks what is not proved and what neither the program nor the library for C shows: `checks` runs each library of checks in
 //! turn, and `checks NAME` one of them. The gate runs the first, and compares what it writes with `stdout` beside `src/`, whose
 //! worked tables are there to be read. The libraries say what they check; `data/` has a folder for the one that reads files.
-//! `checks time tree CALLS`, `checks time observers READS` and, with a script on standard input, `checks time threads` time
-//! parts of AtomFS (`bench`). `checks time ended TIMES` makes renames behind so many sessions that have ended, `checks time
-//! sessions TIMES` the sessions alone; `run` and `pools` do the same with runs of a pool. `checks time writes CALLS` keeps calls that
-//! write, for a look at the memory; `scattered`, `appended` and `shared` fill a file of so many mebibytes in blocks.
+//! `checks time observers READS` and, with a script on standard input, `checks time threads` time parts of AtomFS (`bench`).
+//! `checks time ended TIMES` makes renames behind so many sessions that have ended, `checks time sessions TIMES` the sessions alone;
+//! `run` and `pools` do the same with runs of a pool. `checks time writes CALLS` keeps calls that write, for a look at the memory;
+//! `scattered`, `appended` and `shared` fill a file of so many mebibytes in blocks.
 #![tactic(auto)]
 
 use anyhow::{Result, bail};
@@ -60,7 +60,6 @@ fn time<R: Print + Threads + Wait + Clock + Sync>(
     number: u32,
 ) -> Result<()> {
     match part {
-        "tree" => bench::time_tree(rt, alloc, number),
         "observers" => bench::time_observers(rt, alloc, number),
         "writes" => bench::keep_writes(rt, alloc, number),
         "scattered" => bench::fill_file(rt, alloc, Filling::Scattered, number),
