@@ -6,6 +6,7 @@ mod again;
 mod busy;
 mod calls;
 mod drawn;
+mod handed;
 mod held;
 mod listed;
 mod places;
@@ -88,5 +89,7 @@ pub fn run<R: Print + Threads + Wait + Clock + Sync>(rt: &R, alloc: Global) -> a
     println!(rt; "a tree that begins again is shown as it was: {again}")?;
     let listed = word(listed::is_told(rt, alloc));
     println!(rt; "what an observer was told of is a beginning of the journal: {listed}")?;
+    let handed = word(handed::are_shown(rt, alloc));
+    println!(rt; "a directory is shown to two observers: {handed}")?;
     Ok(())
 }

@@ -1,4 +1,4 @@
-use Rattle.example_threads.proofs.observers.are_shown.Given as goal
+use Rattle.check_observers.proofs.handed.are_shown.Given as goal
 
 abbrev pub ghosts-on_named-N-Named : goal.ghosts-on_named-N-Named
 ghosts-on_named-N-Named g a = record { book = a.opened }
