@@ -7,9 +7,11 @@ import ctypes
 import importlib.util
 import os
 import pathlib
+import typing
 
 _PATH = pathlib.Path(__file__).resolve().parent.parent / "bindings" / "python" / "src" / "atomfs" / "_header.py"
 _SPEC = importlib.util.spec_from_file_location("atomfs_header", _PATH)
+assert _SPEC and _SPEC.loader
 # What the header declares, as embed/header.py has written it for Python.
 header = importlib.util.module_from_spec(_SPEC)
 _SPEC.loader.exec_module(header)
@@ -23,7 +25,7 @@ NO_SEAT = 2**64 - 1
 
 
 # What stands in the place of a type of the header, by ctypes.
-TYPES = {
+TYPES: dict[str, typing.Any] = {
     **{"Byte": ctypes.c_uint8, "Word": ctypes.c_uint32, "Size": ctypes.c_size_t, "Number": ctypes.c_uint64},
     **{"Bytes": ctypes.c_char_p, "Room": ctypes.c_char_p, "HandleAt": ctypes.POINTER(Handle)},
     **{"ByteAt": ctypes.POINTER(ctypes.c_uint8), "SizeAt": ctypes.POINTER(ctypes.c_size_t)},
@@ -32,10 +34,14 @@ TYPES = {
 }
 
 
+# What asks a function for a text: with room for it, how much that is, and where its length goes.
+Ask = typing.Callable[..., int]
+
+
 class Error(Exception):
     """A status that is not OK. `about` is the number of the call that WAITS, or the line of a text's fault, and else 0."""
 
-    def __init__(self, status, about=0):
+    def __init__(self, status: int, about: int = 0) -> None:
         super().__init__(Status(status).name)
         self.status, self.about = Status(status), about
 
@@ -43,7 +49,7 @@ class Error(Exception):
 class Library:
     """The shared object at a path."""
 
-    def __init__(self, path):
+    def __init__(self, path: str) -> None:
         self.lib = ctypes.PyDLL(path)
         for name, declared in vars(header.Functions).items():
             # An archive of the proved functions alone has no others.
@@ -53,7 +59,12 @@ class Library:
                 function.argtypes, function.restype = kinds, ctypes.c_uint8
                 setattr(self, f"atomfs_{name}", function)
 
-    def text(self, ask, room=4096):
+    if typing.TYPE_CHECKING:
+
+        def __getattr__(self, name: str) -> typing.Callable[..., int]:
+            """The functions that are set above."""
+
+    def text(self, ask: Ask, room: int = 4096) -> bytes:
         """The text that a function tells, with as much room as it turns out to want."""
         while True:
             out, count = ctypes.create_string_buffer(room), ctypes.c_size_t()
@@ -64,41 +75,41 @@ class Library:
                 raise Error(status, count.value)
             room = count.value
 
-    def run(self, script):
+    def run(self, script: bytes) -> bytes:
         """The run text of a script, by its own schedule."""
         return self.text(lambda *told: self.atomfs_run(script, len(script), *told))
 
-    def check(self, journal):
+    def check(self, journal: bytes) -> bytes:
         """The line of the verdict on a journal."""
         return self.text(lambda *told: self.atomfs_check(journal, len(journal), *told))
 
-    def trace(self, script, schedule=Schedule.GIVEN, seed=0, every=0):
+    def trace(self, script: bytes, schedule: int = Schedule.GIVEN, seed: int = 0, every: int = 0) -> bytes:
         """The trace of a script's run by a schedule."""
         return self.text(lambda *told: self.atomfs_trace(script, len(script), schedule, seed, every, *told))
 
-    def draw(self, text, schedule=Schedule.GIVEN, seed=0, around=WHOLE):
+    def draw(self, text: bytes, schedule: int = Schedule.GIVEN, seed: int = 0, around: int = WHOLE) -> bytes:
         """The picture of a script's run by a schedule, or of a journal."""
         return self.text(lambda *told: self.atomfs_draw(text, len(text), schedule, seed, around, *told))
 
-    def schedule(self, script, schedule=Schedule.ROUND_ROBIN, seed=0):
+    def schedule(self, script: bytes, schedule: int = Schedule.ROUND_ROBIN, seed: int = 0) -> bytes:
         """A script with the events of its run by a schedule as its words."""
         return self.text(lambda *told: self.atomfs_schedule(script, len(script), schedule, seed, *told))
 
-    def seeds(self, script, seed=0, runs=1):
+    def seeds(self, script: bytes, seed: int = 0, runs: int = 1) -> bytes:
         """The lines of so many drawn runs of a script."""
         return self.text(lambda *told: self.atomfs_seeds(script, len(script), seed, runs, *told))
 
-    def linearize(self, history, tell=Tell.LINE, limit=10_000_000):
+    def linearize(self, history: bytes, tell: int = Tell.LINE, limit: int = 10_000_000) -> tuple[typing.Any, bytes]:
         """What came of a history, and the text of it."""
         found = ctypes.c_uint8()
         text = self.text(lambda *told: self.atomfs_linearize(history, len(history), limit, tell, *told, found))
         return Found(found.value), text
 
-    def explain(self, word):
+    def explain(self, word: bytes) -> bytes:
         """What the word of a fault means."""
         return self.text(lambda *told: self.atomfs_explain(word, len(word), *told))
 
-    def check_path(self, path, version=1):
+    def check_path(self, path: bytes, version: int = 1) -> typing.Any:
         """Whether bytes are a path by the limits of a version, or why they are none."""
         return Status(self.atomfs_check_path(path, len(path), version))
 
@@ -106,7 +117,14 @@ class Library:
 class Tree:
     """A tree of at most so many nodes, its root included, by the limits of a version. It is to be closed, as by `with`."""
 
-    def __init__(self, library, limit, version=1, text=None, other=None):
+    def __init__(
+        self,
+        library: Library,
+        limit: int,
+        version: int = 1,
+        text: bytes | None = None,
+        other: "Tree | None" = None,
+    ) -> None:
         """An empty one; one that opens at the tree of a text; or one that opens where another stands, by the limits of that."""
         self.library, self.handle = library, Handle()
         line, number = ctypes.c_size_t(), ctypes.c_uint64()
@@ -117,74 +135,74 @@ class Tree:
         else:
             self.done(library.atomfs_open_with(self.handle, limit, version))
 
-    def __enter__(self):
+    def __enter__(self) -> "Tree":
         return self
 
-    def __exit__(self, *error):
+    def __exit__(self, *error: object) -> None:
         self.close()
 
-    def close(self):
+    def close(self) -> None:
         self.done(self.library.atomfs_close(self.handle))
 
     @staticmethod
-    def done(status, about=0):
+    def done(status: int, about: int = 0) -> None:
         """Raises what a status tells: the error of a call, or why there was no call."""
         if status >= FAILED:
             raise OSError(status - FAILED, os.strerror(status - FAILED))
         if status != Status.OK:
             raise Error(status, about)
 
-    def seat(self):
+    def seat(self) -> int:
         """The number of a new seat."""
         seat = ctypes.c_uint64()
         self.done(self.library.atomfs_seat(self.handle, seat))
         return seat.value
 
-    def made(self, name, seat, *given):
+    def made(self, name: str, seat: int, *given: typing.Any) -> int:
         """Makes a typed call, and answers its number."""
         number = ctypes.c_uint64()
         self.done(getattr(self.library, "atomfs_" + name)(self.handle, seat, *given, number), number.value)
         return number.value
 
-    def mkdir(self, seat, path):
+    def mkdir(self, seat: int, path: bytes) -> None:
         """Makes an empty directory."""
         self.made("mkdir", seat, path, len(path))
 
-    def mknod(self, seat, path):
+    def mknod(self, seat: int, path: bytes) -> None:
         """Makes an empty file."""
         self.made("mknod", seat, path, len(path))
 
-    def unlink(self, seat, path):
+    def unlink(self, seat: int, path: bytes) -> None:
         """Removes the entry of a file."""
         self.made("unlink", seat, path, len(path))
 
-    def rmdir(self, seat, path):
+    def rmdir(self, seat: int, path: bytes) -> None:
         """Removes the entry of an empty directory."""
         self.made("rmdir", seat, path, len(path))
 
-    def rename(self, seat, path, other):
+    def rename(self, seat: int, path: bytes, other: bytes) -> None:
         """Moves what stands at a path to another."""
         self.made("rename", seat, path, len(path), other, len(other))
 
-    def exchange(self, seat, path, other):
+    def exchange(self, seat: int, path: bytes, other: bytes) -> None:
         """Lets what stands at two paths change places."""
         self.made("exchange", seat, path, len(path), other, len(other))
 
-    def stat(self, seat, path):
+    def stat(self, seat: int, path: bytes) -> typing.Any:
         """What stands at a path."""
         stat = Stat()
         self.made("stat", seat, path, len(path), stat)
         return stat
 
-    def readdir(self, seat, path, room=1024):
+    def readdir(self, seat: int, path: bytes, room: int = 1024) -> typing.List[bytes]:
         """The names of a directory. The call is made once: where they have no room, the others are asked for behind the last one."""
         return self.names(self.library.atomfs_readdir, seat, path, len(path), room=room)
 
-    def list(self, seat, path, after, most, room=1024):
+    def list(self, seat: int, path: bytes, after: bytes, most: int, room: int = 1024) -> typing.List[bytes]:
         """Names of a directory above the last one of a path, at most so many."""
         return self.names(self.library.atomfs_list, seat, path, len(path), after, len(after), most, room=room)
 
-    def names(self, function, *given, room):
+    def names(self, function: typing.Callable[..., int], *given: typing.Any, room: int) -> typing.List[bytes]:
         """The names that a call replies."""
         out, count, number = ctypes.create_string_buffer(room), ctypes.c_size_t(), ctypes.c_uint64()
         status = function(self.handle, *given, out, room, count, number)
@@ -199,41 +217,41 @@ class Tree:
                 return names[1:]
             names += out.raw[: count.value].split(b"\0")[:-1]
 
-    def read(self, seat, path, offset, size):
+    def read(self, seat: int, path: bytes, offset: int, size: int) -> bytes:
         """At most so many bytes of a file, from an offset on."""
         out, count = ctypes.create_string_buffer(size), ctypes.c_size_t()
         self.made("read", seat, path, len(path), offset, out, size, count)
         return out.raw[: count.value]
 
-    def write(self, seat, path, offset, data):
+    def write(self, seat: int, path: bytes, offset: int, data: bytes) -> int:
         """Writes bytes into a file at an offset, and answers how many."""
         wrote = ctypes.c_uint64()
         self.made("write", seat, path, len(path), offset, data, len(data), wrote)
         return wrote.value
 
-    def truncate(self, seat, path, size):
+    def truncate(self, seat: int, path: bytes, size: int) -> None:
         """Cuts a file to a size, or adds zeros up to it."""
         self.made("truncate", seat, path, len(path), size)
 
-    def begin(self, seat, line):
+    def begin(self, seat: int, line: bytes) -> int:
         """The number of the call of a line that begins."""
         number = ctypes.c_uint64()
         self.done(self.library.atomfs_begin(self.handle, seat, line, len(line), number))
         return number.value
 
-    def step(self, seat):
+    def step(self, seat: int) -> tuple[typing.Any, int]:
         """What the step did, and what that speaks of."""
         did, about = ctypes.c_uint8(), ctypes.c_uint64()
         self.done(self.library.atomfs_step(self.handle, seat, did, about))
         return Did(did.value), about.value
 
-    def step_any(self):
+    def step_any(self) -> tuple[int | None, typing.Any, int]:
         """The seat whose call went on by a step, what it did, and what that speaks of; none of a seat where no call is under way."""
         seat, did, about = ctypes.c_uint64(NO_SEAT), ctypes.c_uint8(), ctypes.c_uint64()
         self.done(self.library.atomfs_step_any(self.handle, seat, did, about))
         return None if seat.value == NO_SEAT else seat.value, Did(did.value), about.value
 
-    def run(self, seat, line, room=256):
+    def run(self, seat: int, line: bytes, room: int = 256) -> tuple[int, bytes]:
         """The number of a call that begins and returns, and its reply. A call is made once: a long reply is asked for again."""
         out, count, number = ctypes.create_string_buffer(room), ctypes.c_size_t(), ctypes.c_uint64()
         status = self.library.atomfs_call(self.handle, seat, line, len(line), out, len(out), count, number)
@@ -242,29 +260,29 @@ class Tree:
         self.done(status, number.value)
         return number.value, out.raw[: count.value]
 
-    def call(self, seat, line):
+    def call(self, seat: int, line: bytes) -> bytes:
         """The reply of a call that begins and returns."""
         return self.run(seat, line)[1]
 
-    def reply(self, number):
+    def reply(self, number: int) -> bytes:
         """The reply of a call that has returned."""
         return self.library.text(lambda *told: self.library.atomfs_reply(self.handle, number, *told))
 
-    def entries(self, first=0):
+    def entries(self, first: int = 0) -> tuple[bytes, int]:
         """The journal's lines from an entry on, and how many entries there are."""
         count = ctypes.c_size_t()
         lines = self.library.text(lambda *told: self.library.atomfs_journal(self.handle, first, *told, count))
         return lines, count.value
 
-    def opening(self):
+    def opening(self) -> bytes:
         """What stands before the first entry of the journal: after a checkpoint the tree at which it begins too."""
         return self.library.text(lambda *told: self.library.atomfs_opening(self.handle, *told))
 
-    def journal(self):
+    def journal(self) -> bytes:
         """The journal, which `Library.check` and `atomfs check` read."""
         return self.opening() + self.entries()[0]
 
-    def checkpoint(self):
+    def checkpoint(self) -> bytes:
         """The journal, which is handed out and begins again at the tree as it stands, with no entries and call numbers at 1."""
         number = ctypes.c_uint64()
         try:
@@ -272,22 +290,22 @@ class Tree:
         except Error as error:
             raise Error(error.status, number.value) from None
 
-    def forget(self):
+    def forget(self) -> int:
         """How many calls are forgotten: the journal begins again at the tree as it stands."""
         number = ctypes.c_uint64()
         self.done(self.library.atomfs_forget(self.handle, number), number.value)
         return number.value
 
-    def keep(self, most):
+    def keep(self, most: int) -> None:
         """From now on more calls than so many are forgotten before one begins."""
         self.done(self.library.atomfs_keep(self.handle, most))
 
-    def verdict(self):
+    def verdict(self) -> tuple[int, int]:
         """The place of the first entry that does not fit and what is wrong with it, or 0 and 0."""
         place, kind = ctypes.c_uint64(), ctypes.c_uint8()
         self.done(self.library.atomfs_verdict(self.handle, place, kind))
         return place.value, kind.value
 
-    def tree(self):
+    def tree(self) -> bytes:
         """The text of the tree as it stands now."""
         return self.library.text(lambda *told: self.library.atomfs_tree(self.handle, *told))

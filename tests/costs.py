@@ -1,4 +1,5 @@
 """What a run of the tests costs: the seconds of each part, and the seconds of processors that it and all processes below it took."""
+import collections.abc
 import contextlib
 import os
 import time
@@ -26,14 +27,14 @@ class Part(typing.NamedTuple):
     processors: float
 
 
-def processor_seconds():
+def processor_seconds() -> float:
     """What this process and all that ended below it have taken."""
     times = os.times()
     return times.user + times.system + times.children_user + times.children_system
 
 
 @contextlib.contextmanager
-def measured(parts, name, kind):
+def measured(parts: list[Part], name: str, kind: str) -> collections.abc.Iterator[None]:
     """Adds to parts what is done meanwhile."""
     began, had = time.monotonic(), processor_seconds()
     try:
@@ -42,7 +43,7 @@ def measured(parts, name, kind):
         parts.append(Part(name, kind, time.monotonic() - began, processor_seconds() - had))
 
 
-def told(parts, work=""):
+def told(parts: list[Part], work: str = "") -> collections.abc.Iterator[str]:
     """The lines that tell what parts took: each part, each kind, and the sum. `work` is what `rt ci` said of how much it did."""
     yield from (f"{part.seconds:8.1f} s {part.processors:8.1f} processor-seconds {part.name}" for part in parts)
     for kind in dict.fromkeys(part.kind for part in parts):

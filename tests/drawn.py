@@ -1,5 +1,7 @@
 """Drawn calls, the threads that make them, and scripts of these. Each drawing takes its numbers from a `random.Random` that is handed over."""
 import re
+from collections.abc import Iterable
+from random import Random
 
 # Of these a name is drawn for calls that are to meet: the last one is the rarest.
 LETTERS = "a" * 10 + "b" * 9 + "c"
@@ -55,39 +57,39 @@ DIRECTORIES = "/a /a/a /a/b /a/a/a /a/a/b /a/b/a /a/b/b /b /b/a /b/b /b/a/a /b/a
 OUTSIDE_B = 7
 
 
-def kind(draw, shares):
+def kind(draw: Random, shares: dict[str, int]) -> str:
     return draw.choices(list(shares), list(shares.values()))[0]
 
 
-def names(draw, count):
+def names(draw: Random, count: int) -> list[str]:
     return [draw.choice(LETTERS) for _ in range(count)]
 
 
-def path(names):
+def path(names: Iterable[str]) -> str:
     return "/" + "/".join(names)
 
 
-def beside(names):
+def beside(names: list[str]) -> list[str]:
     """The names of a path that differs in the last one alone."""
     last = "c" if len(names) > 1 else "b" if names == ["a"] else "a"
     return [*names[:-1], last]
 
 
-def rename(draw):
+def rename(draw: Random) -> str:
     """A rename of what stands high, mostly to a name beside it."""
     old = names(draw, draw.choice(HIGH))
     new = beside(old) if draw.randrange(3) else names(draw, draw.choice(HIGH))
     return f"rename {path(old)} {path(new)}"
 
 
-def exchange(draw):
+def exchange(draw: Random) -> str:
     """An exchange of what stands high, mostly with what stands beside it."""
     one = names(draw, draw.choice(HIGH))
     other = [*one[:-1], "b" if one[-1] == "a" else "a"] if draw.randrange(3) else names(draw, draw.choice(HIGH))
     return f"exchange {path(one)} {path(other)}"
 
 
-def moving_call(draw, shares=MOVING):
+def moving_call(draw: Random, shares: dict[str, int] = MOVING) -> str:
     """A rename or an exchange of what stands high, or a call on what stands low."""
     chosen = kind(draw, shares)
     if chosen == "rename":
@@ -106,19 +108,19 @@ def moving_call(draw, shares=MOVING):
             return first
 
 
-def making(draw):
+def making(draw: Random) -> list[str]:
     """The calls that make a tree for the others."""
     count = OUTSIDE_B if draw.randrange(4) else len(DIRECTORIES)
     directories = [f"mkdir {directory}" for directory in DIRECTORIES[:count] if draw.randrange(16)]
     return directories + [f"mknod {path(names(draw, 4))}" for _ in range(4)]
 
 
-def moving(draw):
+def moving(draw: Random) -> list[list[str]]:
     """A thread that makes a tree, and two to six threads of three to eight calls that use it."""
     return [making(draw), *([moving_call(draw) for _ in range(draw.randint(3, 8))] for _ in range(draw.randint(2, 6)))]
 
 
-def exchanging(draw):
+def exchanging(draw: Random) -> list[list[str]]:
     """A thread that makes all directories, and two to six threads of three to eight calls that use them, many of which are exchanges."""
     made = [f"mkdir {directory}" for directory in DIRECTORIES] + [f"mknod {path(names(draw, 4))}" for _ in range(4)]
     return [
@@ -127,7 +129,7 @@ def exchanging(draw):
     ]
 
 
-def helped_call(draw):
+def helped_call(draw: Random) -> str:
     """A rename or an exchange of what stands high, or a call on a file below, or a rename of that to a directory above it."""
     chosen = kind(draw, HELPED)
     if chosen in ("rename", "exchange"):
@@ -146,7 +148,7 @@ def helped_call(draw):
             return f"{chosen} {directory}/c"
 
 
-def helped(draw):
+def helped(draw: Random) -> tuple[list[list[str]], str]:
     """A thread that makes all directories and a file in each, two to six threads of three to eight calls, many of which move what others have on their
     ways; and a schedule in which the first thread is done before the others begin."""
     made = [f"mkdir {directory}" for directory in DIRECTORIES] + [f"mknod {directory}/c" for directory in DIRECTORIES]
@@ -157,20 +159,20 @@ def helped(draw):
     return threads, " ".join([f"t0*{events}", *words, "finish"])
 
 
-def narrow_call(draw):
+def narrow_call(draw: Random) -> str:
     return f"{draw.choice(('mkdir', 'stat'))} {path(names(draw, draw.randint(1, 3)))}"
 
 
-def narrow(draw):
+def narrow(draw: Random) -> list[list[str]]:
     """Three threads of six calls that make directories and look at them."""
     return [[narrow_call(draw) for _ in range(6)] for _ in range(3)]
 
 
-def crowded_path(draw):
+def crowded_path(draw: Random) -> str:
     return path(draw.choice("abc") for _ in range(draw.choice((1, 1, 2, 2, 2, 3, 3, 4))))
 
 
-def crowded_call(draw):
+def crowded_call(draw: Random) -> str:
     """Any call, over three names, at most four deep."""
     chosen = kind(draw, CROWDED)
     first = f"{chosen} {crowded_path(draw)}"
@@ -187,18 +189,18 @@ def crowded_call(draw):
             return first
 
 
-def crowded(draw):
+def crowded(draw: Random) -> list[list[str]]:
     """Two to sixteen threads of few or of many calls."""
     most = draw.choice((3, 10, 60))
     return [[crowded_call(draw) for _ in range(draw.randrange(1, most))] for _ in range(draw.randint(2, 16))]
 
 
-def lengthened(call):
+def lengthened(call: str) -> str:
     """The call with long names in the place of some."""
     return re.sub("/([bc])", lambda name: f"/{LONG[name[1]]}", call)
 
 
-def listing_call(draw):
+def listing_call(draw: Random) -> str:
     """Any call of the third limits, over three names, at most four deep; of those that are listed some above a name, of a path of one or more."""
     chosen = kind(draw, LISTING)
     first = f"{chosen} {crowded_path(draw)}"
@@ -218,12 +220,12 @@ def listing_call(draw):
             return first
 
 
-def listing(draw):
+def listing(draw: Random) -> list[list[str]]:
     """Two to six threads of a few calls by the third limits."""
     return [[lengthened(listing_call(draw)) for _ in range(draw.randint(3, 12))] for _ in range(draw.randint(2, 6))]
 
 
-def script(threads, schedule="finish", version=1):
+def script(threads: Iterable[list[str]], schedule: str = "finish", version: int = 1) -> str:
     """The script of some threads: t0, t1, t2 and so on."""
     blocks = "".join(
         f"thread t{number}\n" + "".join(f"{line}\n" for line in calls) for number, calls in enumerate(threads)

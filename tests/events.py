@@ -5,6 +5,8 @@ An order is an iterator over the threads whose turn it is. It looks at those tha
 import collections
 import ctypes
 import itertools
+from collections.abc import Callable, Iterator
+from random import Random
 
 import model
 from harness import atomfs
@@ -15,20 +17,22 @@ STEPS = ("idle", "took", "busy", "let go", "helped", "committed", "carried out",
 # No run has as many events as this for each of its calls.
 MOST_EVENTS = 1_000
 
+Order = Callable[[Random, set[int]], Iterator[int]]
 
-def rounds(draw, live):
+
+def rounds(draw: Random, live: set[int]) -> Iterator[int]:
     """One event of each thread in turn."""
     while live:
         yield from sorted(live)
 
 
-def drawn(draw, live):
+def drawn(draw: Random, live: set[int]) -> Iterator[int]:
     """The thread of each event is drawn."""
     while live:
         yield draw.choice(sorted(live))
 
 
-def words(draw, live):
+def words(draw: Random, live: set[int]) -> Iterator[int]:
     """Drawn threads have some events each, and rounds follow."""
     for _ in range(150):
         if live:
@@ -36,10 +40,10 @@ def words(draw, live):
     yield from rounds(draw, live)
 
 
-def made_first(order):
+def made_first(order: Order) -> Order:
     """The order in which the first thread has all its events before the others."""
 
-    def ordered(draw, live):
+    def ordered(draw: Random, live: set[int]) -> Iterator[int]:
         while 0 in live:
             yield 0
         yield from order(draw, live)
@@ -50,14 +54,16 @@ def made_first(order):
 class Run:
     """The calls of threads on a tree: those that are left, those that have begun, and how often each event came."""
 
-    def __init__(self, tree, threads):
-        self.tree, self.counts = tree, collections.Counter()
+    def __init__(self, tree: atomfs.Tree, threads: list[list[str]]) -> None:
+        self.tree = tree
+        self.counts: collections.Counter[str] = collections.Counter()
         self.left = {tree.seat(): calls[::-1] for calls in threads}
         self.live = {seat for seat, calls in self.left.items() if calls}
-        self.under_way, self.begun = set(), {}
+        self.under_way: set[int] = set()
+        self.begun: dict[int, list[str]] = {}
         self.did, self.about = ctypes.c_uint8(), ctypes.c_uint64()
 
-    def begin(self, seat):
+    def begin(self, seat: int) -> str:
         line = self.left[seat].pop()
         try:
             self.tree.begin(seat, line.encode())
@@ -69,7 +75,7 @@ class Run:
         self.begun.setdefault(seat, []).append(line)
         return "begun"
 
-    def step(self, seat):
+    def step(self, seat: int) -> str:
         """A step as `Tree.step` makes it, but with nothing made anew: there are millions of them."""
         self.tree.done(self.tree.library.atomfs_step(self.tree.handle, seat, self.did, self.about))
         did = STEPS[self.did.value]
@@ -77,27 +83,27 @@ class Run:
             self.under_way.remove(seat)
         return did
 
-    def event(self, seat):
+    def event(self, seat: int) -> None:
         """The event of a thread, if it has one left."""
         if seat in self.live:
             self.counts[self.step(seat) if seat in self.under_way else self.begin(seat)] += 1
             if seat not in self.under_way and not self.left[seat]:
                 self.live.remove(seat)
 
-    def play(self, order, draw):
+    def play(self, order: Order, draw: Random) -> "Run":
         """Has the events of an order, up to more than any run needs."""
         most = MOST_EVENTS * sum(map(len, self.left.values()))
         for seat in itertools.islice(order(draw, self.live), most):
             self.event(seat)
         return self
 
-    def text(self):
+    def text(self) -> str:
         """The run text, whose counts are those of the events."""
         count = self.counts
         journal, tree = self.tree.journal().decode(), self.tree.tree().decode()
         return f"{journal}{tree}begun {count['begun']} committed {count['committed'] + count['helped']} returned {count['returned']}\n"
 
-    def fault(self):
+    def fault(self) -> str | None:
         """What is wrong with a run that was played, if anything is."""
         count, text = self.counts, self.text()
         if self.live:

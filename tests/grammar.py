@@ -2,13 +2,33 @@
 
 Calls and replies come in their canonical form, as the program writes them.
 """
-import collections
+import collections.abc
 import re
+import typing
 
 THREADS, EVENTS = 256, 1_000_000
 GREATEST, GREATEST_COUNT = 2**64 - 1, 2**32 - 1
 
-Limits = collections.namedtuple("Limits", "path_names name_bytes entries file_bytes has_list text_bytes calls")
+
+class Limits(typing.NamedTuple):
+    """A set of limits."""
+
+    path_names: int
+    name_bytes: int
+    entries: int
+    file_bytes: int
+    has_list: bool
+    text_bytes: int
+    calls: int
+
+
+# What reads a word, and the readers of the last words of each form, by its first words.
+Reader = collections.abc.Callable[[bytes, Limits], str]
+Forms = dict[tuple[bytes, ...], list[Reader]]
+# The names of a path, and the nodes of a tree by theirs.
+Path = tuple[bytes, ...]
+Nodes = dict[Path, bytes | None]
+
 V1 = Limits(64, 32, 256, 65_536, False, 16_777_216, 65_536)
 V2 = Limits(64, 64, 256, 1_048_576, False, 16_777_216, 65_536)
 V3 = Limits(2_048, 255, 1_048_576, 2_147_483_648, True, 1_073_741_824, 4_194_304)
@@ -34,46 +54,46 @@ ERRORS = (
 class Fault(Exception):
     """The first fault of a text, and the line that has it."""
 
-    def __init__(self, kind, line=None):
+    def __init__(self, kind: str, line: int | None = None) -> None:
         super().__init__(kind)
         self.kind, self.line = kind, line
 
-    def __str__(self):
+    def __str__(self) -> str:
         return f"line {self.line}: {self.kind}"
 
 
-def decoded(word):
+def decoded(word: bytes) -> bytes:
     """The bytes that a word spells: any other % stands for itself."""
     return re.sub(rb"%([0-9A-Fa-f]{2})", lambda escape: bytes([int(escape[1], 16)]), word)
 
 
-def escaped(name):
+def escaped(name: bytes) -> str:
     return "".join(chr(byte) if 0x20 < byte < 0x7F and byte != 0x25 else f"%{byte:02X}" for byte in name)
 
 
-def fixed(word, _limits):
+def fixed(word: bytes, _limits: Limits) -> str:
     """A word that stands for itself."""
     return word.decode()
 
 
-def number(word, _limits, greatest=GREATEST):
+def number(word: bytes, _limits: Limits, greatest: int = GREATEST) -> str:
     if not re.fullmatch(rb"0|[1-9][0-9]{0,19}", word) or int(word) > greatest:
         raise Fault("BadNumber")
     return word.decode()
 
 
-def count(word, limits):
+def count(word: bytes, limits: Limits) -> str:
     """How many names a list asks for."""
     return number(word, limits, GREATEST_COUNT)
 
 
-def hexadecimal(word, _limits):
+def hexadecimal(word: bytes, _limits: Limits) -> str:
     if not re.fullmatch(rb"-|([0-9A-Fa-f]{2})+", word):
         raise Fault("BadHex")
     return word.decode().lower()
 
 
-def path(word, limits):
+def path(word: bytes, limits: Limits) -> str:
     given = decoded(word)
     if not given.startswith(b"/"):
         raise Fault("BadPath NotAbsolute")
@@ -92,7 +112,7 @@ def path(word, limits):
     return "/" + "/".join(map(escaped, names))
 
 
-def name(word, limits):
+def name(word: bytes, limits: Limits) -> str:
     """A name of a reply."""
     given = decoded(word)
     if not 0 < len(given) <= limits.name_bytes or given in (b".", b"..") or re.search(rb"[/\0]", given):
@@ -100,16 +120,16 @@ def name(word, limits):
     return escaped(given)
 
 
-def error(word, _limits):
+def error(word: bytes, _limits: Limits) -> str:
     if word.decode("latin-1") not in ERRORS:
         raise Fault("BadReply")
     return word.decode()
 
 
-READERS = {"PATH": path, "NUMBER": number, "COUNT": count, "HEX": hexadecimal, "ERRNO": error}
+READERS: dict[str, Reader] = {"PATH": path, "NUMBER": number, "COUNT": count, "HEX": hexadecimal, "ERRNO": error}
 
 
-def forms(*lines):
+def forms(*lines: str) -> Forms:
     """The readers of each form's last words, by its first ones, which stand for themselves."""
     words = [line.split() for line in lines]
     return {
@@ -128,7 +148,7 @@ LIST_FORM = forms("list PATH PATH COUNT")
 REPLY_FORMS = forms("ok", "stat dir NUMBER", "stat file NUMBER", "bytes HEX", "wrote NUMBER", "failed ERRNO")
 
 
-def readers_of(words, among, fault):
+def readers_of(words: list[bytes], among: Forms, fault: str) -> list[Reader]:
     """The readers of all words of the form that the words have."""
     for count in (1, 2):
         readers = among.get(tuple(words[:count]))
@@ -137,34 +157,34 @@ def readers_of(words, among, fault):
     raise Fault(fault)
 
 
-def spelled(words, readers, limits):
+def spelled(words: list[bytes], readers: list[Reader], limits: Limits) -> str:
     """The words in canonical form: the first from the left that cannot be read is the fault."""
     return " ".join(read(word, limits) for read, word in zip(readers, words, strict=True))
 
 
-def room(left, more):
+def room(left: int, more: int) -> int:
     """What is left of a limit."""
     if more > left:
         raise Fault("TooLarge")
     return left - more
 
 
-def call_readers(words, limits):
+def call_readers(words: list[bytes], limits: Limits) -> list[Reader]:
     """The readers of the words of a call: only texts of some limits have the call that lists a directory in pieces."""
     return readers_of(words, CALL_FORMS | LIST_FORM if limits.has_list else CALL_FORMS, "BadLine")
 
 
-def call(words, limits):
+def call(words: list[bytes], limits: Limits) -> str:
     return spelled(words, call_readers(words, limits), limits)
 
 
-def reply(words, limits):
+def reply(words: list[bytes], limits: Limits) -> str:
     if words[0] == b"names":
         return " ".join(["names", *(name(word, limits) for word in words[1:])])
     return spelled(words, readers_of(words, REPLY_FORMS, "BadReply"), limits)
 
 
-def entry(words, limits):
+def entry(words: list[bytes], limits: Limits) -> str:
     """An entry of a journal."""
     match words:
         case [b"begin", _, _, _, *_]:
@@ -176,7 +196,7 @@ def entry(words, limits):
     raise Fault("BadLine")
 
 
-def cut(line):
+def cut(line: bytes) -> list[bytes]:
     """The words of a line."""
     words = line.split(b" ")
     if b"" in words:
@@ -184,7 +204,7 @@ def cut(line):
     return words
 
 
-def first_line(text):
+def first_line(text: bytes) -> bytes:
     """The first line of a text, which tells how long the text may be, whatever reads it."""
     first = text.partition(b"\n")[0]
     limits = V3 if first == b"tree" else (SCRIPTS | JOURNALS).get(first, V1)
@@ -193,7 +213,13 @@ def first_line(text):
     return first
 
 
-def read(text, headers, take, end=None, behind=1):
+def read(
+    text: bytes,
+    headers: dict[bytes, Limits],
+    take: collections.abc.Callable[[list[bytes], Limits], None],
+    end: bytes | None = None,
+    behind: int = 1,
+) -> int:
     """Hands the words of each line that is not passed over to `take`, with the limits of the first line, from behind so many lines up to a line
     that is the end. Answers how many lines there are.
     """
@@ -213,7 +239,7 @@ def read(text, headers, take, end=None, behind=1):
     return 1 + len(lines)
 
 
-def node(line, limits):
+def node(line: bytes, limits: Limits) -> tuple[Path, bytes | None]:
     """The node of a line of a tree, which is the very line that is written of it: its path, and its bytes unless it is a directory."""
     match line.split(b" "):
         case [b"dir", word]:
@@ -228,7 +254,7 @@ def node(line, limits):
     return tuple(map(decoded, pieces)), content
 
 
-def add_node(nodes, line, limits):
+def add_node(nodes: Nodes, line: bytes, limits: Limits) -> None:
     """Adds the node of a line to those of a tree, whose next one it is."""
     path, content = node(line, limits)
     if not path or not nodes:
@@ -246,12 +272,13 @@ def add_node(nodes, line, limits):
     nodes[path] = content
 
 
-def start(text):
+def start(text: bytes) -> tuple[Nodes, int]:
     """The nodes of the tree at which a journal starts, each None or a file's bytes by its path in order, and how many lines tell them."""
     header, *lines = text.removesuffix(b"\n").split(b"\n")
     if header not in JOURNALS or header == b"atomfs-journal 1":
         return {(): None}, 1
-    nodes, begun, limits = {}, False, JOURNALS[header]
+    nodes: Nodes = {}
+    begun, limits = False, JOURNALS[header]
     for place, line in enumerate(lines, 2):
         if not line or line.startswith(b"#"):
             continue
@@ -268,10 +295,11 @@ def start(text):
     raise Fault("BadStart", 2 + len(lines))
 
 
-def journal(text):
+def journal(text: bytes) -> list[str]:
     """The entries of a journal."""
     first_line(text)
-    entries, (_, behind) = [], start(text)
+    entries: list[str] = []
+    _, behind = start(text)
     read(text, JOURNALS, lambda words, limits: entries.append(entry(words, limits)), b"tree", behind)
     return entries
 
@@ -281,28 +309,31 @@ class Script:
     that is no thread; and whether rounds follow.
     """
 
-    def __init__(self, text):
+    def __init__(self, text: bytes) -> None:
         first = first_line(text)
-        self.header, self.calls, self.events, self.finishes = first.decode("latin-1"), {}, None, False
+        self.header, self.finishes = first.decode("latin-1"), False
+        self.calls: dict[str, list[str]] = {}
+        self.events: list[tuple[str, int]] = []
+        self.has_schedule = False
         self.calls_left, self.events_left = SCRIPTS.get(first, V1).calls, EVENTS
         lines = read(text, SCRIPTS, self.take)
-        if self.events is None:
+        if not self.has_schedule:
             raise Fault("NoSchedule", lines + 1)
 
-    def take(self, words, limits):
-        if self.events is not None:
+    def take(self, words: list[bytes], limits: Limits) -> None:
+        if self.has_schedule:
             for word in words:
                 self.take_word(word)
         elif words[0] == b"thread" and len(words) == 2:
             self.take_thread(words[1].decode("latin-1"))
         elif words == [b"schedule"]:
-            self.events = []
+            self.has_schedule = True
         elif self.calls:
             self.take_call(call(words, limits))
         else:
             raise Fault("BadLine")
 
-    def take_thread(self, thread):
+    def take_thread(self, thread: str) -> None:
         if not re.fullmatch("[a-z][a-z0-9_]{0,15}", thread) or thread == "finish":
             raise Fault("BadThread")
         if thread in self.calls:
@@ -311,12 +342,12 @@ class Script:
             raise Fault("TooLarge")
         self.calls[thread] = []
 
-    def take_call(self, line):
+    def take_call(self, line: str) -> None:
         """A call of the last thread."""
         self.calls_left = room(self.calls_left, 1)
         self.calls[next(reversed(self.calls))].append(line)
 
-    def take_word(self, word):
+    def take_word(self, word: bytes) -> None:
         """A word of the schedule."""
         thread, star, times = word.decode("latin-1").partition("*")
         if self.finishes:
@@ -332,7 +363,7 @@ class Script:
         self.events_left = room(self.events_left, int(times or 1))
         self.events.append((thread, int(times or 1)))
 
-    def text(self):
+    def text(self) -> bytes:
         """A script that says the same: each call in canonical form, and each event as a word, unless they are very many."""
         blocks = [line for thread, calls in self.calls.items() for line in (f"thread {thread}", *calls)]
         words = [

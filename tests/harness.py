@@ -14,6 +14,7 @@ import subprocess
 import sys
 import typing
 import unittest
+from collections.abc import Iterator
 
 ROOT = pathlib.Path(__file__).resolve().parent.parent
 DATA = ROOT / "tests" / "data"
@@ -21,7 +22,8 @@ DATA = ROOT / "tests" / "data"
 MOST_SECONDS = 120
 
 sys.dont_write_bytecode = True
-import atomfs
+# Other modules take it from here.
+import atomfs as atomfs
 
 
 class Outcome(typing.NamedTuple):
@@ -33,35 +35,36 @@ class Outcome(typing.NamedTuple):
 
 
 @functools.cache
-def reader():
+def reader() -> typing.Any:
     """The module that reads embed/atomfs.h."""
     spec = importlib.util.spec_from_file_location("header", ROOT / "embed" / "header.py")
+    assert spec and spec.loader
     module = importlib.util.module_from_spec(spec)
     spec.loader.exec_module(module)
     return module
 
 
 @functools.cache
-def declared():
+def declared() -> typing.Any:
     """What embed/atomfs.h declares."""
     return reader().header()
 
 
-def sources():
+def sources() -> Iterator[pathlib.Path]:
     """The files of which the program and the library are built."""
     for crate in (ROOT / "crates").glob("*fs*"):
         for part in ("src", "specs"):
             yield from (path for path in (crate / part).rglob("*") if path.is_file())
 
 
-def newer_source(built):
+def newer_source(built: pathlib.Path) -> pathlib.Path | None:
     """A source that is newer than what was built, if one is."""
     when = built.stat().st_mtime
     return next((path for path in sources() if path.stat().st_mtime > when), None)
 
 
 @functools.cache
-def found(variable, default, how):
+def found(variable: str, default: str, how: str) -> str:
     """The file that a variable names, or the one that was built, which is to be no older than its sources."""
     if variable in os.environ:
         return os.environ[variable]
@@ -73,12 +76,12 @@ def found(variable, default, how):
     return str(built)
 
 
-def program():
+def program() -> str:
     return found("ATOMFS", "crates/atomfs/out/atomfs", "examples/run --proved builds it")
 
 
 @contextlib.contextmanager
-def program_at(path):
+def program_at(path: str | pathlib.Path) -> Iterator[None]:
     """Another program is looked at meanwhile."""
     before = os.environ.get("ATOMFS")
     os.environ["ATOMFS"] = str(path)
@@ -93,19 +96,19 @@ def program_at(path):
         found.cache_clear()
 
 
-def library_at():
+def library_at() -> str:
     """The path of the shared object."""
     return found("LIBATOMFS", "dist/lib/libatomfs.so", "embed/build builds it")
 
 
 @functools.cache
-def library():
+def library() -> atomfs.Library:
     if answer is not spawned:
         raise unittest.SkipTest("the library for C is looked at where it is proved and built")
     return atomfs.Library(library_at())
 
 
-def shown_line(line):
+def shown_line(line: bytes) -> str:
     """A line as a message shows it: what is no printable ASCII character by an escape, and at most 80 columns."""
     escapes = {ord("\t"): "\\t", ord("\r"): "\\r", ord("\\"): "\\\\"}
     text = "".join(escapes.get(byte, chr(byte) if 32 <= byte < 127 else f"\\x{byte:02x}") for byte in line)
@@ -126,13 +129,13 @@ OTHER_LIMITS = "this journal has other limits than the script: give both the sam
 SHOWN_BYTES = 2**16
 
 
-def nature(line, is_tree):
+def nature(line: bytes, is_tree: bool) -> str | None:
     """What a text is that begins with a line; as the tree of a run, where it is to be one."""
-    (told,) = [told for form, told in NATURES if re.fullmatch(form, line, re.DOTALL)][:1] or [None]
+    told = next((told for form, told in NATURES if re.fullmatch(form, line, re.DOTALL)), None)
     return OTHER_LIMITS if is_tree and told and "journal" in told else told
 
 
-def with_line(wanted, text, is_tree=False):
+def with_line(wanted: Outcome, text: bytes, is_tree: bool = False) -> Outcome:
     """The outcome of a command that refuses a text by `line N: KIND`: its message shows the line, and says what to have explained."""
     found = re.fullmatch(rb"atomfs: (?:.*: )?line (\d+): (\w+(?: \w+)?)\n", wanted.message)
     if wanted.status != 3 or not found:
@@ -149,7 +152,7 @@ def with_line(wanted, text, is_tree=False):
     return wanted._replace(message=wanted.message + "".join(f"atomfs: {line}\n" for line in told).encode())
 
 
-def told(ask, given):
+def told(ask: typing.Callable[[bytes], object], given: bytes) -> object:
     """What a function of the library tells of what it is given: a text, or its status and what that is about."""
     try:
         return ask(given)
@@ -157,25 +160,25 @@ def told(ask, given):
         return error.status, error.about
 
 
-def spawned(words, given, **other):
+def spawned(words: typing.Sequence[str], given: bytes, **other: typing.Any) -> Outcome:
     """The outcome of a process of its own, in which some of what `subprocess.run` takes may be other."""
-    pipes = {"stdout": subprocess.PIPE, "stderr": subprocess.PIPE}
+    pipes: dict[str, typing.Any] = {"stdout": subprocess.PIPE, "stderr": subprocess.PIPE}
     # Help and usage errors name the program `atomfs`, whatever it is called by.
     done = subprocess.run([program(), *words], input=given, timeout=MOST_SECONDS, **pipes | other)
     return Outcome(done.returncode, done.stdout or b"", done.stderr or b"")
 
 
 # Where this is another function, it answers in the place of the program; and where nothing is compared, rows only ask.
-answer = spawned
+answer: typing.Callable[..., Outcome] = spawned
 compares = True
 
 
-def run(given, *words):
+def run(given: bytes, *words: str) -> Outcome:
     """The outcome of the program on an input."""
     return answer(words, given)
 
 
-def takes_a_process():
+def takes_a_process() -> None:
     """Skips what looks at a process of the program's own where the program is asked in another way."""
     if answer is not spawned:
         raise unittest.SkipTest(
@@ -183,18 +186,18 @@ def takes_a_process():
         )
 
 
-def rows_of(count):
+def rows_of(count: int) -> int:
     """How many of so many drawn rows are looked at: a tenth where the program is asked in another way, since unproved it looks for faults at each access."""
     return count if answer is spawned else max(1, count // 10)
 
 
-def asks_of_answers():
+def asks_of_answers() -> None:
     """Skips what asks the program of what it has answered where it is asked all at once."""
     if answer is not spawned:
         raise unittest.SkipTest("what was answered is asked of in the program that is proved and built")
 
 
-def limits_of_sets():
+def limits_of_sets() -> dict[str, list[int]]:
     """What each set of limits has, by the definition of each limit."""
     source = (ROOT / "crates" / "fs_names" / "src" / "limits.rt").read_text()
     functions = re.findall(
@@ -204,7 +207,7 @@ def limits_of_sets():
     return {limit: [int(value) for sets, value in arms for _ in sets.split("|")] for limit, arms in told.items()}
 
 
-def limits_of_texts():
+def limits_of_texts() -> dict[str, list[int]]:
     """How long a text may be, and how many calls a script has, by each set of limits, by the definition of each."""
     defined = "".join(
         (ROOT / "crates" / file).read_text() for file in ("fs_words/specs/Headers.antt", "fs_script/specs/Limits.antt")
@@ -215,7 +218,7 @@ def limits_of_texts():
     }
 
 
-def compiled(folder, source, *more):
+def compiled(folder: str | pathlib.Path, source: str, *more: str | pathlib.Path) -> str:
     """The shared object that `cc` makes of a source in C of tests/."""
     made = f"{folder}/{source}.so"
     subprocess.run(
@@ -225,7 +228,7 @@ def compiled(folder, source, *more):
     return made
 
 
-def shown(value):
+def shown(value: object) -> str:
     """A value as it is told of a row that fails."""
     if isinstance(value, Outcome):
         return f"status {value.status}\n{shown(value.output)}{shown(value.message)}"
@@ -239,9 +242,9 @@ def shown(value):
 class Case(unittest.TestCase):
     """A test whose rows are looked at one by one."""
 
-    row = None
+    row: str | None = None
 
-    def each(self, rows, look):
+    def each(self, rows: typing.Iterable[tuple[typing.Any, ...]], look: typing.Callable[..., object]) -> None:
         """Looks at rows by themselves: of each its name comes first, and `look` gets the rest."""
         only, looked_at = os.environ.get("ROW"), 0
         for name, *rest in rows:
@@ -255,9 +258,9 @@ class Case(unittest.TestCase):
         if not looked_at:
             self.fail("the test has no rows")
 
-    def alone(self):
+    def alone(self) -> str:
         """The command that looks at this row, or at this test, by itself, and at the same program."""
-        module = pathlib.Path(sys.modules[type(self).__module__].__file__)
+        module = pathlib.Path(sys.modules[type(self).__module__].__file__ or "")
         row = f"ROW={shlex.quote(self.row)} " if self.row else ""
         test = f"{type(self).__name__}.{self._testMethodName}"
         return (
@@ -266,11 +269,11 @@ class Case(unittest.TestCase):
             else f"{row}tests/run --quick {module.stem}.{test}"
         )
 
-    def same(self, given, came, wanted):
+    def same(self, given: object, came: object, wanted: object) -> None:
         """What came of what was given is what was wanted."""
         self.alike(given, ("came", came), ("wanted", wanted))
 
-    def alike(self, given, one, other):
+    def alike(self, given: object, one: tuple[str, object], other: tuple[str, object]) -> None:
         """Two sides, each a name and a value, have the same value."""
         if compares and one[1] != other[1]:
             told = "".join(f"== {side}\n{shown(value)}" for side, value in (("given", given), one, other))

@@ -511,9 +511,12 @@ class ForRust(Installed):
 
 class Layout(Case):
     """The sources in Rust, Python and C are laid out by rustfmt, black and clang-format, with one line length: by rustfmt.toml, .clang-format and the tables
-    in pyproject.toml. Another version than the one named here may lay out otherwise, and is not asked."""
+    in pyproject.toml. Another version than the one named here may lay out otherwise, and is not asked. What the tests share has types.
+    """
 
     VERSIONS = {"black": "23.1", "clang-format": "14.0"}
+    # The modules of tests/ that are typed: what the others share. None goes from here, and a further one comes where it has its types.
+    TYPED = "atomfs", "costs", "drawn", "events", "grammar", "harness", "model", "standin"
 
     def formatter(self, command):
         """A formatter of the version by which the sources are laid out."""
@@ -543,6 +546,14 @@ class Layout(Case):
         """Whether a file without a name's end is a program in Python."""
         with path.open("rb") as file:
             return not path.suffix and file.readline().endswith(b"python3\n")
+
+    def test_types(self):
+        """The types of what the tests share are right."""
+        wanted("mypy")
+        with tempfile.TemporaryDirectory(prefix="atomfs-") as cache:
+            words = "mypy", "--strict", "--python-version", "3.11", "--cache-dir", cache
+            status, told = done([*words, *(f"{name}.py" for name in self.TYPED)], ROOT / "tests")
+        self.same(f"mypy --strict\n{told}", status, 0)
 
     def test_clang_format(self):
         command = self.formatter("clang-format")

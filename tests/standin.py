@@ -16,7 +16,7 @@ exec -a atomfs {proved} "$@"
 """
 
 
-def keep_in(folder):
+def keep_in(folder: str) -> None:
     """Leaves what an unproved program would leave."""
     crate = pathlib.Path.cwd().name
     with open(os.environ["COMPILED"], "a") as compiled:
@@ -28,7 +28,7 @@ def keep_in(folder):
     pathlib.Path(folder, "program.words").write_text(f"{program}\0--keep-in\0{folder}\0")
 
 
-def answer_each():
+def answer_each() -> None:
     """Answers the requests on standard input as unproved.py has them."""
     with open(sys.stdin.buffer.readline().decode().strip(), "wb") as answers:
         while line := sys.stdin.buffer.readline():
@@ -40,7 +40,7 @@ def answer_each():
             )
 
 
-def main(words):
+def main(words: list[str]) -> None:
     if words == ["--answer-each"]:
         answer_each()
     elif words[0] == "try" and words[-2] == "--keep-in":
