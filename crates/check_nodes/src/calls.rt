@@ -1,5 +1,5 @@
-//! The calls of a store that have conditions, each after a look at them. The two stores have the same calls, which are written
-//! once; what has clauses, which no macro can have, is written for each.
+//! The calls of a store that have conditions, each after a look at them. The two stores have the same
+//! calls, so what follows is written twice, word for word.
 
 ghost use Rattle.std.specs.Prelude.{◌≤◌, IsTrue};
 ghost use Rattle.fs_names.specs.declared.limits.TheConstants.{NODE_LIMIT};
@@ -37,6 +37,14 @@ impl Linked {
         })
     }
 
+    /// The kind of a node in use.
+    pub fn kind(&self, node: NodeNo) -> Option<Kind> {
+        if !self.store.is_used(node) {
+            return None;
+        }
+        Some(self.store.kind(node))
+    }
+
     /// Whether the way up from a directory ends without a node, so that the directory is not below it.
     fn is_apart(&self, node: NodeNo, dir: NodeNo) -> bool
         requires { IsReal (seen self.now.store) }
@@ -53,6 +61,93 @@ impl Linked {
             }
         }
         false
+    }
+
+    /// A node becomes an entry, with what is below it. It answers whether it could.
+    pub fn link(&mut self, dir: NodeNo, name: Name, node: NodeNo) -> bool {
+        let is_free = self.store.find(dir, &name).is_none() && self.store.parent(node).is_none();
+        let is_other = node.get() != 0 && self.store.is_used(node);
+        if !(is_free && is_other && self.store.is_dir(dir) && self.is_apart(node, dir)) {
+            return false;
+        }
+        self.store.link(dir, name, node);
+        true
+    }
+
+    /// The entry of a file or of an empty directory goes, if there is one.
+    pub fn unlink(&mut self, dir: NodeNo, name: &Name) -> Option<NodeNo> {
+        let node = self.store.find(dir, name)?;
+        if self.store.entries(node) > 0 {
+            return None;
+        }
+        Some(self.store.unlink(dir, name))
+    }
+
+    /// An entry gets another name or another directory, with what is below it. It answers whether it could.
+    pub fn move_entry(&mut self, from: NodeNo, name: &Name, to: NodeNo, new_name: Name) -> bool {
+        let Some(node) = self.store.find(from, name) else {
+            return false;
+        };
+        let is_free = self.store.find(to, &new_name).is_none();
+        if !(is_free && self.store.is_dir(to) && self.is_apart(node, to)) {
+            return false;
+        }
+        self.store.move_entry(from, name, to, new_name);
+        true
+    }
+
+    /// Two entries change what they name, with what is below. It answers whether they could.
+    pub fn swap_entries(
+        &mut self,
+        dir: NodeNo,
+        name: &Name,
+        other: NodeNo,
+        other_name: &Name,
+    ) -> bool {
+        let Some(node) = self.store.find(dir, name) else {
+            return false;
+        };
+        let Some(other_node) = self.store.find(other, other_name) else {
+            return false;
+        };
+        if !(self.is_apart(node, other_node) && self.is_apart(other_node, node)) {
+            return false;
+        }
+        self.store.swap_entries(dir, name, other, other_name);
+        true
+    }
+
+    /// The number of an empty node without an entry goes. It answers whether it could.
+    pub fn release(&mut self, node: NodeNo) -> bool {
+        let is_loose = self.store.is_used(node) && self.store.parent(node).is_none();
+        if !(is_loose && self.store.entries(node) == 0 && node.get() != 0) {
+            return false;
+        }
+        self.store.release(node);
+        true
+    }
+
+    /// The bytes of a file in one vector.
+    pub fn content(&self, file: NodeNo) -> &[u8] {
+        if self.store.is_in_blocks() {
+            return &[];
+        }
+        self.store.content(file)
+    }
+
+    /// A file in one vector gets a copy of these bytes, and its old ones are answered.
+    pub fn swap_content(
+        &mut self,
+        alloc: Global,
+        file: NodeNo,
+        bytes: &[u8],
+    ) -> Result<Option<Vec<u8>>, AllocError> {
+        if self.store.is_in_blocks() || !self.store.is_file(file) {
+            return Ok(None);
+        }
+        let mut copied = Vec::new(alloc);
+        copied.extend_from_slice(bytes)?;
+        Ok(Some(self.store.swap_content(file, copied)))
     }
 }
 
@@ -67,6 +162,14 @@ impl Plain {
         })
     }
 
+    /// The kind of a node in use.
+    pub fn kind(&self, node: NodeNo) -> Option<Kind> {
+        if !self.store.is_used(node) {
+            return None;
+        }
+        Some(self.store.kind(node))
+    }
+
     /// Whether the way up from a directory ends without a node, so that the directory is not below it.
     fn is_apart(&self, node: NodeNo, dir: NodeNo) -> bool
         requires { IsReal (seen self.now.store) }
@@ -84,110 +187,91 @@ impl Plain {
         }
         false
     }
-}
 
-/// The calls that both stores have.
-macro_rules! calls_of_store {
-    ($calls:ident) => {
-        impl $calls {
-            /// The kind of a node in use.
-            pub fn kind(&self, node: NodeNo) -> Option<Kind> {
-                if !self.store.is_used(node) {
-                    return None;
-                }
-                Some(self.store.kind(node))
-            }
-
-            /// A node becomes an entry, with what is below it. It answers whether it could.
-            pub fn link(&mut self, dir: NodeNo, name: Name, node: NodeNo) -> bool {
-                let is_free = self.store.find(dir, &name).is_none() && self.store.parent(node).is_none();
-                let is_other = node.get() != 0 && self.store.is_used(node);
-                if !(is_free && is_other && self.store.is_dir(dir) && self.is_apart(node, dir)) {
-                    return false;
-                }
-                self.store.link(dir, name, node);
-                true
-            }
-
-            /// The entry of a file or of an empty directory goes, if there is one.
-            pub fn unlink(&mut self, dir: NodeNo, name: &Name) -> Option<NodeNo> {
-                let node = self.store.find(dir, name)?;
-                if self.store.entries(node) > 0 {
-                    return None;
-                }
-                Some(self.store.unlink(dir, name))
-            }
-
-            /// An entry gets another name or another directory, with what is below it. It answers whether it could.
-            pub fn move_entry(&mut self, from: NodeNo, name: &Name, to: NodeNo, new_name: Name) -> bool {
-                let Some(node) = self.store.find(from, name) else {
-                    return false;
-                };
-                let is_free = self.store.find(to, &new_name).is_none();
-                if !(is_free && self.store.is_dir(to) && self.is_apart(node, to)) {
-                    return false;
-                }
-                self.store.move_entry(from, name, to, new_name);
-                true
-            }
-
-            /// Two entries change what they name, with what is below. It answers whether they could.
-            pub fn swap_entries(
-                &mut self,
-                dir: NodeNo,
-                name: &Name,
-                other: NodeNo,
-                other_name: &Name,
-            ) -> bool {
-                let Some(node) = self.store.find(dir, name) else {
-                    return false;
-                };
-                let Some(other_node) = self.store.find(other, other_name) else {
-                    return false;
-                };
-                if !(self.is_apart(node, other_node) && self.is_apart(other_node, node)) {
-                    return false;
-                }
-                self.store.swap_entries(dir, name, other, other_name);
-                true
-            }
-
-            /// The number of an empty node without an entry goes. It answers whether it could.
-            pub fn release(&mut self, node: NodeNo) -> bool {
-                let is_loose = self.store.is_used(node) && self.store.parent(node).is_none();
-                if !(is_loose && self.store.entries(node) == 0 && node.get() != 0) {
-                    return false;
-                }
-                self.store.release(node);
-                true
-            }
-
-            /// The bytes of a file in one vector.
-            pub fn content(&self, file: NodeNo) -> &[u8] {
-                if self.store.is_in_blocks() {
-                    return &[];
-                }
-                self.store.content(file)
-            }
-
-            /// A file in one vector gets a copy of these bytes, and its old ones are answered.
-            pub fn swap_content(
-                &mut self,
-                alloc: Global,
-                file: NodeNo,
-                bytes: &[u8],
-            ) -> Result<Option<Vec<u8>>, AllocError> {
-                if self.store.is_in_blocks() || !self.store.is_file(file) {
-                    return Ok(None);
-                }
-                let mut copied = Vec::new(alloc);
-                copied.extend_from_slice(bytes)?;
-                Ok(Some(self.store.swap_content(file, copied)))
-            }
+    /// A node becomes an entry, with what is below it. It answers whether it could.
+    pub fn link(&mut self, dir: NodeNo, name: Name, node: NodeNo) -> bool {
+        let is_free = self.store.find(dir, &name).is_none() && self.store.parent(node).is_none();
+        let is_other = node.get() != 0 && self.store.is_used(node);
+        if !(is_free && is_other && self.store.is_dir(dir) && self.is_apart(node, dir)) {
+            return false;
         }
-    };
+        self.store.link(dir, name, node);
+        true
+    }
+
+    /// The entry of a file or of an empty directory goes, if there is one.
+    pub fn unlink(&mut self, dir: NodeNo, name: &Name) -> Option<NodeNo> {
+        let node = self.store.find(dir, name)?;
+        if self.store.entries(node) > 0 {
+            return None;
+        }
+        Some(self.store.unlink(dir, name))
+    }
+
+    /// An entry gets another name or another directory, with what is below it. It answers whether it could.
+    pub fn move_entry(&mut self, from: NodeNo, name: &Name, to: NodeNo, new_name: Name) -> bool {
+        let Some(node) = self.store.find(from, name) else {
+            return false;
+        };
+        let is_free = self.store.find(to, &new_name).is_none();
+        if !(is_free && self.store.is_dir(to) && self.is_apart(node, to)) {
+            return false;
+        }
+        self.store.move_entry(from, name, to, new_name);
+        true
+    }
+
+    /// Two entries change what they name, with what is below. It answers whether they could.
+    pub fn swap_entries(
+        &mut self,
+        dir: NodeNo,
+        name: &Name,
+        other: NodeNo,
+        other_name: &Name,
+    ) -> bool {
+        let Some(node) = self.store.find(dir, name) else {
+            return false;
+        };
+        let Some(other_node) = self.store.find(other, other_name) else {
+            return false;
+        };
+        if !(self.is_apart(node, other_node) && self.is_apart(other_node, node)) {
+            return false;
+        }
+        self.store.swap_entries(dir, name, other, other_name);
+        true
+    }
+
+    /// The number of an empty node without an entry goes. It answers whether it could.
+    pub fn release(&mut self, node: NodeNo) -> bool {
+        let is_loose = self.store.is_used(node) && self.store.parent(node).is_none();
+        if !(is_loose && self.store.entries(node) == 0 && node.get() != 0) {
+            return false;
+        }
+        self.store.release(node);
+        true
+    }
+
+    /// The bytes of a file in one vector.
+    pub fn content(&self, file: NodeNo) -> &[u8] {
+        if self.store.is_in_blocks() {
+            return &[];
+        }
+        self.store.content(file)
+    }
+
+    /// A file in one vector gets a copy of these bytes, and its old ones are answered.
+    pub fn swap_content(
+        &mut self,
+        alloc: Global,
+        file: NodeNo,
+        bytes: &[u8],
+    ) -> Result<Option<Vec<u8>>, AllocError> {
+        if self.store.is_in_blocks() || !self.store.is_file(file) {
+            return Ok(None);
+        }
+        let mut copied = Vec::new(alloc);
+        copied.extend_from_slice(bytes)?;
+        Ok(Some(self.store.swap_content(file, copied)))
+    }
 }
-
-calls_of_store!(Linked);
-
-calls_of_store!(Plain);
