@@ -223,7 +223,8 @@ impl<N: Named> Board<N> {
 
     /// Whether a stamp's list is a beginning of the commits. Each of this tree's is.
     pub(crate) fn begins_with(&self, stamp: &Stamp<N>) -> bool
-        ensures { result ≡ true → IsPrefix stamp.now.list (commits self.now.core.timeline) }
+        ensures listed { result ≡ true → IsPrefix stamp.now.list (commits self.now.core.timeline) }
+        ensures first { stamp.now.list ≡ [] → result ≡ true }
     {
         self.publisher.begins_with(stamp)
     }

@@ -9,7 +9,7 @@
 //!
 //! Enter at `with_tree`, which opens a tree, does what an `Inside` says on it, and ends it; at `run_lists`, which plays each
 //! list by a worker; or at `AtomFs::open`, whose caller names the tree. What is counted is defined in `specs/Returns.antt`,
-//! what a told call is told of in `specs/Boards.antt`. Of running threads no progress, fairness or end is claimed.
+//! when lists were played in `specs/Played.antt`, what a told call is told of in `specs/Boards.antt`. Of running threads no progress, fairness or end is claimed.
 #![tactic(auto)]
 
 mod board;
@@ -18,6 +18,7 @@ mod desk;
 mod gate;
 mod inside;
 mod lists;
+mod played;
 mod session;
 mod told;
 mod tree;

@@ -1,15 +1,18 @@
 //! Lists of calls, each on a thread of its own.
 
-ghost use Rattle.std.specs.Prelude.{◌≡◌, ◌^◌, ℕ, length, vec_len, sum_by, IfOk};
+ghost use Rattle.std.specs.Prelude.{◌≡◌, ◌^◌, ℕ, length, map, vec_len, sum_by, IfOk, OnOk};
 ghost use Rattle.fs_nodes.specs.Graphs.{graph_shapes};
 ghost use Rattle.fs_nodes.specs.Stores.{graph_of};
 ghost use Rattle.fs_calls.specs.Outcomes.{play};
 ghost use Rattle.fs_calls.specs.Starts.{root_start};
 ghost use Rattle.fs_calls.specs.Sights.{tree_shapes};
-ghost use Rattle.fs_timeline.specs.Timeline.{IsLawful, commits};
-ghost use Rattle.fs_share.specs.Returns.{returns, AllReturned};
+ghost use Rattle.fs_timeline.specs.Timeline.{IsLawful, IsWellFormed, commits};
+ghost use Rattle.fs_linearizable.specs.Linearizable.{history, IsLinearizable};
+ghost use Rattle.fs_share.specs.Played.{ArePlayed};
+ghost use Rattle.fs_share.specs.Returns.{returns};
 
 use crate::gate::Gate;
+use crate::played::are_played;
 use crate::session::{Session, Tally};
 use crate::tree::{AtomFs, Closed};
 use fs_calls::Call;
@@ -27,7 +30,7 @@ use std::time::Clock;
 /// Why lists were not played to their end. The tree made so far is dropped.
 #[derive(Clone, Copy, Debug, PartialEq, Eq)]
 pub enum ListsFault {
-    /// A worker could not be started.
+    /// A worker could not be started. It would come as well if the timeline were not that of the lists, which is not met.
     NoWorker,
     /// A call was refused, or there was no memory for a session or a list of workers.
     Refused(Refusal),
@@ -158,6 +161,27 @@ fn play_lists<N: Named + Send + Sync, R: Threads + Wait + Clock + Sync, G: Gate 
     )
 }
 
+/// That a closed tree had so many sessions, and that its timeline is that of the lists. Nothing else is met: that a lock keeps
+/// what sessions did to the tree is in no clause, so it is compared here.
+fn certify(
+    alloc: Global,
+    lists: &[Vec<Call>],
+    workers: usize,
+    closed: &Closed,
+) -> Result<(), ListsFault>
+    ensures sessions { OnOk result (closed.now.sessions ≡ workers) }
+    ensures played { OnOk result (IsWellFormed closed.now.timeline.entries → ArePlayed (map (λ calls. calls.items) lists.now) closed.now.timeline.entries) }
+{
+    if closed.sessions != workers {
+        return Err(ListsFault::NoWorker);
+    }
+    match are_played(alloc, lists, closed.timeline.entries()) {
+        Ok(true) => Ok(()),
+        Ok(false) => Err(ListsFault::NoWorker),
+        Err(_) => Err(out_of_memory()),
+    }
+}
+
 /// The same on a tree of a name of its own, of these limits.
 fn run_named<N: Named + Send + Sync, R: Threads + Wait + Clock + Sync, G: Gate + Sync>(
     rt: &R,
@@ -174,8 +198,10 @@ fn run_named<N: Named + Send + Sync, R: Threads + Wait + Clock + Sync, G: Gate +
     requires all { blank.parts ≡ 2 ^ 63 }
     ensures start { IfOk result (λ closed. closed.start ≡ root_start limits) }
     ensures lawful { IfOk result (λ closed. IsLawful closed.start closed.timeline.entries) }
-    ensures spelled { IfOk result (λ closed. AllReturned closed.timeline.entries → graph_shapes (graph_of closed.store) ≡ tree_shapes (play closed.start (commits closed.timeline.entries))) }
+    ensures linearizable { IfOk result (λ closed. IsLinearizable closed.start (history closed.timeline.entries)) }
+    ensures spelled { IfOk result (λ closed. graph_shapes (graph_of closed.store) ≡ tree_shapes (play closed.start (commits closed.timeline.entries))) }
     ensures sessions { IfOk result (λ closed. closed.sessions ≡ length lists.now) }
+    ensures played { IfOk result (λ closed. ArePlayed (map (λ calls. calls.items) lists.now) closed.timeline.entries) }
     ensures returns { IfOk result (λ closed. returns closed.timeline.entries ≡ sum_by vec_len lists.now) }
 {
     let fs = AtomFs::<N>::open_with(rt, alloc, opened, blank, limits).map_err(|_| out_of_memory())?;
@@ -183,9 +209,7 @@ fn run_named<N: Named + Send + Sync, R: Threads + Wait + Clock + Sync, G: Gate +
         Ok(tallies) => {
             let workers = tallies.len();
             let closed = fs.close(rt, tallies);
-            if closed.sessions != workers {
-                return Err(ListsFault::NoWorker);
-            }
+            certify(alloc, lists, workers, &closed)?;
             Ok(closed)
         }
         Err(fault) => {
@@ -198,6 +222,9 @@ fn run_named<N: Named + Send + Sync, R: Threads + Wait + Clock + Sync, G: Gate +
 /// Plays each list on a new tree of these limits by a worker of its own, with a session of its own, and ends the tree. A list
 /// is played from its first call to its last; in which order calls of different lists come is nobody's promise. Each worker
 /// has ended when this answers, also where it answers an error; the tree is ended and dropped then.
+///
+/// At the end the timeline is compared with the lists: on the seat of each list its calls began, in order, and no others, and
+/// each returned (`played`). So the nodes spell the tree that the timeline's commits play (`spelled`).
 pub fn run_lists_with<R: Threads + Wait + Clock + Sync, G: Gate + Sync>(
     rt: &R,
     alloc: Global,
@@ -207,8 +234,10 @@ pub fn run_lists_with<R: Threads + Wait + Clock + Sync, G: Gate + Sync>(
 ) -> Result<Closed, ListsFault>
     ensures start { IfOk result (λ closed. closed.start ≡ root_start limits) }
     ensures lawful { IfOk result (λ closed. IsLawful closed.start closed.timeline.entries) }
-    ensures spelled { IfOk result (λ closed. AllReturned closed.timeline.entries → graph_shapes (graph_of closed.store) ≡ tree_shapes (play closed.start (commits closed.timeline.entries))) }
+    ensures linearizable { IfOk result (λ closed. IsLinearizable closed.start (history closed.timeline.entries)) }
+    ensures spelled { IfOk result (λ closed. graph_shapes (graph_of closed.store) ≡ tree_shapes (play closed.start (commits closed.timeline.entries))) }
     ensures sessions { IfOk result (λ closed. closed.sessions ≡ length lists.now) }
+    ensures played { IfOk result (λ closed. ArePlayed (map (λ calls. calls.items) lists.now) closed.timeline.entries) }
     ensures returns { IfOk result (λ closed. returns closed.timeline.entries ≡ sum_by vec_len lists.now) }
 {
     run_named::<Brand, R, G>(
@@ -231,8 +260,10 @@ pub fn run_lists<R: Threads + Wait + Clock + Sync, G: Gate + Sync>(
 ) -> Result<Closed, ListsFault>
     ensures start { IfOk result (λ closed. closed.start ≡ root_start Limits.V2) }
     ensures lawful { IfOk result (λ closed. IsLawful closed.start closed.timeline.entries) }
-    ensures spelled { IfOk result (λ closed. AllReturned closed.timeline.entries → graph_shapes (graph_of closed.store) ≡ tree_shapes (play closed.start (commits closed.timeline.entries))) }
+    ensures linearizable { IfOk result (λ closed. IsLinearizable closed.start (history closed.timeline.entries)) }
+    ensures spelled { IfOk result (λ closed. graph_shapes (graph_of closed.store) ≡ tree_shapes (play closed.start (commits closed.timeline.entries))) }
     ensures sessions { IfOk result (λ closed. closed.sessions ≡ length lists.now) }
+    ensures played { IfOk result (λ closed. ArePlayed (map (λ calls. calls.items) lists.now) closed.timeline.entries) }
     ensures returns { IfOk result (λ closed. returns closed.timeline.entries ≡ sum_by vec_len lists.now) }
 {
     run_lists_with(rt, alloc, lists, gate, Limits::V2)

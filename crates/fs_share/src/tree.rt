@@ -329,6 +329,7 @@ impl<N: Named> AtomFs<N> {
         told: &Stamp<N>,
     ) -> (Closed, bool)
         ensures listed { result.1 ≡ true → IsPrefix told.now.list (commits result.0.timeline.entries) }
+        ensures first { told.now.list ≡ [] → result.1 ≡ true }
         ensures from { told.now.start ≡ self.start }
         ensures start { result.0.start ≡ self.start }
         ensures lawful { IsLawful result.0.start result.0.timeline.entries }
