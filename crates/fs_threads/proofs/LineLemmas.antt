@@ -1,15 +1,15 @@
 -- What is written of what was read is written of the input, and its number is that of the script's calls.
-use Rattle.std.proofs.Common.{◌≡◌, ℕ, ◌+◌, cond, Bool, true, false, List, [], ◌∷◌, length, map, sum_by, Option, Some, None, Result, refl, sym, subst, ap, ◌∙◌, arith}
+use Rattle.std.proofs.Common.{◌≡◌, ℕ, ◌+◌, cond, Bool, List, [], ◌∷◌, length, map, sum_by, Option, Some, None, Result, refl, sym, subst, ap, ◌∙◌, arith}
 use Rattle.std.specs.Prelude.{IfSome}
 use Rattle.std.proofs.lemmas.List.Sums.{sum_by-cons}
 use Rattle.fs_names.specs.declared.limits.Limits.{Limits}
 use Rattle.fs_calls.specs.Starts.{Start, root_start}
 use Rattle.fs_calls.specs.declared.call.Call.{Call}
 use Rattle.fs_timeline.specs.Timeline.{IsLawful}
+use Rattle.fs_linearizable.specs.Linearizable.{history, IsLinearizable}
 use Rattle.fs_timeline.specs.declared.entry.Entry.{Entry}
 use Rattle.fs_timeline.specs.declared.entry.Entry.TheVariants.{Begin, Commit, Return}
 use Rattle.fs_words.specs.declared.fault.ScriptFault.{ScriptFault}
-use Rattle.fs_script.specs.Journals.{journal_text}
 use Rattle.fs_script.specs.Script.{script_of}
 use Rattle.fs_script.specs.declared.script.Script.{Script}
 use Rattle.fs_sched.specs.Devices.{IsSameText}
@@ -19,9 +19,10 @@ use Rattle.fs_verdict.specs.declared.fault.RunFault.TheVariants as run
 use Rattle.fs_sched.specs.declared.run_texts.EntryKind.TheVariants as kind
 use Rattle.fs_sched.proofs.RunLemmas.{script_same}
 use Rattle.fs_share.specs.Returns.{returns}
+use Rattle.fs_share.specs.Played.{ArePlayed}
 use Rattle.fs_threads.specs.Faults.{IsOfInput}
 use Rattle.fs_threads.specs.code.ThreadFaults.{IsOfThreads}
-use Rattle.fs_threads.specs.Lines.{lawful_line, text_of, IsTextOf, IsWrittenOf}
+use Rattle.fs_threads.specs.Lines.{text_of, IsTextOf, IsWrittenOf}
 use Rattle.fs_threads.specs.declared.fault.ThreadsFault.{ThreadsFault}
 use Rattle.fs_threads.specs.declared.fault.ThreadsFault.TheVariants.{Run, Lists}
 
@@ -44,11 +45,19 @@ pub known_text : (journal : Bool) (r : Option (List ℕ)) (given items text : Li
 known_text journal None given items text e s h = tt
 known_text journal (Some input) given items text e s h = (h.0, sym (script_same items input s) ∙ sym (ap script_of e) ∙ h.1, h.2)
 
--- what is written of a lawful timeline in which so many calls returned
-pub written : (journal : Bool) (limits : Limits) (start : Start) (es : List Entry) (calls : ℕ) (text : List ℕ)
-    → start ≡ root_start limits → IsLawful start es → number_of kind.Return es ≡ calls → text ≡ text_of journal start es → IsWrittenOf journal limits calls text
-written true limits start es calls text root lawful number is = (es, subst (λ (s : Start). IsLawful s es) root lawful, number, is ∙ ap (λ (s : Start). journal_text s es) root)
-written false limits start es calls text root lawful number is = is ∙ ap lawful_line number
+-- what is written of a timeline of lists
+pub written : (journal : Bool) (limits : Limits) (start : Start) (lists : List (List Call)) (es : List Entry) (text : List ℕ)
+    → start ≡ root_start limits → IsLawful start es → IsLinearizable start (history es) → ArePlayed lists es → number_of kind.Return es ≡ calls_in lists → text ≡ text_of journal start es → IsWrittenOf journal limits lists text
+written journal limits start lists es text root lawful linearizable played number is = (
+  es,
+  record {
+    lawful = subst (λ (s : Start). IsLawful s es) root lawful;
+    linearizable = subst (λ (s : Start). IsLinearizable s (history es)) root linearizable;
+    played = played;
+    returned = number;
+  },
+  is ∙ ap (λ (s : Start). text_of journal s es) root,
+)
 
 -- a fault of the threads is one with any input
 pub input_of_threads : (given : Result Script ScriptFault) (fault : ThreadsFault) → IsOfThreads fault → IsOfInput given fault

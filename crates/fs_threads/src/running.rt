@@ -6,7 +6,6 @@ ghost use Rattle.fs_words.specs.declared.fault.ScriptFault.{ScriptFault};
 ghost use Rattle.fs_timeline.specs.Timeline.{IsLawful};
 ghost use Rattle.fs_script.specs.Script.{script_of};
 ghost use Rattle.fs_sched.specs.Devices.{KeepsDevices, WritesBeginning};
-ghost use Rattle.fs_sched.specs.Runs.{calls_in};
 ghost use Rattle.fs_threads.specs.code.ThreadFaults.{IsOfThreads, MakesText};
 ghost use Rattle.fs_threads.specs.Lines.{text_of, IsTextOf, IsWrittenOf};
 
@@ -67,7 +66,7 @@ fn text_of_lists<R: Threads + Wait + Clock + Sync, G: Watch + Sync>(
     limits: Limits,
     journal: bool,
 ) -> Result<Made<bool>, ThreadsFault>
-    ensures written { IfOk result (λ made. IsWrittenOf journal limits (calls_in (map (λ calls. calls.items) lists.now)) made.text.items) }
+    ensures written { IfOk result (λ made. IsWrittenOf journal limits (map (λ calls. calls.items) lists.now) made.text.items) }
     ensures lawful { IfOk result (λ made. made.end ≡ true) }
     ensures fault { IfErr result IsOfThreads }
 {
@@ -123,7 +122,8 @@ pub fn run_threads<R: Threads + Wait + Clock + Sync, S: Source, W: Sink, G: Watc
     requires reads { S.failures reader.old < 2 ^ 64 - 1 }
     requires writes { W.failures writer.old < 2 ^ 64 - 1 }
 
-    // Each call of the script returned, and what is written says how many they are, or is the journal in which they did, which is lawful.
+    // Each call of the script, and no other, began on the seat of its block, in order, and returned. What is written says how many
+    // they are, or is the journal in which they did, which is lawful and whose history is linearizable.
     ensures ran { OnOk result ((text : List ℕ) × IfSome (S.remaining reader.old) (λ input. IsTextOf journal input text) × Appends (W.contents writer.old) (W.contents writer.new) text) }
     ensures lawful { IfOk result (λ lawful. lawful ≡ true) }
     ensures end { OnOk result (IsAtEnd (S.remaining reader.new)) }

@@ -1,7 +1,6 @@
-use Rattle.std.proofs.Common.{◌≡◌, ◌∙◌, ap, map, subst, List, ℕ}
+use Rattle.std.proofs.Common.{map, subst}
 use Rattle.std.proofs.lemmas.Result.{IfOk-weaker, IfErr-weaker}
 use Rattle.fs_script.specs.Script.{script_of}
-use Rattle.fs_sched.specs.Runs.{calls_in}
 use Rattle.fs_threads.specs.Faults.{IsOfInput}
 use Rattle.fs_threads.specs.code.ThreadFaults.{IsOfThreads}
 use Rattle.fs_threads.specs.Lines.{IsTextOf, IsWrittenOf}
@@ -12,9 +11,9 @@ pub returns-in-Ok : goal.returns-in-Ok
 returns-in-Ok g c =
     record {
       written = IfOk-weaker c.text_of_lists.result
-          (λ made. IsWrittenOf c.args.journal c.in-Ok.script.limits (calls_in (map (λ v. v.items) c.as_slice.result.now)) made.text.items)
+          (λ made. IsWrittenOf c.args.journal c.in-Ok.script.limits (map (λ v. v.items) c.as_slice.result.now) made.text.items)
           (λ made. IsTextOf c.args.journal c.args.text.now made.text.items)
-          (λ made is. (c.in-Ok.script, c.in-Ok.ensures, subst (λ lists. IsWrittenOf c.args.journal c.in-Ok.script.limits (calls_in lists) made.text.items) c.as_slice.ensures is)) c.text_of_lists.ensures.written;
+          (λ made is. (c.in-Ok.script, c.in-Ok.ensures, subst (λ lists. IsWrittenOf c.args.journal c.in-Ok.script.limits lists made.text.items) c.as_slice.ensures is)) c.text_of_lists.ensures.written;
       lawful = c.text_of_lists.ensures.lawful;
       fault = IfErr-weaker c.text_of_lists.result IsOfThreads (IsOfInput (script_of c.args.text.now)) (λ fault is. input_of_threads _ fault is) c.text_of_lists.ensures.fault;
     }
