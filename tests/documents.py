@@ -1662,7 +1662,7 @@ class Listed(Page):
         """docs/MACHINE.md has each law of the machine and of its runs, by the name of the function that states it."""
         laws = [
             name
-            for crate in ("fs_machine", "fs_laws", "fs_numbers")
+            for crate in ("fs_machine", "fs_laws", "fs_numbers", "fs_endings")
             for name in re.findall(r"^pub fn (\w+)\(", source(f"{crate}/src/laws.rt"), re.M)
         ]
         shown = [name for names, _ in table(DOCS / "MACHINE.md", "Law", "Says") for name in spans(names)]
