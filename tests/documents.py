@@ -433,6 +433,7 @@ class Shown(Page):
         ("docs/ARCHITECTURE.md", "", 1, "tests/documents.py"),
         ("docs/MACHINE.md", "", 2, None),
         ("examples/tour/README.md", "", 2, "tests/worked.py"),
+        ("docs/PICTURES.md", "python", 1, "tests/tutorials.py"),
         ("docs/RACES.md", "", 1, "bindings/python/tests/test_races.py"),
         ("docs/RACES.md", "python", 4, "bindings/python/tests/test_races.py"),
         ("examples/races/README.md", "", 1, "bindings/python/tests/test_races.py"),

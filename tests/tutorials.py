@@ -1,6 +1,7 @@
-"""What README.md and docs/FIRST-RACE.md have a reader type in Python prints what stands there. The blocks of a page are run one after the other."""
+"""What README.md, docs/FIRST-RACE.md and docs/PICTURES.md have a reader type in Python prints and writes what stands there. The blocks of a page are run one after the other."""
 import json
 import os
+import pathlib
 import re
 import subprocess
 import tempfile
@@ -8,9 +9,9 @@ import unittest
 
 import harness
 from documents import DOCS, README, blocks
-from harness import ROOT, Case
+from harness import DATA, ROOT, Case
 
-FIRST_RACE = DOCS / "FIRST-RACE.md"
+FIRST_RACE, PICTURES = DOCS / "FIRST-RACE.md", DOCS / "PICTURES.md"
 # Runs blocks of Python, and writes what each printed, and the script of an error of a race at which it ended.
 DRIVER = """\
 import contextlib, io, json, sys
@@ -36,7 +37,7 @@ json.dump(told, sys.stdout)
 class Tutorials(Case):
     @staticmethod
     def printed(page):
-        """What each block in Python of a page prints, and the script of the race that it finds."""
+        """What each block in Python of a page prints, the script of the race that it finds, and the files that all of them write."""
         harness.library()
         variables = {
             "PYTHONPATH": str(ROOT / "bindings" / "python" / "src"),
@@ -53,7 +54,7 @@ class Tutorials(Case):
                 text=True,
                 timeout=harness.MOST_SECONDS,
             )
-            made = sorted(os.listdir(folder))
+            made = {path.name: path.read_text() for path in sorted(pathlib.Path(folder).iterdir())}
         if done.returncode:
             raise AssertionError(done.stderr)
         return json.loads(done.stdout), made
@@ -76,7 +77,15 @@ class Tutorials(Case):
         said = re.findall(r"commits at event (\d+)|only at event (\d+)", FIRST_RACE.read_text())
         commits = re.findall(r"^(\d+) \S+ commits", printed[2], re.M)
         self.same("where each call commits", [first or last for first, last in said], commits)
-        self.same("what it makes", made, ["race.script", "race.svg"])
+        self.same("what it makes", list(made), ["race.script", "race.svg"])
+
+    def test_pictures(self):
+        """The example writes the page that plays the worked example: with its trace and its picture."""
+        told, made = self.printed(PICTURES)
+        self.same("docs/PICTURES.md", (told, list(made)), ([["", None]], ["run.html"]))
+        trace = (DATA / "traces" / "helped_mkdir.trace").read_text()
+        picture = (DATA / "pictures" / "helped_mkdir.svg").read_text()
+        self.same("its parts", (f"\n{trace}</pre>" in made["run.html"], picture in made["run.html"]), (True, True))
 
 
 if __name__ == "__main__":

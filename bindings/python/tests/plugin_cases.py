@@ -145,11 +145,14 @@ def test_section(pytester):
 
 
 def pictured(result):
-    """The paths of the pictures that a report names, each of one SVG element."""
+    """The paths of the pictures that a report names, each of one SVG element. A page that plays the same calls is beside each."""
     paths = [pathlib.Path(path) for path in re.findall(r"(?m)^The picture: (.*)$", result.stdout.str())]
+    pages = [pathlib.Path(path) for path in re.findall(r"(?m)^The page: (.*)$", result.stdout.str())]
     for path in paths:
         root = ElementTree.parse(path).getroot()
         assert root.tag.endswith("}svg") and "call" in {element.get("class") for element in root}
+        page = path.with_suffix(".html")
+        assert page in pages and path.read_text() in page.read_text()
     return paths
 
 
@@ -204,12 +207,12 @@ def test_no_picture(pytester):
             assert False
     """
     result = outcomes(pytester, text, failed=1)
-    result.stdout.fnmatch_lines(["*- atom_tree -*", "No picture: *Is a directory: *"])
+    result.stdout.fnmatch_lines(["*- atom_tree -*", "No picture: *Is a directory: *", "The page: *atom_tree.html"])
     assert pictured(result) == []
 
 
 def test_explore(pytester):
-    """The report of a run that fails names its picture, which the exception has too."""
+    """The report of a run that fails names its picture and its page, which the exception has too."""
     text = """
         import atomfs
         import pytest
@@ -226,14 +229,18 @@ def test_explore(pytester):
     pytester.makeconftest(
         """
         def pytest_exception_interact(call):
-            print("It is at", call.excinfo.value.picture)
+            print("It is at", call.excinfo.value.picture, call.excinfo.value.page_file)
     """
     )
     result = outcomes(pytester, text, "--basetemp=temp", "-s", failed=2)
     paths = pictured(result)
     assert paths == [pytester.path / "temp" / name / "explore.svg" for name in ("test_simulate0", "test_explore0")]
     result.stdout.fnmatch_lines(
-        [*(f"*It is at {path}" for path in paths), "*- atomfs.explore -*", f"The picture: {paths[0]}"]
+        [
+            *(f"*It is at {path} {path.with_suffix('.html')}" for path in paths),
+            "*- atomfs.explore -*",
+            f"The picture: {paths[0]}",
+        ]
     )
 
 
@@ -394,12 +401,13 @@ def test_in_memory_at(pytester):
     assert (pytester.path / "data" / "f").read_text() == "data" and not (pytester.path / "new").exists()
     told = result.stdout.str()
     result.stdout.fnmatch_lines([f"*- atomfs: {pytester.path} -*", "The last calls:", "mkdir /new: ok"])
-    kept = re.findall(r"The (journal|picture): (.*)", told)
-    assert [name for name, _ in kept][:2] == ["journal", "picture"]
+    kept = re.findall(r"The (journal|picture|page): (.*)", told)
+    assert [name for name, _ in kept][:3] == ["journal", "picture", "page"]
     journal = pathlib.Path(kept[0][1]).read_text()
     # Of this test alone: the one before has another.
     assert journal.startswith("atomfs-journal") and "mkdir /new" in journal and "begin 1 " in journal
     assert "<svg" in pathlib.Path(kept[1][1]).read_text()
+    assert pathlib.Path(kept[2][1]).read_text().count("mkdir /new") > 1
     assert "stat /data/f" not in journal.split("mkdir /new")[1]
 
 

@@ -112,9 +112,11 @@ class Runs(unittest.TestCase):
             self.assertIn(part, str(error))
 
     def test_picture(self):
-        """The error of a check draws its run; where a picture was written, the plugin of pytest says."""
+        """The error of a check draws its run, and has a page of it; where these were written, the plugin of pytest says."""
         error = failed(self, MOVED, before=BEFORE)
         self.assertEqual((error.draw(), error.picture), (atomfs.draw(error.script), None))
+        page = atomfs.draw(error.script, html=True)
+        self.assertEqual((error.page(), error.html, error.page_file), (page, page.html, None))
 
     def test_no_failure(self):
         """It tells how many runs there were; what a check answers is looked at for False alone."""

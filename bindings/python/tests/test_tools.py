@@ -1,4 +1,5 @@
 """What the library makes of texts, beside what the program writes: pictures, traces, schedules, verdicts, explanations; and what it refuses."""
+import html
 import os
 import pathlib
 import random
@@ -9,7 +10,7 @@ import unittest
 import xml.etree.ElementTree as ElementTree
 
 import atomfs
-from atomfs import Error, Limits, Picture, Status, Tree
+from atomfs import Error, Limits, Page, Picture, Status, Tree
 from atomfs.__main__ import program
 
 SVG = "{http://www.w3.org/2000/svg}"
@@ -158,6 +159,80 @@ class Tools(OfTools):
         for status in Status:
             if Status.BAD_HEADER <= status < Status.PATH_NOT_ABSOLUTE:
                 self.assertTrue(atomfs.explain(status.kind).startswith(f"{status.kind}: "))
+
+
+class Pages(OfTools):
+    """Pages that play a run: `run.html` of the package, with the picture and the text in it."""
+
+    def parts(self, page):
+        """The picture and the text of a page, whose other parts are those of the package."""
+        stored = pathlib.Path(atomfs.__file__).with_name("run.html").read_text()
+        form = re.escape(stored).replace("@PICTURE@\\\n", "(.*?)").replace("@RUN@", "(.*?)")
+        found = re.fullmatch(form, str(page), re.S)
+        self.assertIsNotNone(found)
+        return found[1], html.unescape(found[2])
+
+    def test_scripts(self):
+        """The picture and the trace of the same run."""
+        for more in ({}, {"seed": 7}, {"robin": True}):
+            with self.subTest(more):
+                page = atomfs.draw(SCRIPT, html=True, **more)
+                self.assertEqual(self.parts(page), (atomfs.draw(SCRIPT, **more).svg, atomfs.trace(SCRIPT, **more)))
+
+    def test_journals(self):
+        """A journal is as it is, but for its comments: those of seats stay, and one has the first fault."""
+        journal = "atomfs-journal 1\n# seat 0 m\n# fault 9 None\n#\nbegin 1 0 stat /\ncommit 1\nreturn 1 stat dir 0\n"
+        kept = journal.replace("# fault 9 None\n#\n", "")
+        self.assertEqual(self.parts(atomfs.draw(journal, html=True)), (atomfs.draw(journal).svg, kept))
+        wrong = WRONG.replace("\n", "\n# fault 3 WrongReply\n", 1)
+        self.assertEqual(self.parts(atomfs.draw(WRONG, html=True)), (atomfs.draw(WRONG).svg, wrong))
+
+    def test_trees(self):
+        """The journal of a tree, with the names of its seats; or its last calls."""
+        with atomfs.Tree() as tree:
+            writer = tree.seat(name="writer")
+            for path in ("/a", "/b"):
+                writer.begin.mkdir(path)
+                writer.finish()
+            self.assertEqual(self.parts(tree.draw(html=True)), (tree.draw().svg, tree.journal()))
+            picture, text = self.parts(tree.draw(last=1, html=True))
+            self.assertEqual((picture, begun(text)), (tree.draw(last=1).svg, ["2"]))
+            self.assertRaisesRegex(ValueError, "whole run", tree.draw, 1, html=True)
+        self.assertRaisesRegex(ValueError, "whole run", atomfs.draw, SCRIPT, 1, html=True)
+
+    def test_hostile(self):
+        """No byte of a name comes to the page as a sign of HTML, or as one that is not ASCII."""
+        script = b"atomfs 3\nthread t\nmkdir /</pre><script>\nmkdir /&lt;\nmkdir /\xff\xfe\nschedule\nfinish\n"
+        journal = b"atomfs-journal 1\n# seat 0 </pre>\nbegin 1 0 stat /<\xc3\r>\ncommit 1\nreturn 1 failed ENOENT\n"
+        for given in (script, journal):
+            page = str(atomfs.draw(given, html=True))
+            self.assertTrue(page.isascii() and "\r" not in page)
+            self.assertEqual((page.count("</pre>"), page.count("<script>")), (1, 1))
+        self.assertIn("begin 1 0 stat /<%C3%0D>", self.parts(atomfs.draw(journal, html=True))[1])
+
+    def test_refused(self):
+        """What is no script and no journal has no page."""
+        for given in ("", "atomfs 1\nmkdir /a\n", "atomfs-journal 1\nbegin\n"):
+            self.assertRaises(Error, atomfs.draw, given, html=True)
+
+    def test_page(self):
+        page = atomfs.draw(SCRIPT, html=True)
+        self.assertEqual((str(page), page, hash(page)), (page.html, Page(page.html), hash(Page(page.html))))
+        told = "3 calls on 2 threads, 1 commit given by another call"
+        self.assertEqual(repr(page), f"<atomfs.Page of {len(page.html):,} bytes: {told}>")
+        self.assertEqual(repr(Page("<p>")), "<atomfs.Page of 3 bytes>")
+        path = self.folder / "run.html"
+        self.assertEqual((page.save(os.fspath(path)), page.save(path)), (path, path))
+        self.assertEqual(path.read_bytes(), page.html.encode())
+        self.assertRaises(FileNotFoundError, page.save, self.folder / "none" / "run.html")
+
+    def test_notebooks(self):
+        """A notebook has the page in a frame of its own, which may run its script and nothing else."""
+        page = atomfs.draw(SCRIPT, html=True)
+        found = re.fullmatch(
+            r'<iframe [^<>]* sandbox="allow-scripts" [^<>]*srcdoc="([^"<>]*)"></iframe>', page._repr_html_()
+        )
+        self.assertEqual(html.unescape(found[1]), page.html)
 
 
 class Refused(OfTools):

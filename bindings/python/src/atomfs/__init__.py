@@ -38,6 +38,7 @@ from ._library import NODE_LIMIT, PATH_LIMIT, Did, Limits, Status
 from ._library import library as _shared_object
 from ._linearize import Lawful, Linearized, NoHistory, NoOrder, Unknown, front, linearize
 from ._load import Snapshot, diff
+from ._page import Page
 from ._patch import patch
 from ._path import Path
 from ._texts import check, run
@@ -81,6 +82,7 @@ __all__ = [
     "Outcomes",
     "PATH_LIMIT",
     "PCT",
+    "Page",
     "Path",
     "PatienceError",
     "Picture",

@@ -8,10 +8,11 @@ from __future__ import annotations
 import dataclasses
 import pathlib
 import re
-from typing import List, NamedTuple, Optional, Tuple, Union
+from typing import List, Literal, NamedTuple, Optional, Tuple, Union, overload
 
 from ._errors import Error, StrPath, error_of
 from ._library import By, Fault, Status, library
+from ._page import Page, page_of
 from ._texts import ROOM, Room
 from ._values import bytes_of, number_of
 
@@ -84,17 +85,52 @@ class SeedVerdict(NamedTuple):
     verdict: str
 
 
-def draw(text: Text, around: Optional[int] = None, *, seed: Optional[int] = None, robin: bool = False) -> Picture:
+@overload
+def draw(
+    text: Text,
+    around: Optional[int] = None,
+    *,
+    seed: Optional[int] = None,
+    robin: bool = False,
+    html: Literal[False] = False,
+) -> Picture:
+    ...
+
+
+@overload
+def draw(
+    text: Text, around: None = None, *, seed: Optional[int] = None, robin: bool = False, html: Literal[True]
+) -> Page:
+    ...
+
+
+def draw(
+    text: Text, around: Optional[int] = None, *, seed: Optional[int] = None, robin: bool = False, html: bool = False
+) -> Union[Picture, Page]:
     """The picture of a journal, or of a run of a script: by its own schedule, by one that `seed` draws, or round robin.
 
     `around` is the number of a call: then only this one is drawn, and those that overlap it or help. Calls that are left, and the fault
     of a journal that is not lawful, are in the picture. `Error` tells the line of what is no script and no journal, `ValueError` that
     there is no such call.
+
+    With `html` it is a page that plays the whole run, event by event: one file, which needs no network and no other file.
     """
+    given, by = _bytes_of(text, "draw"), _drawn(seed, robin)
+    if not html:
+        return _picture(given, by, around)
+    if around is not None:
+        raise ValueError("a page plays the whole run: `around` is for a picture")
+    picture = _picture(given, by, None)
+    told = given if given.startswith(b"atomfs-journal") else _told("trace", given, *by, 0).encode("ascii")
+    return page_of(told, picture.svg)
+
+
+def _picture(text: bytes, by: Tuple[By, int], around: Optional[int]) -> Picture:
+    """The picture of all calls, or of one and those that overlap it or help."""
     call = _WHOLE if around is None else number_of(around, "number of a call")
     try:
         if around is None or call != _WHOLE:
-            return Picture(_told("draw", _bytes_of(text, "draw"), *_drawn(seed, robin), call))
+            return Picture(_told("draw", text, *by, call))
     except Error as error:
         if error.status != Status.NO_CALL:
             raise

@@ -17,6 +17,7 @@ from typing import (
     Dict,
     Iterator,
     List,
+    Literal,
     Mapping,
     NamedTuple,
     NoReturn,
@@ -37,6 +38,7 @@ from ._library import LISTED, Call, CStat, Did, Fault, Handle, Library, Limits, 
 from ._load import Snapshot
 from ._metadata import Metadata
 from ._names import Names
+from ._page import Page
 from ._path import Path, class_of
 from ._texts import ROOM, Room, told, told_text
 from ._tools import Picture
@@ -667,16 +669,33 @@ class Tree(Names):
             opening = told_text(self._library, self._room, self._library.opening, self._at)
             return self._named(opening + self._entries(0))
 
-    def draw(self, around: Optional[int] = None, *, last: Optional[int] = None) -> Picture:
+    @overload
+    def draw(
+        self, around: Optional[int] = None, *, last: Optional[int] = None, html: Literal[False] = False
+    ) -> Picture:
+        ...
+
+    @overload
+    def draw(self, around: None = None, *, last: Optional[int] = None, html: Literal[True]) -> Page:
+        ...
+
+    def draw(
+        self, around: Optional[int] = None, *, last: Optional[int] = None, html: bool = False
+    ) -> Union[Picture, Page]:
         """The picture of the journal so far, as `atomfs.draw` makes it; notebooks show one of the last 100 calls.
 
         `around` is the number of a call: then only this one is drawn, and those that overlap it. With `last` only the last calls are, at
         most so many, which takes the calls before to be made again on another tree. A text of more than 16 MiB, by `Limits.V3` 1 GiB, is an `Error`.
+        With `html` it is a page that plays these calls, for example `tree.draw(html=True).save("run.html")`.
         """
         text = self.journal()
         if last is not None:
             text = _last.of_last(Tree, text, self.limits, number_of(last, "number of calls"))
-        return _tools.draw(text, around)
+        if not html:
+            return _tools.draw(text, around)
+        if around is not None:
+            raise ValueError("a page plays the whole run: `around` is for a picture")
+        return _tools.draw(text, html=True)
 
     def _repr_svg_(self) -> Optional[str]:
         """The last calls, for notebooks: nothing where there are none, or too many, or where they can't be drawn."""

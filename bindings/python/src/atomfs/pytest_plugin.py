@@ -10,8 +10,9 @@
 
 `atom_tree` is a tree of the test's own, `atom_fs` the same as a file system of PyFilesystem2, `atom_path` its root as a path. By
 `atom_patch` it stands at a directory of the disk, `/sandbox` where the mark has no other by `at`, for `open`, `os` and so on. At
-the end the journal of the tree has to be lawful. The report of a test that fails shows the tree, its last 30 calls, and the path of a
-picture: in the `tmp_path` of the test, or in a folder of its own beside those; and so it does of a run of `atomfs.explore`.
+the end the journal of the tree has to be lawful. The report of a test that fails shows the tree, its last 30 calls, and the paths of a
+picture and of a page that plays the calls: in the `tmp_path` of the test, or in a folder of its own beside those; and so it does of a run of
+`atomfs.explore`.
 
 `pytest --atomfs` runs tests that know nothing of this in trees: what is below `tmp_path`, temporary files, and the working directory, which
 begins empty. `--atomfs-at DIR` lets a directory of the disk be a tree besides, which begins as what is there; if the working directory is below, it
@@ -24,7 +25,19 @@ import os
 import pathlib
 import re
 import tempfile
-from typing import TYPE_CHECKING, Any, Callable, ContextManager, Dict, Generator, Iterator, Mapping, Optional, Tuple
+from typing import (
+    TYPE_CHECKING,
+    Any,
+    Callable,
+    ContextManager,
+    Dict,
+    Generator,
+    Iterator,
+    Mapping,
+    Optional,
+    Tuple,
+    Union,
+)
 
 import pytest
 from _pytest import capture
@@ -34,6 +47,7 @@ from ._explore import ScheduleError
 from ._inside import Inside
 from ._library import Limits
 from ._load import Snapshot, of_snapshot
+from ._page import Page
 from ._patch import patch
 from ._path import Path
 from ._tools import Picture
@@ -45,6 +59,10 @@ if TYPE_CHECKING:
 _TREE = pytest.StashKey[Tree]()
 _PATCH = pytest.StashKey[patch]()
 _LOADED = pytest.StashKey[Dict[Tuple[str, Optional[int], Limits], Snapshot]]()
+# What makes a picture or a page, by the ending of its file.
+_Makers = Dict[str, Callable[[], Union[Picture, Page]]]
+# What a file is, by its ending.
+_KINDS = {"svg": "picture", "html": "page"}
 # How many calls a picture has at most: of more the program leaves out most words.
 _PICTURED = 2_000
 _PACKAGE = os.path.dirname(os.path.abspath(__file__)) + os.sep
@@ -155,23 +173,33 @@ def atom_patch(request: pytest.FixtureRequest, atom_tree: Tree) -> Iterator[patc
 
 
 def _shown(tree: Tree, node: Any) -> str:
-    """What the report of a failed test has: the tree, its last calls, and where the picture is."""
+    """What the report of a failed test has: the tree, its last calls, and where the picture and the page are."""
     if tree.closed:
         return repr(tree)
     calls = "\n".join(tree.last_calls())
-    picture = f"\n\n{_written(node, 'atom_tree', lambda: tree.draw(last=_PICTURED))[0]}" if calls else ""
-    return f"{tree!r}\n{tree}\n\nThe last calls:\n{calls}{picture}"
+    if not calls:
+        return f"{tree!r}\n{tree}\n\nThe last calls:\n"
+    made: _Makers = {
+        "svg": lambda: tree.draw(last=_PICTURED),
+        "html": lambda: tree.draw(last=_PICTURED, html=True),
+    }
+    return f"{tree!r}\n{tree}\n\nThe last calls:\n{calls}\n\n{_written(node, 'atom_tree', made)[0]}"
 
 
-def _written(node: Any, name: str, drawn: Callable[[], Picture]) -> Tuple[str, Optional[pathlib.Path]]:
-    """Writes a picture, and tells where; or why there is none."""
+def _written(node: Any, name: str, made: _Makers) -> Tuple[str, Dict[str, pathlib.Path]]:
+    """Writes a picture and a page, each by the ending of its file: where they are in words, or why there is none, and the paths."""
     aside: ContextManager[None] = node.stash[_PATCH]._aside() if _PATCH in node.stash else contextlib.nullcontext()
-    try:
-        with aside:
-            path = drawn().save(_folder(node) / f"{name}.svg")
-    except (Error, OSError) as error:
-        return f"No picture: {error}", None
-    return f"The picture: {path}", path
+    lines, paths = [], {}
+    with aside:
+        folder: Optional[pathlib.Path] = None
+        for ending, make in made.items():
+            try:
+                folder = folder or _folder(node)
+                paths[ending] = make().save(folder / f"{name}.{ending}")
+                lines.append(f"The {_KINDS[ending]}: {paths[ending]}")
+            except (Error, OSError) as error:
+                lines.append(f"No {_KINDS[ending]}: {error}")
+    return "\n".join(lines), paths
 
 
 def _folder(node: Any) -> pathlib.Path:
@@ -190,8 +218,10 @@ def pytest_runtest_makereport(item: pytest.Item, call: pytest.CallInfo[None]) ->
     if report.when != "call" or not report.failed:
         return
     if call.excinfo is not None and isinstance(error := call.excinfo.value, ScheduleError):
-        told, error.picture = _written(item, "explore", error.draw)
-        report.sections.append(("atomfs.explore", told))
+        made: _Makers = {"svg": error.draw, "html": error.page}
+        words, paths = _written(item, "explore", made)
+        error.picture, error.page_file = paths.get("svg"), paths.get("html")
+        report.sections.append(("atomfs.explore", words))
         _hide(report.longrepr, str(item.config.invocation_params.dir))
     if _TREE in item.stash:
         report.sections.append(("atom_tree", _shown(item.stash[_TREE], item)))
@@ -260,18 +290,22 @@ class _InTrees:
                 report.sections.append((f"atomfs: {path}", words))
 
     def _kept(self, item: pytest.Item, tree: Tree, number: int) -> str:
-        """Writes the journal and the picture of a tree to the disk, and tells where."""
+        """Writes the journal, the picture and the page of a tree to the disk, and tells where."""
         assert self._inside is not None
         stem = re.sub(r"\W", "_", item.name)[:60] + (f".{number}" if number else "")
         told = []
         with self._inside.aside():
-            for name, made in (("journal", tree.journal), ("svg", lambda: tree.draw(last=_PICTURED).svg)):
+            for name, made in (
+                ("journal", tree.journal),
+                ("svg", lambda: tree.draw(last=_PICTURED).svg),
+                ("html", lambda: tree.draw(last=_PICTURED, html=True).html),
+            ):
                 path = self._folder / f"{stem}.{name}"
                 try:
                     path.write_text(made())
-                    told.append(f"The {'picture' if name == 'svg' else name}: {path}")
+                    told.append(f"The {_KINDS.get(name, name)}: {path}")
                 except (Error, OSError) as error:
-                    told.append(f"No {'picture' if name == 'svg' else name}: {error}")
+                    told.append(f"No {_KINDS.get(name, name)}: {error}")
         return "\n".join(told)
 
 

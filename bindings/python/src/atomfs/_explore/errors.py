@@ -9,6 +9,7 @@ import re
 from typing import TYPE_CHECKING, Any, Callable, Dict, List, NamedTuple, Optional, Sequence, Tuple
 
 from .._texts import check as verdict_of
+from .._page import Page
 from .._tools import Picture, draw
 from .._tools import trace as traced
 
@@ -109,6 +110,8 @@ class ScheduleError(AssertionError):
         self.trials: int = more.get("trials", 0)
         #: Where the plugin of pytest has written the picture of the run, if it has.
         self.picture: Optional[pathlib.Path] = None
+        #: Where it has written the page that plays the run, if it has.
+        self.page_file: Optional[pathlib.Path] = None
         self._told = told
         self._again: Optional[Callable[[bool], ScheduleError]] = more.get("again")
         super().__init__("\n".join(self._message()))
@@ -141,6 +144,15 @@ class ScheduleError(AssertionError):
     def draw(self) -> Picture:
         """The picture of the run, with who waits for whom, and who helps."""
         return draw(self.script or self.journal)
+
+    def page(self) -> Page:
+        """The page that plays the run, event by event."""
+        return draw(self.script or self.journal, html=True)
+
+    @property
+    def html(self) -> str:
+        """The text of that page, a file of HTML."""
+        return self.page().html
 
     def replay(self, debug: bool = False) -> ScheduleError:
         """Makes the cut-down run again, and answers its error; for functions no patience is lost meanwhile, so a debugger may stop in them.
