@@ -266,9 +266,10 @@ class Played(Case):
         )
 
     def test_fault(self):
-        """The first entry at fault of a journal is named, where a comment has it."""
+        """The first entry at fault of a journal is named, if a line before the journal has it; a comment in it does not count."""
         wants_chromium()
-        journal = (EXAMPLES / "wrong_reply.journal").read_bytes().replace(b"\n", b"\n# fault 12 WrongReply\n", 1)
+        journal = (EXAMPLES / "wrong_reply.journal").read_bytes().replace(b"\n", b"\n# fault 3 CommitTwice\n", 1)
+        journal = b"# fault 12 WrongReply\n" + journal
         told = asked(page_of(journal, policy=False), f"show(12); return [byId('news').textContent, {self.SEEN}[1]]")
         self.same(
             "fault",

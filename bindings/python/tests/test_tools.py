@@ -180,11 +180,12 @@ class Pages(OfTools):
                 self.assertEqual(self.parts(page), (atomfs.draw(SCRIPT, **more).svg, atomfs.trace(SCRIPT, **more)))
 
     def test_journals(self):
-        """A journal is as it is, but for its comments: those of seats stay, and one has the first fault."""
+        """A journal is as it is, after a line with the verdict on it."""
         journal = "atomfs-journal 1\n# seat 0 m\n# fault 9 None\n#\nbegin 1 0 stat /\ncommit 1\nreturn 1 stat dir 0\n"
-        kept = journal.replace("# fault 9 None\n#\n", "")
-        self.assertEqual(self.parts(atomfs.draw(journal, html=True)), (atomfs.draw(journal).svg, kept))
-        wrong = WRONG.replace("\n", "\n# fault 3 WrongReply\n", 1)
+        self.assertEqual(
+            self.parts(atomfs.draw(journal, html=True)), (atomfs.draw(journal).svg, f"# lawful\n{journal}")
+        )
+        wrong = "# fault 3 WrongReply\n" + WRONG
         self.assertEqual(self.parts(atomfs.draw(WRONG, html=True)), (atomfs.draw(WRONG).svg, wrong))
 
     def test_trees(self):
@@ -194,7 +195,7 @@ class Pages(OfTools):
             for path in ("/a", "/b"):
                 writer.begin.mkdir(path)
                 writer.finish()
-            self.assertEqual(self.parts(tree.draw(html=True)), (tree.draw().svg, tree.journal()))
+            self.assertEqual(self.parts(tree.draw(html=True)), (tree.draw().svg, f"# lawful\n{tree.journal()}"))
             picture, text = self.parts(tree.draw(last=1, html=True))
             self.assertEqual((picture, begun(text)), (tree.draw(last=1).svg, ["2"]))
             self.assertRaisesRegex(ValueError, "whole run", tree.draw, 1, html=True)

@@ -48,7 +48,7 @@ class Page:
 def page_of(text: bytes, picture: str) -> Page:
     """The page of a trace or a journal, with the picture of the same run."""
     before, between, after = _parts()
-    return Page(before + picture + between + html.escape(_ascii(_marked(text)), quote=False) + after)
+    return Page(before + picture + between + html.escape(_ascii(_judged(text)), quote=False) + after)
 
 
 @functools.lru_cache(maxsize=None)
@@ -64,12 +64,6 @@ def _ascii(text: bytes) -> str:
     return re.sub(rb"[^\n -~]", lambda found: b"%%%02X" % found[0][0], text).decode("ascii")
 
 
-def _marked(text: bytes) -> bytes:
-    """A journal with a comment about its first fault, if it has one, and with no other comments but names of seats. A trace as it is."""
-    if not text.startswith(b"atomfs-journal"):
-        return text
-    first, _, rest = text.partition(b"\n")
-    verdict = check(text)
-    fault = b"# " + verdict.encode() + b"\n" if verdict != "lawful" else b""
-    kept = [line for line in rest.split(b"\n") if not line.startswith(b"#") or line.startswith(b"# seat ")]
-    return first + b"\n" + fault + b"\n".join(kept)
+def _judged(text: bytes) -> bytes:
+    """A journal with a line before it that has the verdict. A trace is as it was."""
+    return b"# %s\n%s" % (check(text).encode(), text) if text.startswith(b"atomfs-journal") else text
