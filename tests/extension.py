@@ -15,7 +15,7 @@ import harness
 from harness import ROOT, Case
 
 PACKAGE, EMBED = ROOT / "bindings" / "python", ROOT / "embed"
-SOURCE = PACKAGE / "src" / "atomfs" / "_fast.c"
+SOURCES = [PACKAGE / "src" / "atomfs" / name for name in ("_fast.c", "_door.c")]
 STRICT = "-std=gnu11", "-Wall", "-Wextra", "-Werror", "-shared", "-fPIC", "-fvisibility=hidden"
 CASES = "BothWays.test_drawn", "BothWays.test_forgets", "BothWays.test_full_directory", "BothWays.test_closed"
 CASES += "BothWays.test_steps", "BothWays.test_waits", "BothWays.test_copies", "BothWays.test_arguments"
@@ -130,7 +130,7 @@ class Extension(Case):
             EMBED,
             "-I",
             python()[1],
-            SOURCE,
+            *SOURCES,
             "-o",
             made / "atomfs" / "_fast.abi3.so",
         ]
@@ -177,7 +177,7 @@ class Extension(Case):
         of_python = {name for name in names if re.match("_?Py", name)}
         self.same("what is not in the stable ABI", of_python - set(stable.split()), set())
         self.assertGreater(len(of_python), 20)
-        self.assertLessEqual(names - of_python, {"memchr", "__errno_location", "__stack_chk_fail"})
+        self.assertLessEqual(names - of_python, {"memchr", "memcmp", "__errno_location", "__stack_chk_fail"})
 
     def test_valgrind(self):
         """valgrind finds no fault and nothing lost in the extension or the library."""
@@ -194,7 +194,7 @@ class Extension(Case):
         self.assertRegex(self.done([*grind, *words], **where)[1], r"(?m)^OK")
         told = log.read_text(errors="replace")
         faults = re.split(r"(?m)^==\d+== ?\n", told)
-        ours = [fault for fault in faults if re.search(r"_fast\.c:|libatomfs", fault)]
+        ours = [fault for fault in faults if re.search(r"_(fast|door)\.c:|libatomfs", fault)]
         self.same("what valgrind says", "\n".join(ours), "")
         self.assertIn("LEAK SUMMARY", told)
 

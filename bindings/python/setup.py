@@ -64,7 +64,8 @@ def extension():
         return [], f"there is no {beside[0] / 'atomfs.h'}"
     made = Extension(
         "atomfs._fast",
-        ["src/atomfs/_fast.c"],
+        ["src/atomfs/_fast.c", "src/atomfs/_door.c"],
+        depends=["src/atomfs/_fast.h"],
         include_dirs=folders[:1],
         define_macros=[("Py_LIMITED_API", "0x030B0000")],
         extra_compile_args=["-std=gnu11", "-O2", "-fvisibility=hidden"],

@@ -361,7 +361,7 @@ class BothWays(unittest.TestCase):
             (TypeError, BufferError), calls.on, b"0123456789", tree._mine, tree._standing, None, tree._nodes
         )
         self.assertEqual(tree.stat("/"), Stat(True, 0))
-        module = _calls._module
+        module = _calls.extension
         self.assertRaises(KeyError, module.functions, {})
         self.assertRaises(TypeError, module.functions, dict.fromkeys(_calls._FUNCTIONS, "x"))
         self.assertRaises(ValueError, module.functions, dict.fromkeys(_calls._FUNCTIONS, 0))
@@ -393,13 +393,13 @@ class Replaced(unittest.TestCase):
         for space in spaces:
             wanted += [(id(space), key) for key in space if key.startswith("found")]
         ids = {id(one): None for one in looked_for}
-        for module in {_calls._module, None}:
-            with unittest.mock.patch.object(_calls, "_module", module):
+        for module in {_calls.extension, None}:
+            with unittest.mock.patch.object(_calls, "extension", module):
                 self.assertEqual([(id(space), key) for space, key in _calls.places(spaces, ids)], wanted)
                 self.assertEqual(_calls.places([], ids), [])
                 self.assertEqual(_calls.places([{}, {"a": 1}], {}), [])
         if HAS_EXTENSION:
-            places = _calls._module.places
+            places = _calls.extension.places
             for given in ((), ([],), ({}, {}), ([1], {}), ([], {"x": 1}), ([], dict.fromkeys(range(1, 2_050)))):
                 self.assertRaises(TypeError, places, *given)
 

@@ -43,20 +43,20 @@ def _extension() -> Tuple[Any, str]:
         return None, str(error)
 
 
-_module, _why = _extension()
+extension, _why = _extension()
 
 
 def binding() -> str:
     """By what the calls of trees go to the library: `extension`, or `ctypes: ` and why."""
-    return f"ctypes: {_why}" if _module is None else "extension"
+    return f"ctypes: {_why}" if extension is None else "extension"
 
 
 def calls_of(tree: Tree, stat: Any, step: Any) -> Union[ByCtypes, _fast.Calls]:
     """The calls of a tree, which answer named tuples of these two types."""
-    if _module is None:
+    if extension is None:
         return ByCtypes(stat, step)
     given = tree._number, tree.lock, tree._room.size, stat, step, tuple(Did), encoded, number_of, bytes_of
-    made: _fast.Calls = _module.Calls(_functions(), *given)
+    made: _fast.Calls = extension.Calls(_functions(), *given)
     return made
 
 
@@ -64,13 +64,13 @@ def calls_of(tree: Tree, stat: Any, step: Any) -> Union[ByCtypes, _fast.Calls]:
 def _functions() -> Any:
     """The functions of the library, as the extension takes them."""
     of = library()
-    return _module.functions({name: ctypes.cast(getattr(of, name), ctypes.c_void_p).value for name in _FUNCTIONS})
+    return extension.functions({name: ctypes.cast(getattr(of, name), ctypes.c_void_p).value for name in _FUNCTIONS})
 
 
 def places(spaces: List[Dict[str, Any]], ids: Dict[int, Any]) -> List[Tuple[Dict[str, Any], str]]:
     """The places, each a dictionary and a key, at which an object stands whose number, as `id` has it, is a key of `ids`."""
-    if _module is not None:
-        found: List[Tuple[Dict[str, Any], str]] = _module.places(spaces, ids)
+    if extension is not None:
+        found: List[Tuple[Dict[str, Any], str]] = extension.places(spaces, ids)
         return found
     # Few have one: the others are passed over without a step of Python for each name.
     looked_for = frozenset(ids)
@@ -230,39 +230,46 @@ class Noted:
         self.piece, self.read = calls.piece, calls.read
 
     def mkdir(self, tree: Tree, path: AnyPath) -> None:
-        self._did(tree, Call.MKDIR, self._calls.mkdir, path)
+        with tree.lock:
+            self._calls.mkdir(tree, path)
+            self._metadata.made(path, True)
 
     def mknod(self, tree: Tree, path: AnyPath) -> None:
-        self._did(tree, Call.MKNOD, self._calls.mknod, path)
+        with tree.lock:
+            self._calls.mknod(tree, path)
+            self._metadata.made(path, False)
 
     def unlink(self, tree: Tree, path: AnyPath) -> None:
-        self._did(tree, Call.UNLINK, self._calls.unlink, path)
+        with tree.lock:
+            self._calls.unlink(tree, path)
+            self._metadata.removed(path)
 
     def rmdir(self, tree: Tree, path: AnyPath) -> None:
-        self._did(tree, Call.RMDIR, self._calls.rmdir, path)
+        with tree.lock:
+            self._calls.rmdir(tree, path)
+            self._metadata.removed(path)
 
     def rename(self, tree: Tree, path: AnyPath, other: AnyPath) -> None:
-        self._did(tree, Call.RENAME, self._calls.rename, path, other)
+        with tree.lock:
+            self._calls.rename(tree, path, other)
+            self._metadata.moved(path, other, False)
 
     def exchange(self, tree: Tree, path: AnyPath, other: AnyPath) -> None:
-        self._did(tree, Call.EXCHANGE, self._calls.exchange, path, other)
-
-    def _did(self, tree: Tree, call: Call, made: Any, *paths: AnyPath) -> None:
         with tree.lock:
-            made(tree, *paths)
-            self._metadata.did(call, *paths)
+            self._calls.exchange(tree, path, other)
+            self._metadata.moved(path, other, True)
 
     def write(self, tree: Tree, path: AnyPath, offset: int, data: Data) -> int:
         with tree.lock:
             wrote: int = self._calls.write(tree, path, offset, data)
             if wrote:
-                self._metadata.did(Call.WRITE, path)
+                self._metadata.wrote(path)
             return wrote
 
     def truncate(self, tree: Tree, path: AnyPath, size: int) -> None:
         with tree.lock:
             self._calls.truncate(tree, path, size)
-            self._metadata.did(Call.TRUNCATE, path)
+            self._metadata.wrote(path)
 
 
 def _count(tree: Tree, status: int, more: int) -> None:

@@ -23,8 +23,10 @@ if TYPE_CHECKING:
     from ._tree import Tree
 
 _Method = TypeVar("_Method", bound=Callable[..., Any])
-# How many bytes are read at once at least, where there are so many.
+# How many bytes are read at once at least of a whole file, where there are so many.
 READ = 65_536
+# What a node has that is at a path: it is never changed in place.
+_NOTHING = bytearray()
 # What asks `lseek` for data and for holes.
 _OF_HOLES = getattr(os, "SEEK_DATA", 3), getattr(os, "SEEK_HOLE", 4)
 # What keeps the number of a descriptor from the system: C that writes to it by itself gets an error. It has a high number itself.
@@ -40,8 +42,10 @@ _FOLDERS = "/tmp", "/var/tmp", "/dev/shm"
 def _kept_number() -> int:
     """A number that the system gives to no file as long as it is not closed: the lowest one."""
     global _keeper
-    with contextlib.suppress(OSError):
+    try:
         return _dup(_keeper)
+    except OSError:
+        pass
     _keeper = _away(_open(_KEEPER, os.O_RDONLY | os.O_CLOEXEC))
     return _dup(_keeper)
 
@@ -110,14 +114,19 @@ class told(ContextManager[None]):
 class Node:
     """What a descriptor speaks of: where it stands, or once it is removed the bytes of a file."""
 
+    __slots__ = "path", "is_dir", "inode", "opened", "data", "__weakref__"
+
     def __init__(self, path: Optional[str], is_dir: bool, inode: Inode) -> None:
-        self.path, self.is_dir, self.data, self.inode = path, is_dir, bytearray(), inode
+        self.path, self.is_dir, self.inode = path, is_dir, inode
         # How many descriptors speak of it.
         self.opened = 0
+        self.data = bytearray() if path is None else _NOTHING
 
 
 class Description:
     """A node that was opened, and a position in it: descriptors that were made by `dup` share it."""
+
+    __slots__ = "node", "at", "opened", "flags", "reads", "writes", "appends", "__weakref__"
 
     def __init__(self, node: Node, flags: int) -> None:
         mode = flags & os.O_ACCMODE
@@ -168,7 +177,8 @@ class Descriptors:
         """The node at a path."""
         node = self._nodes.get(path)
         if node is None or node.is_dir != is_dir:
-            node = self._nodes[path] = Node(path, is_dir, self._metadata.of(path, is_dir))
+            metadata = self.tree._metadata or self._metadata
+            node = self._nodes[path] = Node(path, is_dir, metadata.of(path, is_dir))
         return node
 
     def kept(self, path: str) -> Optional[bytes]:
@@ -189,6 +199,8 @@ class Descriptors:
 
     def moved(self, old: str, new: str) -> None:
         """What stood at a path, with all below it, came to another, at which nothing stands any more."""
+        if not self._nodes:
+            return
         for path in [path for path in self._nodes if path == old or path.startswith(f"{old}/")]:
             node = self._nodes.pop(path)
             node.path = new + path[len(old) :]
@@ -218,9 +230,8 @@ class Descriptors:
 
     # ---- Descriptors
 
-    @together
     def add(self, description: Description) -> int:
-        """A new descriptor."""
+        """A new descriptor. The lock of the tree is held."""
         return self.put(_kept_number(), description)
 
     def put(self, number: int, description: Description) -> int:
@@ -231,15 +242,22 @@ class Descriptors:
         self._of[number] = description
         return number
 
-    @together
     def close(self, descriptor: int) -> None:
-        description = self.of(descriptor)
-        del self._of[descriptor]
-        with contextlib.suppress(OSError):
-            _close(descriptor)
-        description.opened -= 1
-        if not description.opened:
-            self._let_go(description.node)
+        with self.tree._door:
+            description = self._of.pop(descriptor, None)
+            if description is None:
+                failed(errno.EBADF)
+            try:
+                _close(descriptor)
+            except OSError:
+                pass
+            description.opened -= 1
+            if description.opened:
+                return
+            node = description.node
+            node.opened -= 1
+            if not node.opened and node.path is not None and self._nodes.get(node.path) is node:
+                del self._nodes[node.path]
 
     def holds(self, descriptor: int) -> bool:
         """Whether a number is a descriptor still: one that was closed past all that is replaced is none."""
@@ -257,7 +275,9 @@ class Descriptors:
             self.close(descriptor)
 
     def _file(self, descriptor: int, reads: bool = False, writes: bool = False) -> Description:
-        description = self.of(descriptor)
+        description = self._of.get(descriptor)
+        if description is None:
+            failed(errno.EBADF)
         if (reads and not description.reads) or (writes and not description.writes):
             failed(errno.EBADF)
         if description.node.is_dir:
@@ -289,28 +309,33 @@ class Descriptors:
         size = self.size(self.of(descriptor).node)
         self.pwrite(descriptor, data[: max(0, size - offset)], offset)
 
-    @together
     def pread(self, descriptor: int, count: int, offset: int) -> bytes:
-        node = self._file(descriptor, reads=True).node
+        with self.tree._door:
+            return self._read(self._file(descriptor, reads=True).node, count, offset)
+
+    def _read(self, node: Node, count: int, offset: int) -> bytes:
         if count < 0 or offset < 0:
             failed(errno.EINVAL)
-        return (
-            bytes(node.data[offset : offset + count]) if node.path is None else self.tree.read(node.path, offset, count)
-        )
+        if node.path is None:
+            return bytes(node.data[offset : offset + count])
+        return self.tree.read(node.path, offset, count)
 
-    @together
     def read(self, descriptor: int, count: int) -> bytes:
-        description = self._file(descriptor, reads=True)
-        data = self.pread(descriptor, count, description.at)
-        description.at += len(data)
-        return data
+        with self.tree._door:
+            description = self._file(descriptor, reads=True)
+            data = self._read(description.node, count, description.at)
+            description.at += len(data)
+            return data
 
-    @together
     def pwrite(self, descriptor: int, data: Any, offset: int) -> int:
-        node = self._file(descriptor, writes=True).node
-        given = memoryview(data).tobytes()
-        if offset < 0:
-            failed(errno.EINVAL)
+        with self.tree._door:
+            node = self._file(descriptor, writes=True).node
+            given = data if data.__class__ is bytes else memoryview(data).tobytes()
+            if offset < 0:
+                failed(errno.EINVAL)
+            return self._write(node, given, offset)
+
+    def _write(self, node: Node, given: bytes, offset: int) -> int:
         if node.path is not None:
             return self.tree.write(node.path, offset, given)
         self._sized(node, max(len(node.data), offset + len(given) if given else 0))
@@ -319,16 +344,17 @@ class Descriptors:
             node.inode.wrote(self._metadata.clock())
         return len(given)
 
-    @together
     def write(self, descriptor: int, data: Any) -> int:
-        description = self._file(descriptor, writes=True)
-        if not memoryview(data).nbytes:
-            # Not even the position of one that appends moves.
-            return 0
-        at = self.size(description.node) if description.appends else description.at
-        count = self.pwrite(descriptor, data, at)
-        description.at = at + count
-        return count
+        with self.tree._door:
+            description = self._file(descriptor, writes=True)
+            given = data if data.__class__ is bytes else memoryview(data).tobytes()
+            if not given:
+                # Not even the position of one that appends moves.
+                return 0
+            at = self.size(description.node) if description.appends else description.at
+            count = self._write(description.node, given, at)
+            description.at = at + count
+            return count
 
     @together
     def truncate(self, descriptor: int, size: int) -> None:
@@ -348,9 +374,12 @@ class Descriptors:
         del node.data[size:]
         node.data += bytes(size - len(node.data))
 
-    @together
     def seek(self, descriptor: int, offset: int, whence: int) -> int:
-        description = self.of(descriptor)
+        with self.tree._door:
+            description = self.of(descriptor)
+            return self._sought(description, offset, whence)
+
+    def _sought(self, description: Description, offset: int, whence: int) -> int:
         starts = {os.SEEK_SET: 0, os.SEEK_CUR: description.at}
         if whence in _OF_HOLES:
             # There are none: all is data up to the end.
@@ -388,9 +417,8 @@ class DescribedFile(io.FileIO):
 
     def _begin(self, files: Descriptors, descriptor: int, name: Any, mode: str, closefd: bool) -> None:
         _FileIO.__init__(self, descriptor, mode, False)
-        self._files, self._closefd = files, closefd
-        self.name = name
-        if "a" in mode:
+        self._files, self._closefd, self.name = files, closefd, name
+        if mode[0] == "a":
             self.seek(0, os.SEEK_END)
 
     @classmethod
@@ -410,58 +438,72 @@ class DescribedFile(io.FileIO):
         name = f"name={self.name!r}" if hasattr(self, "name") else f"fd={self.fileno()}"
         return f"<_io.FileIO {name} mode={self.mode!r} closefd={self._closefd}>"
 
-    def _told(self) -> ContextManager[None]:
-        """An error tells the name with which the file was opened, where it is a path."""
+    def _named(self, error: OSError) -> OSError:
+        """An error of the file: it says the name with which that was opened, where it is a path."""
         name = getattr(self, "name", None)
-        return told(name) if isinstance(name, (str, bytes)) else contextlib.nullcontext()
+        if isinstance(name, (str, bytes)):
+            error.filename = name
+        return error
 
-    def _check(self, may: bool = True, what: str = "") -> int:
+    def _number(self, what: str, may: bool) -> int:
         number = self.fileno()
         if not may:
             raise io.UnsupportedOperation(f"File not open for {what}")
         return number
 
     def read(self, size: Optional[int] = -1) -> bytes:
-        number = self._check(self.readable(), "reading")
+        number = self._number("reading", self.readable())
         if size is None or size < 0:
             return self.readall()
-        with self._told():
+        try:
             return self._files.read(number, size)
+        except OSError as error:
+            raise self._named(error)
 
     def readinto(self, buffer: Any) -> int:
-        number = self._check(self.readable(), "reading")
+        number = self._number("reading", self.readable())
         room = room_of(buffer)
-        with self._told():
-            data = self._files.read(number, len(room))
-        room[: len(data)] = data
-        return len(data)
+        try:
+            data = self._files.read(number, room.nbytes)
+        except OSError as error:
+            raise self._named(error)
+        count = len(data)
+        room[:count] = data
+        return count
 
     def readall(self) -> bytes:
-        number = self._check(self.readable(), "reading")
-        with self._told():
+        number = self._number("reading", self.readable())
+        try:
             data = self._files.read(number, READ)
             return data + self._files.read(number, self._files.tree.limits.file_bytes) if len(data) == READ else data
+        except OSError as error:
+            raise self._named(error)
 
     def write(self, data: Any) -> int:
-        number = self._check(self.writable(), "writing")
-        with self._told():
+        number = self._number("writing", self.writable())
+        try:
             return self._files.write(number, data)
+        except OSError as error:
+            raise self._named(error)
 
     def seek(self, offset: int, whence: int = os.SEEK_SET) -> int:
         return self._files.seek(self.fileno(), offset, whence)
 
     def tell(self) -> int:
-        return self._files.seek(self.fileno(), 0, os.SEEK_CUR)
+        description = self._files._of.get(self.fileno())
+        return description.at if description is not None else failed(errno.EBADF)
 
     def truncate(self, size: Optional[int] = None) -> int:
-        number = self._check(self.writable(), "writing")
+        number = self._number("writing", self.writable())
         size = self.tell() if size is None else size
-        with self._told():
+        try:
             self._files.truncate(number, size)
+        except OSError as error:
+            raise self._named(error)
         return size
 
     def close(self) -> None:
-        if self.closed or not hasattr(self, "_closefd"):
+        if self.closed or "_closefd" not in self.__dict__:
             super().close()
             return
         number = _FileIO.fileno(self)
@@ -511,8 +553,7 @@ def file_object(
     if "+" in mode:
         buffer: Any = io.BufferedRandom(raw, buffering if buffering > 1 else BLOCK)
     elif raw.readable():
-        # What is read ahead is seen by nobody.
-        buffer = io.BufferedReader(raw, buffering if buffering > 1 else READ)
+        buffer = io.BufferedReader(raw, buffering if buffering > 1 else BLOCK)
     else:
         buffer = io.BufferedWriter(raw, buffering if buffering > 1 else BLOCK)
     if "b" in mode:

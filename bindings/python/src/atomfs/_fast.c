@@ -7,11 +7,7 @@
  * less time than to let it go, and let go for one on more than LONG bytes. Of those the bytes are Python's `bytes`, which nobody
  * changes meanwhile. What is rare goes to methods of the tree in Python: a path of a strange type, a status that is no error of a
  * call, a read of many pieces. */
-#ifndef Py_LIMITED_API
-#define Py_LIMITED_API 0x030B0000
-#endif
-#define PY_SSIZE_T_CLEAN
-#include <Python.h>
+#include "_fast.h"
 
 #include <errno.h>
 #include <stdint.h>
@@ -808,7 +804,7 @@ static int module_exec(PyObject *module) {
     if (type == NULL) return -1;
     int done = PyModule_AddType(module, (PyTypeObject *)type);
     Py_DECREF(type);
-    return done;
+    return done < 0 ? done : atomfs_add_door(module);
 }
 
 static PyModuleDef_Slot module_slots[] = { { Py_mod_exec, module_exec }, { 0, NULL } };

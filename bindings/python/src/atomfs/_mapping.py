@@ -49,7 +49,8 @@ class Mapped(_mmap):
         finally:
             real["os.close"](scratch)
         made._files, made._shared, made._offset = files, shared, offset
-        made._number, made._known = files.add(description), made[:]
+        with files.tree._door:
+            made._number, made._known = files.add(description), made[:]
         return made
 
     _offset = 0

@@ -22,9 +22,14 @@ Clock = Callable[[], int]
 _SECOND = 10**9
 # What a node has of whose making nothing is known.
 _MODES = {True: stat.S_IFDIR | 0o755, False: stat.S_IFREG | 0o644}
+# What a new node has, before the mask.
+_NEW = {True: stat.S_IFDIR | 0o777, False: stat.S_IFREG | 0o666}
 LINK = stat.S_IFLNK | 0o777
 # What `st_blksize` says: as much of a file is in a buffer before it is written.
 BLOCK = 4_096
+
+
+_user, _group = os.geteuid, os.getegid
 
 
 class Inode:
@@ -48,7 +53,7 @@ class Inode:
 
     def __init__(self, mode: int, number: int, now: int) -> None:
         self.mode, self.number, self.links = mode, number, 1
-        self.uid, self.gid = os.geteuid(), os.getegid()
+        self.uid, self.gid = _user(), _group()
         self.accessed = self.modified = self.changed = now
         #: Where a symbolic link leads.
         self.target: Optional[str] = None
@@ -191,16 +196,23 @@ class Metadata:
                 one = below.get(name) if below is not None else None
         if one is not None and (one.entries is not None) == is_dir:
             return one
+        return self.entry(path, is_dir)[1]
+
+    def entry(self, path: str, is_dir: bool) -> Tuple[Inode, Inode]:
+        """What is kept of the directory above a path, and of the node there."""
         above, name = self._above(path)
-        return self._entry(above, name, is_dir) if name else self.root
+        return above, self._entry(above, name, is_dir) if name else self.root
 
     def _above(self, path: str) -> Tuple[Inode, str]:
         """The directory in which a path ends, and its last name: of the root none."""
-        names = [name for name in path.split("/") if name]
-        one = self.root
-        for name in names[:-1]:
-            one = self._entry(one, name, True)
-        return one, names[-1] if names else ""
+        above, last = self.root, ""
+        for name in path.split("/"):
+            if name:
+                if last:
+                    below = above.entries.get(last)  # type: ignore[union-attr]
+                    above = below if below is not None and below.entries is not None else self._entry(above, last, True)
+                last = name
+        return above, last
 
     def _entry(self, above: Inode, name: str, is_dir: bool) -> Inode:
         assert above.entries is not None
@@ -216,7 +228,9 @@ class Metadata:
         one.links = 0
         if one.target is not None:
             self.links -= 1
-        for below in list((one.entries or {}).values()):
+        if not one.entries:
+            return
+        for below in list(one.entries.values()):
             # What was changed past the door alone has something below it.
             self.links -= sum(link.target is not None for link in _all_of(below))
 
@@ -224,44 +238,57 @@ class Metadata:
 
     def did(self, call: Call, *paths: AnyPath) -> None:
         """A call on these paths has changed the tree."""
-        now, (path, *others) = self.clock(), [text_of(one) for one in paths]
-        above, name = self._above(path)
-        assert above.entries is not None
-        if call in (Call.WRITE, Call.TRUNCATE):
-            self._entry(above, name, False).wrote(now)
-            return
-        if call in (Call.MKDIR, Call.MKNOD):
-            mode = stat.S_IFDIR | 0o777 if call == Call.MKDIR else stat.S_IFREG | 0o666
-            above.entries[name] = self.new(mode & ~self.mask, now)
-        elif call in (Call.UNLINK, Call.RMDIR):
-            self._removed(above, name, now)
-        elif call in (Call.RENAME, Call.EXCHANGE):
-            self._moved(call, above, name, others[0], now)
-        above.wrote(now)
+        if call is Call.WRITE or call is Call.TRUNCATE:
+            self.wrote(paths[0])
+        elif call is Call.MKDIR or call is Call.MKNOD:
+            self.made(paths[0], call is Call.MKDIR)
+        elif call is Call.UNLINK or call is Call.RMDIR:
+            self.removed(paths[0])
+        elif call is Call.RENAME or call is Call.EXCHANGE:
+            self.moved(paths[0], paths[1], call is Call.EXCHANGE)
 
-    def _removed(self, above: Inode, name: str, now: int) -> None:
-        assert above.entries is not None
-        one = above.entries.pop(name, None)
+    def wrote(self, path: AnyPath) -> None:
+        """The bytes of a file have changed."""
+        inode = self.of(text_of(path), False)
+        inode.modified = inode.changed = self.clock()
+
+    def made(self, path: AnyPath, is_dir: bool) -> None:
+        """There is a new directory, or a new file."""
+        above, name = self._above(text_of(path))
+        now, mode = self.clock(), _NEW[is_dir]
+        self._number += 1
+        above.entries[name] = Inode(mode & ~self.mask, self._number, now)  # type: ignore[index]
+        above.modified = above.changed = now
+
+    def removed(self, path: AnyPath) -> None:
+        """An entry went away."""
+        above, name = self._above(text_of(path))
+        now = self.clock()
+        one = above.entries.pop(name, None)  # type: ignore[union-attr]
         if one is not None:
             self._gone(one)
             one.changed = now
+        above.modified = above.changed = now
 
-    def _moved(self, call: Call, above: Inode, name: str, other: str, now: int) -> None:
+    def moved(self, path: AnyPath, other: AnyPath, exchanged: bool) -> None:
         """Two entries of which one came in the place of the other, or both in each other's."""
-        aim, last = self._above(other)
-        assert above.entries is not None and aim.entries is not None
-        if above is aim and name == last:
-            return
-        one, was = above.entries.pop(name, None), aim.entries.pop(last, None)
-        if call == Call.RENAME and was is not None:
-            self._gone(was)
-            was.changed = now
-        for into, key, inode in ((aim, last, one), (above, name, was if call == Call.EXCHANGE else None)):
-            if inode is not None:
-                assert into.entries is not None
-                into.entries[key] = inode
-                inode.changed = now
-        aim.wrote(now)
+        above, name = self._above(text_of(path))
+        aim, last = self._above(text_of(other))
+        now, entries, others = self.clock(), above.entries, aim.entries
+        assert entries is not None and others is not None
+        if above is not aim or name != last:
+            one, was = entries.pop(name, None), others.pop(last, None)
+            if one is not None:
+                others[last] = one
+                one.changed = now
+            if was is not None:
+                was.changed = now
+                if exchanged:
+                    entries[name] = was
+                else:
+                    self._gone(was)
+            aim.modified = aim.changed = now
+        above.modified = above.changed = now
 
 
 def _all_of(top: Inode) -> List[Inode]:

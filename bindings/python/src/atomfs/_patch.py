@@ -24,6 +24,7 @@ from typing import Any, Callable, Dict, Iterator, List, NamedTuple, Optional, Tu
 from . import _table, _walk
 from ._calls import places
 from ._descriptors import DescribedFile, Descriptors, failed, told, twin_of
+from ._door import Door
 from ._imports import imports_again
 from ._mapping import Mapped
 from ._metadata import Clock, Metadata, metadata_of
@@ -38,6 +39,8 @@ Function = Callable[..., Any]
 _FileIO = io.FileIO
 # What functions of `os` take as a path still, and `open` not.
 _BYTES_LIKE = bytearray, memoryview
+# What `open` says where a path is given, whose descriptor nobody else has.
+_KEPT_OPEN = "Cannot use closefd=False with file name"
 # The last of the descriptors that each process has.
 _STANDARD = 2
 # The flags that ask for a file that is not there.
@@ -51,20 +54,6 @@ _OF_MODULE: Any = vars(types.ModuleType)["__dict__"]
 _looked: Dict[str, int] = {}
 # The modules so far.
 _found: Dict[str, _Known] = {}
-
-
-class _Replaced:
-    """A function in the place of one of C: as that it is bound to no instance where a class has it."""
-
-    def __init__(self, patch: patch, made: Function, real: Function) -> None:
-        functools.update_wrapper(self, real)
-        self._patch, self._made, self._real = patch, made, real
-
-    def __repr__(self) -> str:
-        return repr(self._real)
-
-    def __call__(self, *given: Any, **named: Any) -> Any:
-        return (self._made if self._patch._active else self._real)(*given, **named)
 
 
 class patch(OfC, contextlib.ContextDecorator):
@@ -126,6 +115,7 @@ class patch(OfC, contextlib.ContextDecorator):
         self._sandbox.enforce = self._enforce
         self._mirror = Mirror(self.tree, str(self.at), self._files, self._real) if self._with_processes else None
         self._processes = Processes(self, self._files, self._places, self._mirror)
+        self._door = Door(self, self._files, self._places)
         news = {name: self._made(name, real) for name, real in self._real.items()}
         self._active = True
         try:
@@ -253,20 +243,26 @@ class patch(OfC, contextlib.ContextDecorator):
             **{name: functools.partial(self._opened_by_c, name) for name in _table.DATABASES},
             "dbm.open": self._database,
         }
-        on_disk = self._working(real) if name in ("os.chdir", "os.fchdir") else real
+        function = self._door.function
+        if name == "builtins.open":
+            return function("open", own[name](real), real, self._open_inside)
         if name in own:
-            made = own[name](real)
-        elif name == "os.dup2":
-            made = self._dup2(real)
-        elif name in _table.OF_DESCRIPTORS:
-            made = self._of_descriptors(name, on_disk, _table.OF_DESCRIPTORS[name])
-        elif name in _table.OF_PATHS:
-            made = self._of_paths(name, real, *_table.OF_PATHS[name])
-        else:
-            made = self._of_path(name, on_disk, _table.OF_PATH[name])
-            if name in _table.EXECS:
-                made = self._processes.executed(name, real, made)
-        return _Replaced(self, made, real)
+            return function("other", own[name](real), real)
+        if name == "os.dup2":
+            return function("other", self._dup2(real), real)
+        if name in _table.OF_PATHS:
+            return function("paths", self._of_paths(name, real, *_table.OF_PATHS[name]), real, self._inside(name))
+        on_disk = self._working(real) if name in _table.WORKS else real
+        if name in _table.OF_DESCRIPTORS:
+            keys = _table.OF_DESCRIPTORS[name]
+            made = self._of_descriptors(name, on_disk, keys)
+            kind = "descriptor" if len(keys) == 1 and on_disk is real else "other"
+            return function(kind, made, real, self._inside(name))
+        made = self._of_path(name, on_disk, _table.OF_PATH[name])
+        if name in _table.EXECS:
+            return function("other", self._processes.executed(name, real, made), real)
+        kind = "path" if on_disk is real else "other"
+        return function(kind, made, real, self._inside(name), name in _table.PATHLESS)
 
     def _inside(self, name: str) -> Function:
         """The function over the tree; of what is refused, one that raises why."""
@@ -433,20 +429,42 @@ class patch(OfC, contextlib.ContextDecorator):
                 return real(file, *words, closefd, opener)
             if not isinstance(mode, str) or (place.inside is None and opener is None):
                 return real(place.path, *words, closefd, opener)
+            if opener is None:
+                with told(file):
+                    return self._open_inside(place, file, *words, closefd)
             _walk.check_words(mode, encoding, errors, newline)
             if not closefd:
-                raise ValueError("Cannot use closefd=False with file name")
+                raise ValueError(_KEPT_OPEN)
             name = os.fspath(file)
-            if opener is not None:
-                descriptor: int = opener(name, flags_of(mode))
-                if descriptor not in self._files:
-                    return real(name, *words, True, lambda *given: descriptor)
+            descriptor: int = opener(name, flags_of(mode))
+            if descriptor not in self._files:
+                return real(name, *words, True, lambda *given: descriptor)
             with told(file):
-                if opener is None:
-                    descriptor = self._sandbox.open(place, flags_of(mode), 0o666)
                 return self._sandbox.file(descriptor, name, *words)
 
         return function
+
+    def _open_inside(
+        self,
+        place: Place,
+        file: Any,
+        mode: str = "r",
+        buffering: int = -1,
+        encoding: Optional[str] = None,
+        errors: Optional[str] = None,
+        newline: Optional[str] = None,
+        closefd: bool = True,
+        opener: None = None,
+    ) -> Any:
+        """`open` of a path of the tree."""
+        if not isinstance(mode, str):
+            return self._real["builtins.open"](file, mode)
+        _walk.check_words(mode, encoding, errors, newline)
+        if not closefd:
+            raise ValueError(_KEPT_OPEN)
+        sandbox = self._sandbox
+        descriptor = sandbox.open(place, flags_of(mode), 0o666)
+        return sandbox.file(descriptor, os.fspath(file), mode, buffering, encoding, errors, newline)
 
     def _open_code(self, real: Function) -> Function:
         opened = self._open(lambda path, *given: real(path))
@@ -559,7 +577,7 @@ class patch(OfC, contextlib.ContextDecorator):
             return False, (place.path, mode, closefd, opener)
         _check_raw_mode(mode)
         if not closefd:
-            raise ValueError("Cannot use closefd=False with file name")
+            raise ValueError(_KEPT_OPEN)
         name, flags = os.fspath(file), flags_of(mode)
         if opener is None:
             with told(file):

@@ -4,6 +4,7 @@ from __future__ import annotations
 import errno
 import os
 import posixpath
+import re
 from typing import Any, Callable, Dict, List, NamedTuple, Optional, Set, Tuple
 
 from ._descriptors import Descriptors
@@ -12,6 +13,8 @@ from ._metadata import Metadata
 Real = Dict[str, Callable[..., Any]]
 # How many links Linux follows in a path.
 _LINKS = 40
+# Whether names, each behind a slash, are none of dots.
+_PLAIN = re.compile(r"(?:/(?!\.{0,2}(?:/|\Z))[^/\0]+)+\Z").match
 
 
 class Place(NamedTuple):
@@ -60,6 +63,17 @@ class Places:
                 return path[len(root) :]
         return None
 
+    def plain(self, text: str) -> Optional[str]:
+        """The path in the tree of an absolute one that is written so: each name behind one slash, none of them of dots, and no link on the way.
+        Of any other there is none here."""
+        if self._shadows or self._name not in text or self._metadata().links:
+            return None
+        for root in self._roots:
+            if text.startswith(root):
+                rest = text[len(root) :]
+                return rest or "/" if not rest or (rest[0] == "/" and _PLAIN(rest)) else None
+        return None
+
     def outside(self, path: str) -> str:
         """The absolute path of one in the tree."""
         return self.at if path == "/" else self.at + path
@@ -72,6 +86,9 @@ class Places:
         text = os.fsdecode(path)
         if directory is not None and not isinstance(directory, int):
             raise TypeError("a descriptor is a whole number")
+        plain = self.plain(text) if text[:1] == "/" else None
+        if plain is not None:
+            return Place(plain, path)
         base, moved = ("", False) if text[:1] == "/" or not text else self._base(directory)
         if base is None or not text or not (self._shadows or moved or self._name in text or self._name in base):
             return Place(None, path)

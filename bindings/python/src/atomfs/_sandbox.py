@@ -5,6 +5,7 @@ Those of paths take the `Place` of each path, those of descriptors a descriptor 
 from __future__ import annotations
 
 import errno
+import functools
 import io
 import itertools
 import operator
@@ -29,6 +30,8 @@ _NO_ENTRY = getattr(os, "O_TMPFILE", 0)
 _NOT_FOLLOWED = os.O_NOFOLLOW
 # What a descriptor of each kind asks for.
 _ASKED = {os.O_RDONLY: os.R_OK, os.O_WRONLY: os.W_OK, os.O_RDWR: os.R_OK | os.W_OK, 3: 0}
+# The kind of a node in its mode.
+_KIND, _DIRECTORY, _FILE, _LINK = stat.S_IFMT(0xFFFF), stat.S_IFDIR, stat.S_IFREG, stat.S_IFLNK
 # Numbers of devices that no system has.
 _DEVICES = itertools.count(1 << 48)
 
@@ -36,13 +39,14 @@ _DEVICES = itertools.count(1 << 48)
 class Entry:
     """As `os.DirEntry`: what it says of the kind is of the moment of the list, and `stat` of that of its first call."""
 
+    __slots__ = "name", "path", "_sandbox", "_inside", "_mode", "_number", "_stats"
+
     def __init__(
         self, sandbox: Sandbox, inside: str, name: Union[str, bytes], path: Union[str, bytes], known: Optional[Inode]
     ) -> None:
         self._sandbox, self._inside, self.name, self.path = sandbox, inside, name, path
-        self._mode = 0 if known is None else known.mode
-        self._number = 0 if known is None else known.number
-        self._stats: Dict[bool, os.stat_result] = {}
+        self._mode, self._number = (0, 0) if known is None else (known.mode, known.number)
+        self._stats: Optional[Dict[bool, os.stat_result]] = None
 
     def __repr__(self) -> str:
         return f"<DirEntry {self.name!r}>"
@@ -53,19 +57,19 @@ class Entry:
     def _kind(self, follow: bool) -> int:
         if not self._mode:
             self._mode = self._sandbox.kind(self._inside, False)
-        kind = stat.S_IFMT(self._mode)
-        if not follow or kind != stat.S_IFLNK:
+        kind = self._mode & _KIND
+        if kind != _LINK or not follow:
             return kind
         with told(self.path):
             return self._sandbox.kind(self._inside, True)
 
     def is_dir(self, *, follow_symlinks: bool = True) -> bool:
         """Whether it is a directory, or a link to one."""
-        return self._kind(follow_symlinks) == stat.S_IFDIR
+        return self._kind(follow_symlinks) == _DIRECTORY
 
     def is_file(self, *, follow_symlinks: bool = True) -> bool:
         """Whether it is a file, or a link to one."""
-        return self._kind(follow_symlinks) == stat.S_IFREG
+        return self._kind(follow_symlinks) == _FILE
 
     def is_symlink(self) -> bool:
         """Whether it is a link."""
@@ -81,6 +85,8 @@ class Entry:
 
     def stat(self, *, follow_symlinks: bool = True) -> os.stat_result:
         """What stands there."""
+        if self._stats is None:
+            self._stats = {}
         if follow_symlinks not in self._stats:
             with told(self.path):
                 self._stats[follow_symlinks] = self._sandbox.stat_inside(self._inside, follow_symlinks)
@@ -143,8 +149,9 @@ class Entries:
 
 def _at(place: Place) -> str:
     """The path in the tree."""
-    assert place.inside is not None
-    return place.inside
+    inside = place.inside
+    assert inside is not None
+    return inside
 
 
 class Sandbox(Attributes):
@@ -176,10 +183,13 @@ class Sandbox(Attributes):
 
     # ---- Looks
 
-    @together
     def stat(self, place: Place, *given: Any, **named: Any) -> os.stat_result:
-        found = self._looked(place)
-        return self._metadata().of(_at(place), found.is_dir).result(self._device, found.size)
+        tree, at = self.tree, _at(place)
+        with tree._door:
+            is_dir, size = tree.stat(at)
+            if place.of_directory and not is_dir:
+                failed(errno.ENOTDIR, place.path)
+            return (tree._metadata or self._metadata()).of(at, is_dir).result(self._device, size)
 
     lstat = stat
 
@@ -265,13 +275,13 @@ class Sandbox(Attributes):
     def scandir(self, place: Place) -> Entries:
         self.check(place, os.R_OK)
         above = "" if isinstance(place.path, int) else os.fspath(place.path)
-        names, known = self.tree.listdir(_at(place)), self._metadata().of(_at(place), True).entries or {}
-        entries = []
-        for name in names:
-            its: Any = os.fsencode(name) if isinstance(above, bytes) else name
-            path = posixpath.join(above, its) if above else its
-            entries.append(Entry(self, _walk.joined(_at(place), name), its, path, known.get(name)))
-        return Entries(entries)
+        names, known = self.tree.listdir(_at(place)), (self._metadata().of(_at(place), True).entries or {}).get
+        inside, front = _walk.joined(_at(place), ""), above and posixpath.join(above, above[:0])
+        if isinstance(front, bytes):
+            return Entries(
+                [Entry(self, inside + one, (raw := os.fsencode(one)), front + raw, known(one)) for one in names]
+            )
+        return Entries([Entry(self, inside + one, one, front + one, known(one)) for one in names])
 
     def no_entries(self, descriptor: int, scans: bool) -> Any:
         """What a directory that was removed has."""
@@ -294,14 +304,15 @@ class Sandbox(Attributes):
 
     # ---- Changes
 
-    @together
     def mkdir(self, place: Place, mode: int = 0o777, **named: Any) -> None:
         mode = _whole(mode)
-        if place.dots:
-            self.go_to(place)
-        self.check_above(place)
-        self.tree.mkdir(_at(place))
-        self._made(place, stat.S_IFDIR | mode & 0o1777)
+        with self.tree._door:
+            if place.dots:
+                self.go_to(place)
+            if self.enforce:
+                self.check_above(place)
+            self.tree.mkdir(_at(place))
+            self._made(place, stat.S_IFDIR | mode & 0o1777)
 
     @together
     def mknod(self, place: Place, mode: int = 0o600, device: int = 0, **named: Any) -> None:
@@ -317,10 +328,9 @@ class Sandbox(Attributes):
     def _made(self, place: Place, mode: int) -> None:
         """A node was made with these permissions."""
         metadata = self._metadata()
-        inode = metadata.of(_at(place), stat.S_ISDIR(mode))
-        above = metadata.found(_walk.parent_of(_at(place)))
+        above, inode = metadata.entry(_at(place), stat.S_ISDIR(mode))
         inode.mode = mode & ~metadata.mask
-        if above is not None and above.mode & stat.S_ISGID:
+        if above.mode & stat.S_ISGID:
             # A directory gives its group on.
             inode.gid = above.gid
             inode.mode |= stat.S_ISGID if inode.entries is not None else 0
@@ -359,51 +369,60 @@ class Sandbox(Attributes):
         self.tree.stat(_walk.parent_of(_at(place)))
         raise _table.refusal(name)
 
-    @together
     def unlink(self, place: Place, **named: Any) -> None:
-        if place.of_directory:
-            self._looked(place)
-            if place.dots:
+        with self.tree._door:
+            if place.of_directory:
+                self._looked(place)
+                if place.dots:
+                    failed(errno.EISDIR)
+            if self.enforce:
+                self.check_above(place)
+            data = self._files.kept(_at(place))
+            try:
+                self.tree.unlink(_at(place))
+            except PermissionError:
+                # The number that Linux has for it.
                 failed(errno.EISDIR)
-        self.check_above(place)
-        data = self._files.kept(_at(place))
-        try:
-            self.tree.unlink(_at(place))
-        except PermissionError:
-            # The number that Linux has for it.
-            failed(errno.EISDIR)
-        self._files.removed(_at(place), data)
+            self._files.removed(_at(place), data)
 
     remove = unlink
 
-    @together
     def rmdir(self, place: Place, **named: Any) -> None:
-        if place.dots:
-            self.go_to(place)
-            failed(errno.EINVAL if place.dots == "." else errno.ENOTEMPTY)
-        self.check_above(place)
-        self.tree.rmdir(_at(place))
-        self._files.removed(_at(place), None)
+        with self.tree._door:
+            if place.dots:
+                self.go_to(place)
+                failed(errno.EINVAL if place.dots == "." else errno.ENOTEMPTY)
+            if self.enforce:
+                self.check_above(place)
+            self.tree.rmdir(_at(place))
+            self._files.removed(_at(place), None)
 
-    @together
     def rename(self, old: Place, new: Place, **named: Any) -> None:
-        if old.of_directory or new.of_directory or old.dots or new.dots:
-            self.go_to(old)
-            self.go_to(new)
-            if old.dots or new.dots:
-                failed(errno.EBUSY)
-            if not self.tree.stat(_at(old)).is_dir:
-                failed(errno.ENOTDIR)
-        self.check_above(old)
-        self.check_above(new)
-        self._check_moved(_at(old), _at(new))
-        data = self._files.kept(_at(new))
-        self.tree.rename(_at(old), _at(new))
-        if _at(old) != _at(new):
-            self._files.removed(_at(new), data)
-            self._files.moved(_at(old), _at(new))
+        source, goal, files = _at(old), _at(new), self._files
+        with self.tree._door:
+            if old.of_directory or new.of_directory or old.dots or new.dots:
+                self._check_ends(old, new)
+            if self.enforce:
+                self.check_above(old)
+                self.check_above(new)
+            if goal.startswith(source) or source.startswith(goal):
+                self._check_moved(source, goal)
+            data = files.kept(goal)
+            self.tree.rename(source, goal)
+            if source != goal:
+                files.removed(goal, data)
+                files.moved(source, goal)
 
     replace = rename
+
+    def _check_ends(self, old: Place, new: Place) -> None:
+        """What ends with a slash has to be a directory, and nothing is moved by a dot."""
+        self.go_to(old)
+        self.go_to(new)
+        if old.dots or new.dots:
+            failed(errno.EBUSY)
+        if not self.tree.stat(_at(old)).is_dir:
+            failed(errno.ENOTDIR)
 
     def go_to(self, place: Place) -> None:
         """Goes the way to the last name of a path, as Linux does before it looks at that: behind a dot the way is the whole path."""
@@ -503,9 +522,11 @@ class Sandbox(Attributes):
 
     # ---- Descriptors
 
-    @together
     def open(self, place: Place, flags: int, mode: int = 0o777, **named: Any) -> int:
-        return self._files.add(self._opened(place, flags, _whole(mode)))
+        if mode.__class__ is not int:
+            mode = _whole(mode)
+        with self.tree._door:
+            return self._files.add(self._opened(place, flags, mode))
 
     def _opened(self, place: Place, flags: int, mode: int) -> Description:
         """What a descriptor is to stand for: made, emptied or looked for, as the flags ask."""
@@ -534,16 +555,20 @@ class Sandbox(Attributes):
             except FileExistsError:
                 if flags & os.O_EXCL:
                     raise
-        is_dir = not made and self._looked(place).is_dir
-        if not made and flags & _NOT_FOLLOWED and self._is_link(at):
+        if made and not flags & os.O_DIRECTORY:
+            return Description(self._files.named(at, False), flags)
+        is_dir = self.tree.stat(at).is_dir
+        if place.of_directory and not is_dir:
+            failed(errno.ENOTDIR, place.path)
+        if flags & _NOT_FOLLOWED and self._is_link(at):
             failed(errno.ELOOP, place.path)
-        if not made:
+        if self.enforce:
             self.check(place, _ASKED[flags & os.O_ACCMODE])
         if is_dir and (writes or flags & (os.O_CREAT | os.O_TRUNC)):
             failed(errno.EISDIR, place.path)
         if not is_dir and flags & os.O_DIRECTORY:
             failed(errno.ENOTDIR, place.path)
-        if flags & os.O_TRUNC and not made:
+        if flags & os.O_TRUNC:
             self.tree.truncate(at, 0)
         return Description(self._files.named(at, is_dir), flags)
 
@@ -675,7 +700,8 @@ class Sandbox(Attributes):
 
     def check_file(self, descriptor: int, name: Any, closefd: bool) -> None:
         """Raises where a descriptor is of a directory, and closes it if it was opened for that."""
-        if self._files.of(descriptor).node.is_dir:
+        description = self._files._of.get(descriptor)
+        if (description or self._files.of(descriptor)).node.is_dir:
             if closefd and not isinstance(name, int):
                 self._files.close(descriptor)
             failed(errno.EISDIR, name)
@@ -693,9 +719,7 @@ class Sandbox(Attributes):
     ) -> Any:
         """The file object of a descriptor. Where it cannot be made, the descriptor is closed if it was to be."""
         self.check_file(descriptor, name, closefd)
-        kind = next(one for one in mode if one in "rwxa")
-        kind = f"{kind}b+" if "+" in mode else f"{kind}b"
-        raw = DescribedFile.of(self._files, descriptor, name, kind, closefd)
+        raw = DescribedFile.of(self._files, descriptor, name, _kind_of(mode), closefd)
         try:
             return file_object(raw, mode, buffering, encoding, errors, newline)
         except BaseException:
@@ -703,6 +727,14 @@ class Sandbox(Attributes):
             raise
 
 
+@functools.lru_cache(100)
+def _kind_of(mode: str) -> str:
+    """The mode of a raw file for one of `open`."""
+    kind = next(one for one in mode if one in "rwxa")
+    return f"{kind}b+" if "+" in mode else f"{kind}b"
+
+
+@functools.lru_cache(100)
 def flags_of(mode: str) -> int:
     """The flags of `os.open` for a mode of `open`."""
     both = os.O_RDWR if "+" in mode else os.O_RDONLY if "r" in mode else os.O_WRONLY

@@ -42,6 +42,8 @@ PATHLESS = {"os.mknod", "os.utime"}
 EXECS, SPAWNS = ("os.execv", "os.execve"), ("os.posix_spawn", "os.posix_spawnp")
 # What says that a program has ended: nothing of it is of a tree.
 WAITS = ("os.waitpid", "os.wait", "os.wait3", "os.wait4")
+# Those behind which the working directory is another.
+WORKS = ("os.chdir", "os.fchdir")
 # Functions of two paths.
 OF_PATHS: Dict[str, Tuple[str, str]] = dict.fromkeys(("os.rename", "os.replace", "os.link"), ("src", "dst"))
 # Functions of descriptors.

@@ -1,0 +1,15 @@
+/* What the files of the extension have in common: Python by its stable ABI, and what one adds to the module of the other. */
+#ifndef ATOMFS_FAST_H
+#define ATOMFS_FAST_H
+
+#ifndef Py_LIMITED_API
+#define Py_LIMITED_API 0x030B0000
+#endif
+#define PY_SSIZE_T_CLEAN
+#include <Python.h>
+#include <structmember.h>
+
+/* Adds the types of `_door.c`. */
+int atomfs_add_door(PyObject *module);
+
+#endif
