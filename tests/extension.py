@@ -15,11 +15,19 @@ import harness
 from harness import ROOT, Case
 
 PACKAGE, EMBED = ROOT / "bindings" / "python", ROOT / "embed"
-SOURCES = [PACKAGE / "src" / "atomfs" / name for name in ("_fast.c", "_door.c")]
+SOURCES = [PACKAGE / "src" / "atomfs" / name for name in ("_fast.c", "_door.c", "_files.c")]
 STRICT = "-std=gnu11", "-Wall", "-Wextra", "-Werror", "-shared", "-fPIC", "-fvisibility=hidden"
 CASES = "BothWays.test_drawn", "BothWays.test_forgets", "BothWays.test_full_directory", "BothWays.test_closed"
 CASES += "BothWays.test_steps", "BothWays.test_waits", "BothWays.test_copies", "BothWays.test_arguments"
 CASES += "Threads.test_lock", "Threads.test_seats", "Threads.test_error_lets_go", "Threads.test_is_freed"
+OF_DOOR = (
+    "BothWays.test_drawn",
+    "BothWays.test_link",
+    "BothWays.test_removed",
+    "BothWays.test_full",
+    "BothWays.test_own_tree",
+)
+OF_DOOR += "Functions.test_as_functions", "Functions.test_is_freed", "Functions.test_threads", "Functions.test_types"
 # How many calls are drawn where each access of memory is looked at.
 DRAWN = "60"
 MOST_SECONDS = 600
@@ -153,7 +161,8 @@ class Extension(Case):
         """The words and the variables by which the package's tests of both ways run, on a built package."""
         harness.library()
         tests = PACKAGE / "tests"
-        words = python()[0], "-W", "ignore", "-m", "unittest", *(f"test_binding.{case}" for case in CASES)
+        cases = *(f"test_binding.{case}" for case in CASES), *(f"test_door.{case}" for case in OF_DOOR)
+        words = python()[0], "-W", "ignore", "-m", "unittest", *cases
         where = {"PYTHONPATH": f"{made}:{tests}", "ATOMFS_LIBRARY": harness.library_at(), "ATOMFS_PURE": "0"}
         return words, where | {"ATOMFS_DRAWN": DRAWN, "PYTHONMALLOC": "malloc"}
 
@@ -177,7 +186,9 @@ class Extension(Case):
         of_python = {name for name in names if re.match("_?Py", name)}
         self.same("what is not in the stable ABI", of_python - set(stable.split()), set())
         self.assertGreater(len(of_python), 20)
-        self.assertLessEqual(names - of_python, {"memchr", "memcmp", "__errno_location", "__stack_chk_fail"})
+        self.assertLessEqual(
+            names - of_python, {"memchr", "memcmp", "memcpy", "close", "__errno_location", "__stack_chk_fail"}
+        )
 
     def test_valgrind(self):
         """valgrind finds no fault and nothing lost in the extension or the library."""
@@ -194,7 +205,7 @@ class Extension(Case):
         self.assertRegex(self.done([*grind, *words], **where)[1], r"(?m)^OK")
         told = log.read_text(errors="replace")
         faults = re.split(r"(?m)^==\d+== ?\n", told)
-        ours = [fault for fault in faults if re.search(r"_(fast|door)\.c:|libatomfs", fault)]
+        ours = [fault for fault in faults if re.search(r"_(fast|door|files)\.c:|libatomfs", fault)]
         self.same("what valgrind says", "\n".join(ours), "")
         self.assertIn("LEAK SUMMARY", told)
 

@@ -64,7 +64,7 @@ def extension():
         return [], f"there is no {beside[0] / 'atomfs.h'}"
     made = Extension(
         "atomfs._fast",
-        ["src/atomfs/_fast.c", "src/atomfs/_door.c"],
+        [f"src/atomfs/{name}.c" for name in ("_fast", "_door", "_files")],
         depends=["src/atomfs/_fast.h"],
         include_dirs=folders[:1],
         define_macros=[("Py_LIMITED_API", "0x030B0000")],

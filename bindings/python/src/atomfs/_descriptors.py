@@ -12,9 +12,11 @@ import io
 import operator
 import os
 import secrets
+import types
 import warnings
 from typing import TYPE_CHECKING, Any, Callable, ContextManager, Dict, NoReturn, Optional, Tuple, Type, TypeVar, cast
 
+from ._calls import extension
 from ._errors import file_too_large
 from ._metadata import BLOCK, Inode, Metadata, metadata_of
 from ._values import room_of
@@ -27,6 +29,8 @@ _Method = TypeVar("_Method", bound=Callable[..., Any])
 READ = 65_536
 # What a node has that is at a path: it is never changed in place.
 _NOTHING = bytearray()
+# What `io` says of what is not open so.
+_NOT_READ, _NOT_WRITTEN = "File not open for reading", "File not open for writing"
 # What asks `lseek` for data and for holes.
 _OF_HOLES = getattr(os, "SEEK_DATA", 3), getattr(os, "SEEK_HOLE", 4)
 # What keeps the number of a descriptor from the system: C that writes to it by itself gets an error. It has a high number itself.
@@ -111,7 +115,7 @@ class told(ContextManager[None]):
                 (error.filename2,) = others
 
 
-class Node:
+class PureNode:
     """What a descriptor speaks of: where it stands, or once it is removed the bytes of a file."""
 
     __slots__ = "path", "is_dir", "inode", "opened", "data", "__weakref__"
@@ -123,7 +127,7 @@ class Node:
         self.data = bytearray() if path is None else _NOTHING
 
 
-class Description:
+class PureDescription:
     """A node that was opened, and a position in it: descriptors that were made by `dup` share it."""
 
     __slots__ = "node", "at", "opened", "flags", "reads", "writes", "appends", "__weakref__"
@@ -133,6 +137,15 @@ class Description:
         self.node, self.at, self.opened, self.flags = node, 0, 0, flags
         self.reads, self.writes = mode != os.O_WRONLY, mode != os.O_RDONLY
         self.appends = bool(flags & os.O_APPEND)
+
+
+# By the extension these are types of C, which have the same.
+Node = PureNode
+Description = PureDescription
+if not TYPE_CHECKING and extension is not None:
+    Node, Description = extension.Node, extension.Description
+# What of descriptors is done in C, then, as far as it is of files that have an entry.
+_OF_C = "read_into", "write", "seek", "open_there", "close"
 
 
 class Descriptors:
@@ -146,6 +159,10 @@ class Descriptors:
         self.working: Optional[Node] = None
         # The one of the disk meanwhile.
         self._left: Optional[int] = None
+        if extension is not None:
+            rest = types.SimpleNamespace(**{name: types.MethodType(getattr(Descriptors, name), self) for name in _OF_C})
+            of_c = extension.Files(tree, self._of, self._nodes, _kept_number, rest, Node, Description)
+            vars(self).update({name: getattr(of_c, name) for name in _OF_C})
 
     @property
     def _metadata(self) -> Metadata:
@@ -233,6 +250,10 @@ class Descriptors:
     def add(self, description: Description) -> int:
         """A new descriptor. The lock of the tree is held."""
         return self.put(_kept_number(), description)
+
+    def open_there(self, path: str, flags: int) -> Optional[int]:
+        """A new descriptor of what is at a path of the tree, where it is neither made nor emptied: none where `Sandbox.open` is to look."""
+        return None
 
     def put(self, number: int, description: Description) -> int:
         """Lets a number that the system has given away be a descriptor."""
@@ -327,6 +348,13 @@ class Descriptors:
             description.at += len(data)
             return data
 
+    def read_into(self, descriptor: int, buffer: Any) -> int:
+        """Reads into a buffer, and answers how many bytes."""
+        room = room_of(buffer)
+        data = self.read(descriptor, room.nbytes)
+        room[: len(data)] = data
+        return len(data)
+
     def pwrite(self, descriptor: int, data: Any, offset: int) -> int:
         with self.tree._door:
             node = self._file(descriptor, writes=True).node
@@ -380,6 +408,8 @@ class Descriptors:
             return self._sought(description, offset, whence)
 
     def _sought(self, description: Description, offset: int, whence: int) -> int:
+        if not -(2**63) <= operator.index(offset) < 2**63:
+            raise OverflowError("Python int too large to convert to C long")
         starts = {os.SEEK_SET: 0, os.SEEK_CUR: description.at}
         if whence in _OF_HOLES:
             # There are none: all is data up to the end.
@@ -391,7 +421,7 @@ class Descriptors:
         if whence not in (*starts, os.SEEK_END):
             failed(errno.EINVAL)
         at = operator.index(offset) + (starts[whence] if whence in starts else self.size(description.node))
-        if at < 0:
+        if not 0 <= at < 2**63:
             failed(errno.EINVAL)
         description.at = at
         return at
@@ -445,14 +475,10 @@ class DescribedFile(io.FileIO):
             error.filename = name
         return error
 
-    def _number(self, what: str, may: bool) -> int:
-        number = self.fileno()
-        if not may:
-            raise io.UnsupportedOperation(f"File not open for {what}")
-        return number
-
     def read(self, size: Optional[int] = -1) -> bytes:
-        number = self._number("reading", self.readable())
+        number = self.fileno()
+        if not self.readable():
+            raise io.UnsupportedOperation(_NOT_READ)
         if size is None or size < 0:
             return self.readall()
         try:
@@ -461,18 +487,18 @@ class DescribedFile(io.FileIO):
             raise self._named(error)
 
     def readinto(self, buffer: Any) -> int:
-        number = self._number("reading", self.readable())
-        room = room_of(buffer)
+        number = self.fileno()
+        if not self.readable():
+            raise io.UnsupportedOperation(_NOT_READ)
         try:
-            data = self._files.read(number, room.nbytes)
+            return self._files.read_into(number, buffer)
         except OSError as error:
             raise self._named(error)
-        count = len(data)
-        room[:count] = data
-        return count
 
     def readall(self) -> bytes:
-        number = self._number("reading", self.readable())
+        number = self.fileno()
+        if not self.readable():
+            raise io.UnsupportedOperation(_NOT_READ)
         try:
             data = self._files.read(number, READ)
             return data + self._files.read(number, self._files.tree.limits.file_bytes) if len(data) == READ else data
@@ -480,7 +506,9 @@ class DescribedFile(io.FileIO):
             raise self._named(error)
 
     def write(self, data: Any) -> int:
-        number = self._number("writing", self.writable())
+        number = self.fileno()
+        if not self.writable():
+            raise io.UnsupportedOperation(_NOT_WRITTEN)
         try:
             return self._files.write(number, data)
         except OSError as error:
@@ -494,7 +522,9 @@ class DescribedFile(io.FileIO):
         return description.at if description is not None else failed(errno.EBADF)
 
     def truncate(self, size: Optional[int] = None) -> int:
-        number = self._number("writing", self.writable())
+        number = self.fileno()
+        if not self.writable():
+            raise io.UnsupportedOperation(_NOT_WRITTEN)
         size = self.tell() if size is None else size
         try:
             self._files.truncate(number, size)

@@ -409,12 +409,5 @@ static PyType_Spec function_spec = { "atomfs._fast.Function", sizeof(Function), 
 
 int atomfs_add_door(PyObject *module) {
     PyType_Spec *specs[] = { &door_spec, &function_spec };
-    for (int at = 0; at < 2; at++) {
-        PyObject *type = PyType_FromModuleAndSpec(module, specs[at], NULL);
-        if (type == NULL) return -1;
-        int done = PyModule_AddType(module, (PyTypeObject *)type);
-        Py_DECREF(type);
-        if (done < 0) return -1;
-    }
-    return 0;
+    return atomfs_add_types(module, specs, 2);
 }

@@ -799,12 +799,19 @@ static PyMethodDef module_methods[] = { { "functions", functions, METH_O, "The f
                                           "Where objects are in dictionaries." },
                                         { NULL, NULL, 0, NULL } };
 
+int atomfs_add_types(PyObject *module, PyType_Spec **specs, int count) {
+    for (int at = 0; at < count; at++) {
+        PyObject *type = PyType_FromModuleAndSpec(module, specs[at], NULL);
+        int done = type == NULL ? -1 : PyModule_AddType(module, (PyTypeObject *)type);
+        Py_XDECREF(type);
+        if (done < 0) return -1;
+    }
+    return 0;
+}
+
 static int module_exec(PyObject *module) {
-    PyObject *type = PyType_FromModuleAndSpec(module, &calls_spec, NULL);
-    if (type == NULL) return -1;
-    int done = PyModule_AddType(module, (PyTypeObject *)type);
-    Py_DECREF(type);
-    return done < 0 ? done : atomfs_add_door(module);
+    PyType_Spec *specs[] = { &calls_spec };
+    return atomfs_add_types(module, specs, 1) < 0 || atomfs_add_door(module) < 0 ? -1 : atomfs_add_files(module);
 }
 
 static PyModuleDef_Slot module_slots[] = { { Py_mod_exec, module_exec }, { 0, NULL } };

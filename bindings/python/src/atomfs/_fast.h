@@ -9,7 +9,10 @@
 #include <Python.h>
 #include <structmember.h>
 
-/* Adds the types of `_door.c`. */
+/* Adds so many types. */
+int atomfs_add_types(PyObject *module, PyType_Spec **specs, int count);
+/* Adds those of `_door.c`, and those of `_files.c`. */
 int atomfs_add_door(PyObject *module);
+int atomfs_add_files(PyObject *module);
 
 #endif

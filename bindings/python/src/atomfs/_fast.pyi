@@ -17,6 +17,41 @@ class Function:
     def __init__(self, door: Door, kind: int, made: Any, real: Any, inside: Any, pathless: bool) -> None: ...
     def __call__(self, *given: Any, **named: Any) -> Any: ...
 
+class Node:
+    path: Optional[str]
+    is_dir: bool
+    inode: Any
+    data: bytearray
+    opened: int
+    def __init__(self, path: Optional[str], is_dir: bool, inode: Any) -> None: ...
+
+class Description:
+    node: Node
+    at: int
+    opened: int
+    flags: int
+    reads: bool
+    writes: bool
+    appends: bool
+    def __init__(self, node: Node, flags: int) -> None: ...
+
+class Files:
+    def __init__(
+        self,
+        tree: Any,
+        numbers: Dict[int, Any],
+        nodes: Dict[str, Any],
+        kept: Any,
+        rest: Any,
+        node: type,
+        description: type,
+    ) -> None: ...
+    def read_into(self, descriptor: int, buffer: Any) -> int: ...
+    def write(self, descriptor: int, data: Any) -> int: ...
+    def seek(self, descriptor: int, offset: int, whence: int) -> int: ...
+    def open_there(self, path: str, flags: int) -> Optional[int]: ...
+    def close(self, descriptor: int) -> None: ...
+
 class Calls:
     def __init__(self, *given: Any) -> None: ...
     def on(self, handle: object, mine: object, standing: object, last: object, nodes: object) -> None: ...

@@ -75,22 +75,14 @@ class Inode:
         return self._told[1]
 
     def _result(self, device: int, size: int) -> os.stat_result:
-        times = self.accessed, self.modified, self.changed
-        words = (
-            self.mode,
-            self.number,
-            device,
-            self.links,
-            self.uid,
-            self.gid,
-            size,
-            *(one // _SECOND for one in times),
+        accessed, modified, changed = self.accessed, self.modified, self.changed
+        first, last = _seconds(accessed), _seconds(modified)
+        since = last if changed == modified else _seconds(changed)
+        words = self.mode, self.number, device, self.links, self.uid, self.gid, size, first[0], last[0], since[0]
+        return os.stat_result(
+            (*words, first[1], last[1], since[1], accessed, modified, changed),
+            {"st_blksize": BLOCK, "st_rdev": 0, "st_blocks": -(-size // 512)},
         )
-        more: Dict[str, object] = {"st_blksize": BLOCK, "st_rdev": 0, "st_blocks": -(-size // 512)}
-        for letter, one in zip("amc", times):
-            more[f"st_{letter}time"] = one // _SECOND + 1e-9 * (one % _SECOND)
-            more[f"st_{letter}time_ns"] = one
-        return os.stat_result(words, more)
 
     def copied(self) -> Inode:
         """Another of the same, with all below it."""
@@ -114,6 +106,12 @@ class Inode:
 
 # What a copy of a node has, without its entries.
 _WORDS = Inode.__slots__[:-3]
+
+
+def _seconds(time: int) -> Tuple[int, float]:
+    """A time in seconds, whole and as a fraction."""
+    whole, rest = divmod(time, _SECOND)
+    return whole, whole + 1e-9 * rest
 
 
 class Metadata:

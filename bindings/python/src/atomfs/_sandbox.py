@@ -65,11 +65,13 @@ class Entry:
 
     def is_dir(self, *, follow_symlinks: bool = True) -> bool:
         """Whether it is a directory, or a link to one."""
-        return self._kind(follow_symlinks) == _DIRECTORY
+        kind = self._mode & _KIND
+        return (kind if kind and kind != _LINK else self._kind(follow_symlinks)) == _DIRECTORY
 
     def is_file(self, *, follow_symlinks: bool = True) -> bool:
         """Whether it is a file, or a link to one."""
-        return self._kind(follow_symlinks) == _FILE
+        kind = self._mode & _KIND
+        return (kind if kind and kind != _LINK else self._kind(follow_symlinks)) == _FILE
 
     def is_symlink(self) -> bool:
         """Whether it is a link."""
@@ -525,6 +527,10 @@ class Sandbox(Attributes):
     def open(self, place: Place, flags: int, mode: int = 0o777, **named: Any) -> int:
         if mode.__class__ is not int:
             mode = _whole(mode)
+        if not self.enforce and not place.of_directory:
+            number = self._files.open_there(_at(place), flags)
+            if number is not None:
+                return number
         with self.tree._door:
             return self._files.add(self._opened(place, flags, mode))
 

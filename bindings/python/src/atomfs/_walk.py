@@ -217,12 +217,12 @@ def copy(tree: Tree, source: AnyPath, target: AnyPath) -> None:
 
 
 # The usual modes.
-_MODES = {"r", "w", "a", "x", "rb", "wb", "ab", "xb"}
+_MODES = {f"{kind}{more}" for kind in "rwax" for more in ("", "b", "t", "+", "+b", "b+", "+t", "t+")}
 
 
 def check_words(mode: str, encoding: Optional[str], errors: Optional[str], newline: Optional[str]) -> None:
     """Raises for a mode that the builtin `open` refuses, and for words that a binary one does not take."""
-    if mode in _MODES and (mode[-1] != "b" or encoding is errors is newline is None):
+    if mode in _MODES and (encoding is errors is newline is None or "b" not in mode):
         return
     if len(set(mode)) != len(mode) or set(mode) - set("rwaxbt+"):
         raise ValueError(f"invalid mode: {mode!r}")

@@ -1,0 +1,468 @@
+"""The functions of a patch by both ways, the extension in C and Python: the same answers, errors, names in errors, journals and trees."""
+import contextlib
+import copy
+import errno
+import gc
+import inspect
+import io
+import os
+import pathlib
+import pickle
+import random
+import re
+import shutil
+import tempfile
+import threading
+import unittest
+import unittest.mock
+import weakref
+
+import atomfs
+from atomfs import _calls, _descriptors, _door, _sandbox
+from atomfs._places import Place
+
+# How many calls are drawn.
+DRAWN = int(os.environ.get("ATOMFS_DRAWN", "3000"))
+AT = "/sandbox_of_door"
+HAS_EXTENSION = atomfs.binding() == "extension"
+
+
+class Odd:
+    """A path of a type of its own, which may raise."""
+
+    def __init__(self, path):
+        self.path = path
+
+    def __repr__(self):
+        return f"Odd({self.path!r})"
+
+    def __fspath__(self):
+        if self.path is None:
+            raise LookupError("this path cannot be had")
+        return self.path
+
+
+class Text(str):
+    """A string of a type of its own."""
+
+
+def in_python(stack):
+    """Lets a patch that begins within be made in Python alone."""
+    for module, names in (
+        (_calls, {"extension": None}),
+        (_door, {"extension": None}),
+        (_descriptors, {"extension": None}),
+        *((module, {"Node": _descriptors.PureNode}) for module in (_descriptors, _sandbox)),
+        *((module, {"Description": _descriptors.PureDescription}) for module in (_descriptors, _sandbox)),
+    ):
+        for name, value in names.items():
+            stack.enter_context(unittest.mock.patch.object(module, name, value))
+
+
+@contextlib.contextmanager
+def patched(way, at=AT, **words):
+    """A tree and a patch, by one way."""
+    with contextlib.ExitStack() as stack:
+        if way == "python":
+            in_python(stack)
+        tree = stack.enter_context(atomfs.Tree(**words))
+        stack.enter_context(atomfs.patch(tree, at, clock=iter(range(10**9, 10**12)).__next__))
+        os.mkdir(f"{at}/d")
+        with open(f"{at}/f", "wb") as file:
+            file.write(b"some bytes")
+        yield tree
+
+
+def paths(at, folder):
+    """Paths of all shapes: of a tree at a directory, beside it, and on the disk."""
+    below = (
+        "",
+        "/",
+        "/f",
+        "/f/",
+        "/d",
+        "/d/",
+        "/d/g",
+        "/d/g/h",
+        "//f",
+        "/./f",
+        "/d/../f",
+        "/d/.",
+        "/d/..",
+        "/.f",
+        "/d/..g",
+    )
+    below += ("/\0", "/ü", "/\udcff", "/" + 256 * "n", "x", "x/f", "/...", "/d//g", "/f\n")
+    texts = [f"{at}{one}" for one in below]
+    # Of the disk nothing but what is below the folder is named, also by a path from the tree on.
+    texts += [f"/..{at}/f", f"//{at[1:]}/f", f"{folder}/f", f"{folder}/in{at}", f"{folder}/in/..{at}/f", "", folder]
+    texts += ["f", "d/g", "d/../f", at[1:]]
+    kinds = [
+        os.fsencode,
+        Odd,
+        Text,
+        pathlib.PurePosixPath,
+        lambda text: Odd(os.fsencode(text)),
+        lambda text: memoryview(os.fsencode(text)),
+    ]
+    some = [kind(text) for text in texts[:8] + texts[-9:] for kind in kinds if "\0" not in text]
+    return [*texts, *some, Odd(None), Odd(3), None, 1.5, ["x"], 10**6]
+
+
+def calls():
+    """Calls of one path, of two, and of descriptors, which are drawn."""
+    one = [
+        os.stat,
+        os.lstat,
+        os.listdir,
+        os.mkdir,
+        os.rmdir,
+        os.unlink,
+        os.remove,
+        os.readlink,
+        os.path.exists,
+        os.path.isdir,
+    ]
+    one += [
+        lambda path: os.stat(path, follow_symlinks=False),
+        lambda path: os.stat(path, dir_fd=None),
+        lambda path: os.stat(path=path),
+    ]
+    one += [
+        lambda path: os.access(path, os.R_OK),
+        lambda path: os.truncate(path, 3),
+        lambda path: os.chmod(path, 0o600),
+    ]
+    one += [
+        lambda path: os.utime(path, (1, 2)),
+        lambda path: os.mkdir(path, 0o700),
+        lambda path: os.mknod(path),
+        lambda path: os.stat(path, 1),
+    ]
+    one += [lambda path: sorted(entry.name for entry in os.scandir(path)), lambda path: os.stat(path, dir_fd=3.5)]
+    one += [opened(mode) for mode in ("r", "rb", "wb", "ab", "xb", "r+b", "w+", "a+b", "rw", "b", 3, "rbt")]
+    one += [lambda path: descriptors(path, os.O_RDONLY), lambda path: descriptors(path, os.O_RDWR | os.O_APPEND)]
+    one += [
+        lambda path: descriptors(path, os.O_CREAT | os.O_WRONLY),
+        lambda path: descriptors(path, os.O_RDONLY | os.O_NOFOLLOW),
+    ]
+    one += [
+        lambda path: descriptors(path, os.O_RDONLY | os.O_DIRECTORY),
+        lambda path: descriptors(path, os.O_WRONLY | os.O_TRUNC),
+    ]
+    two = [
+        os.rename,
+        os.replace,
+        os.link,
+        lambda path, other: os.rename(path, dst=other),
+        lambda path, other: os.rename(path, other, src_dir_fd=None),
+    ]
+    return one, two
+
+
+def opened(mode):
+    def call(path):
+        with open(path, mode) as file:
+            told = [
+                file.read(3) if file.readable() else None,
+                file.write(b"ab" if "b" in file.mode else "ab") if file.writable() else 0,
+            ]
+            return [*told, file.tell(), file.seek(0, 2), file.name]
+
+    return call
+
+
+def descriptors(path, flags):
+    """What a descriptor answers to each call: its number is of the process, and is left out."""
+    number = os.open(path, flags)
+    answers = []
+    for call in (
+        lambda: os.fstat(number),
+        lambda: os.read(number, 4),
+        lambda: os.write(number, bytearray(b"xyz")),
+        lambda: os.write(number, "x"),
+        lambda: os.write(number, [1, 2]),
+        lambda: os.write(number, memoryview(b"abcdef")[::2]),
+        lambda: os.lseek(number, 2, os.SEEK_SET),
+        lambda: os.lseek(number, -1, os.SEEK_CUR),
+        lambda: os.lseek(number, -100, os.SEEK_END),
+        lambda: os.lseek(number, 2**63, os.SEEK_SET),
+        lambda: os.lseek(number, 2**63 - 1, os.SEEK_CUR),
+        lambda: os.pread(number, 3, 1),
+        lambda: os.ftruncate(number, 8),
+        lambda: os.readv(number, [bytearray(2), bytearray(3)]),
+        lambda: os.close(os.dup(number)),
+        lambda: os.close(number),
+        lambda: os.close(number),
+    ):
+        answers.append(outcome(call))
+    return answers
+
+
+def outcome(call, *given):
+    """What a call answers, or its error in full."""
+    try:
+        answer = call(*given)
+    except Exception as error:
+        more = (error.errno, str(error.filename), str(error.filename2)) if isinstance(error, OSError) else ()
+        return type(error).__name__, *(re.sub("0x[0-9a-f]+", "0x", str(one)) for one in (error, more))
+    if isinstance(answer, os.stat_result):
+        # The device of a patch is one that no other has, and the numbers of the disk are its own.
+        return answer.st_mode, answer.st_nlink, answer.st_size
+    return answer
+
+
+class BothWays(unittest.TestCase):
+    """The same calls by both ways."""
+
+    def setUp(self):
+        if not HAS_EXTENSION:
+            self.skipTest(atomfs.binding())
+        self.folder = os.path.join(tempfile.mkdtemp(), "of_disk")
+        self.addCleanup(shutil.rmtree, os.path.dirname(self.folder))
+        self.addCleanup(os.chdir, os.getcwd())
+
+    def both(self, played, begin=lambda: None, **words):
+        """What both ways answer, with their journals and trees, is the same."""
+        found = []
+        for way in ("extension", "python"):
+            os.makedirs(f"{self.folder}/in")
+            os.chdir(self.folder)
+            begin()
+            with patched(way, **words) as tree:
+                kind = type(os.stat).__module__ + "." + type(os.stat).__name__
+                self.assertEqual(kind, "atomfs._fast.Function" if way == "extension" else "atomfs._door.Replaced")
+                answers = played(tree)
+                found.append((answers, tree.journal(), tree.tree()))
+                self.assertEqual(tree.check(), "lawful")
+            os.chdir("/")
+            shutil.rmtree(self.folder)
+        for number, (one, other) in enumerate(zip(*(answers for answers, _, _ in found))):
+            self.assertEqual(one, other, number)
+        self.assertEqual(found[0], found[1])
+        return found[0][0]
+
+    def drawn(self, seed):
+        at, (one, two) = f"{self.folder}/sandbox", calls()
+        given = paths(at, self.folder)
+
+        def played(tree):
+            draw, answers = random.Random(seed), []
+            for _ in range(DRAWN):
+                if draw.random() < 0.02:
+                    outcome(os.chdir, draw.choice([at, f"{at}/d", self.folder]))
+                call = draw.choice(one if draw.random() < 0.85 else two)
+                words = [draw.choice(given) for _ in range(2 if call in two else 1)]
+                answers.append((repr(words), outcome(call, *words)))
+                for name in ("f", "d"):
+                    # Most of it stays there.
+                    if draw.random() < 0.3:
+                        outcome((opened("wb") if name == "f" else os.mkdir), f"{at}/{name}")
+            return answers
+
+        return self.both(played, at=at)
+
+    def test_drawn(self):
+        """Drawn calls with paths of all shapes."""
+        answers = self.drawn(1)
+        kinds = {told[0] for _, told in answers if isinstance(told, tuple) and isinstance(told[0], str)}
+        self.assertLess(
+            {"FileNotFoundError", "NotADirectoryError", "TypeError", "ValueError", "LookupError"},
+            kinds | {"LookupError"},
+        )
+        self.assertGreater(sum(not isinstance(told, tuple) for _, told in answers), DRAWN // 10)
+
+    def test_link(self):
+        """With a link in the tree no path is plain: it is followed."""
+
+        def played(tree):
+            os.symlink("d", f"{AT}/l")
+            yield outcome(os.mkdir, f"{AT}/l/g")
+            yield outcome(os.listdir, f"{AT}/d")
+            yield outcome(os.rename, f"{AT}/l/g", f"{AT}/h")
+            yield outcome(os.unlink, f"{AT}/l")
+            yield outcome(os.listdir, AT)
+
+        answers = self.both(lambda tree: list(played(tree)))
+        self.assertEqual(answers, [None, ["g"], None, None, ["d", "f", "h"]])
+
+    def test_there(self):
+        """A directory of the disk stands where the tree does: links of the disk may lead into the tree, so that each path is walked."""
+        at = f"{self.folder}/tree"
+
+        def begin():
+            os.mkdir(at)
+            os.symlink(at, f"{self.folder}/in/link")
+
+        def played(tree):
+            return [outcome(os.listdir, path) for path in (f"{self.folder}/in/link", at, f"{self.folder}/in")]
+
+        answers = self.both(played, begin, at=at)
+        self.assertEqual(answers, [["d", "f"], ["d", "f"], ["link"]])
+
+    def test_removed(self):
+        """An open file that is removed, renamed and replaced; one that another descriptor has; a closed one."""
+
+        def played(tree):
+            with open(f"{AT}/f", "r+b", buffering=0) as file, open(f"{AT}/f", "rb", buffering=0) as other:
+                yield outcome(file.write, b"new ")
+                os.rename(f"{AT}/f", f"{AT}/d/f")
+                yield outcome(file.write, b"more")
+                yield outcome(other.read, 4)
+                os.unlink(f"{AT}/d/f")
+                yield outcome(file.write, b"gone")
+                yield outcome(file.seek, 0), outcome(file.read), outcome(other.read)
+                yield outcome(os.fstat, file.fileno())
+            yield outcome(file.read), outcome(file.write, b""), outcome(file.tell), outcome(os.close, 10**6)
+
+        answers = self.both(lambda tree: list(played(tree)))
+        self.assertEqual(answers[2:6], [b"new ", 4, (0, b"new moregone", b"moregone"), answers[5]])
+
+    def test_full(self):
+        """What a limit of the tree refuses has the path that was given."""
+
+        def played(tree):
+            answers = [outcome(os.mkdir, pathlib.Path(f"{AT}/{number}")) for number in range(5)]
+            with open(f"{AT}/f", "r+b", buffering=0) as file:
+                file.seek(tree.limits.file_bytes)
+                answers.append(outcome(file.write, b"x"))
+                answers.append(outcome(file.readinto, b"x"))
+                answers.append(outcome(file.readinto, bytearray(4)))
+            return answers
+
+        answers = self.both(played, limit=6)
+        self.assertEqual([told[0] if told else told for told in answers[:5]], [None, None, None, "OSError", "OSError"])
+        self.assertEqual(answers[4][2], str((errno.ENOSPC, f"{AT}/4", "None")))
+        self.assertEqual((answers[5][2][:4], answers[6][0], answers[7]), (f"({errno.EFBIG},", "TypeError", 0))
+
+    def test_own_tree(self):
+        """A class that is made of `Tree` has its own calls asked."""
+
+        class Own(atomfs.Tree):
+            asked = 0
+
+            def stat(self, path):
+                self.asked += 1
+                return super().stat(path)
+
+        for way in ("extension", "python"):
+            with contextlib.ExitStack() as stack:
+                if way == "python":
+                    in_python(stack)
+                tree = stack.enter_context(Own())
+                stack.enter_context(atomfs.patch(tree, AT))
+                os.mkdir(f"{AT}/d")
+                before = tree.asked
+                os.stat(f"{AT}/d")
+                os.close(os.open(f"{AT}/d", os.O_RDONLY))
+                self.assertEqual(tree.asked, before + 2, way)
+
+
+class Functions(unittest.TestCase):
+    """What the functions of a patch are besides, by the way that is taken here."""
+
+    def test_as_functions(self):
+        """Their words, their copies and pickles, and that a class which has one binds it to no instance."""
+
+        class Has:
+            stat = os.stat
+
+        words, call = repr(os.stat), open
+        with atomfs.Tree() as tree, atomfs.patch(tree, AT):
+
+            class Keeps:
+                stat = os.stat
+
+            self.assertEqual((repr(os.stat), os.stat.__name__, os.stat.__doc__[:7]), (words, "stat", "Perform"))
+            self.assertEqual(inspect.signature(os.stat), inspect.signature(Has.stat))
+            self.assertEqual(Keeps().stat(AT).st_mode, os.stat(AT).st_mode)
+            for function in (os.stat, os.rename, os.close, open):
+                self.assertIs(copy.deepcopy({"it": function})["it"], function)
+                self.assertIs(pickle.loads(pickle.dumps(function)), function)
+                self.assertIs(weakref.ref(function)(), function)
+            os.stat.more = 3
+            self.assertEqual(vars(os.stat)["more"], 3)
+            kept = os.stat
+        self.assertFalse(hasattr(os.stat, "more"))
+        self.assertIs(open, call)
+        # What was kept goes to the disk once the patch has ended.
+        self.assertRaises(FileNotFoundError, kept, AT)
+        self.assertTrue(os.path.samestat(kept("/"), os.stat("/")))
+
+    def test_is_freed(self):
+        """A patch that has ended goes away with its functions, descriptors and tree."""
+
+        class Seen(atomfs.Tree):
+            pass
+
+        tree = Seen()
+        with atomfs.patch(tree, AT) as patch:
+            file = open(f"{AT}/f", "wb")
+            file.write(b"x")
+            file.close()
+        seen = weakref.ref(tree), weakref.ref(patch)
+        tree.close()
+        del tree, patch, file
+        gc.collect()
+        self.assertEqual([one() for one in seen], [None, None])
+
+    def test_threads(self):
+        """Threads open, write, read and close at once."""
+        with atomfs.Tree() as tree, atomfs.patch(tree, AT):
+            faults = []
+
+            def work(name):
+                try:
+                    for number in range(60):
+                        with open(f"{AT}/{name}", "wb") as file:
+                            file.write(f"{name} {number}".encode())
+                        with open(f"{AT}/{name}", "rb") as file:
+                            self.assertEqual(file.read(), f"{name} {number}".encode())
+                except BaseException as error:
+                    faults.append(error)
+
+            threads = [threading.Thread(target=work, args=(name,)) for name in "abcd"]
+            for thread in threads:
+                thread.start()
+            for thread in threads:
+                thread.join()
+            self.assertEqual((faults, tree.check(), sorted(os.listdir(AT))), ([], "lawful", ["a", "b", "c", "d"]))
+
+    @unittest.skipUnless(HAS_EXTENSION, "the types of the extension")
+    def test_types(self):
+        """The types of the extension refuse what is not of them."""
+        of_c = _calls.extension
+        self.assertRaises(TypeError, of_c.Door)
+        self.assertRaises(TypeError, of_c.Door, 1, 2, 3, int, (), "", False)
+        door = of_c.Door(1, 2, 3, Place, (), "x", False)
+        for given in ((), (door,), (3, 1, 1, 1, 1, False), (door, -1, 1, 1, 1, False), (door, 5, 1, 1, 1, False)):
+            self.assertRaises(TypeError, of_c.Function, *given)
+        # Its patch is none.
+        self.assertRaises(AttributeError, of_c.Function(door, 0, len, len, len, False), "x")
+        node = of_c.Node("/f", False, None)
+        self.assertRaises(TypeError, of_c.Node, "/f")
+        self.assertRaises(TypeError, of_c.Description, None, 0)
+        description = of_c.Description(node, os.O_RDWR | os.O_APPEND)
+        self.assertEqual(
+            (description.reads, description.writes, description.appends, description.at), (True, True, True, 0)
+        )
+        for name, value in (("at", "x"), ("flags", None), ("appends", 1), ("opened", "x"), ("node", node)):
+            self.assertRaises((TypeError, AttributeError), setattr, description, name, value)
+        for given in ((), (1, {}, {}, 1, 1, int, int), (1, [], {}, 1, 1, of_c.Node, of_c.Description)):
+            self.assertRaises(TypeError, of_c.Files, *given)
+        with atomfs.Tree() as tree:
+            files = of_c.Files(tree, {3: "no description"}, {}, None, None, of_c.Node, of_c.Description)
+            for call, given in ((files.read_into, 1), (files.write, 3), (files.seek, 2), (files.open_there, 0)):
+                self.assertRaises(TypeError, call, *range(given))
+            for call in (
+                files.close,
+                lambda number: files.read_into(number, bytearray(3)),
+                lambda number: files.write(number, b"x"),
+            ):
+                # There is nothing that does the rest.
+                self.assertRaises(AttributeError, call, 3)
+            self.assertIsNone(files.open_there("/", os.O_CREAT))
+
+
+if __name__ == "__main__":
+    unittest.main()
