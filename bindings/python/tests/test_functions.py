@@ -13,10 +13,12 @@ import tempfile
 import threading
 import time
 import unittest
+import unittest.mock
 import weakref
 
 import atomfs
 from atomfs import PCT, ScheduleError, explore
+from atomfs._explore import hooks
 
 N = "/sandbox/n"
 THIS = os.path.basename(__file__)
@@ -512,6 +514,75 @@ _LOCKS = [
     *("release unlocked lock", "cannot release un-acquired lock", False),
     "can't specify a timeout for a non-blocking call",
 ]
+
+
+class OfLater(unittest.TestCase):
+    """What Python 3.13 has and those before have not: locks that are classes, and another function that starts threads."""
+
+    class lock:
+        """In the place of `_thread.lock`, which can be called there."""
+
+        def __init__(self):
+            self.real = _thread.allocate_lock()
+
+        def __enter__(self):
+            return self.real.acquire()
+
+        def __exit__(self, *error):
+            self.real.release()
+
+        def __getattr__(self, name):
+            return getattr(self.real, name)
+
+    def test_class(self):
+        """A class in the place of one: what it makes, and what is of it."""
+        kind = hooks._made(self.lock, hooks.Lock)
+        self.assertIsInstance(kind, type)
+        self.assertEqual((kind.__name__, kind.__doc__), ("lock", self.lock.__doc__))
+        self.assertIs(type(kind()), self.lock)
+        ident = _thread.get_ident()
+        with unittest.mock.patch.dict(hooks.THREADS, {ident: None}):
+            made = kind()
+        self.assertIs(type(made), hooks.Lock)
+        for one in (made, kind()):
+            self.assertIsInstance(one, kind)
+        self.assertNotIsInstance(3, kind)
+        self.assertTrue(issubclass(hooks.Lock, kind) and issubclass(self.lock, kind) and not issubclass(int, kind))
+        # As a type it may stand in annotations.
+        self.assertEqual(str(kind[int]), "test_functions.lock[int]".replace("test_functions", self.lock.__module__))
+        self.assertTrue(callable(hooks._made(_thread.allocate_lock, hooks.Lock)))
+
+    def test_in_runs(self):
+        """Functions of a run are given the locks of the run where `threading.Lock` is a class, and after it the class is there again."""
+        kinds = set()
+
+        def work(tree):
+            lock = threading.Lock()
+            kinds.add((type(lock), isinstance(lock, threading.Lock)))
+            with lock:
+                tree.exists("/f")
+
+        with unittest.mock.patch.object(threading, "Lock", self.lock):
+            explore({"a": work, "b": work}, lambda tree, replies: True, 3)
+            self.assertIs(threading.Lock, self.lock)
+        self.assertEqual(kinds, {(hooks.Lock, True)})
+
+    def test_joinable(self):
+        """A thread of its own is refused also where another function starts it."""
+        started = []
+
+        def start_joinable_thread(function, handle=None, daemon=True):
+            started.append((function, handle, daemon))
+
+        start = hooks._starts(start_joinable_thread)
+        start(print, handle=3, daemon=False)
+        self.assertEqual(started, [(print, 3, False)])
+        me = unittest.mock.Mock()
+        me.run.starts.side_effect = KeyError
+        with unittest.mock.patch.dict(hooks.THREADS, {_thread.get_ident(): me}):
+            self.assertRaises(KeyError, start, threading.Thread(name="mine")._bootstrap, handle=3)
+        me.run.starts.assert_called_once_with(me, "mine")
+        self.assertEqual(len(started), 1)
 
 
 class BadInput(unittest.TestCase):

@@ -11,6 +11,7 @@ import operator
 import os
 from typing import TYPE_CHECKING, Any, Optional, Union
 
+from ._library import Limits
 from ._values import room_of
 
 if TYPE_CHECKING:
@@ -140,6 +141,8 @@ class Random(io.BufferedRandom):
     size = property(_size)
 
 
+# How many bytes a buffer holds, if no number is given.
+_BUFFERS = {limits: limits.read_bytes if limits.read_bytes == limits.file_bytes else 65_536 for limits in Limits}
 AnyFile = Union[TreeFile, Reader, Writer, Random]
 
 
@@ -166,14 +169,14 @@ def create_file(tree: Tree, path: str, mode: str) -> None:
 def open_file(tree: Tree, path: str, mode: str, buffering: int = -1) -> AnyFile:
     """The file at a path, opened as `open` does in a binary mode: with a buffer of so many bytes, and with none where it is 0.
 
-    The buffer holds what one call reads, if no number is given: a whole file by the first two sets of limits, which so is read by one
-    call, and written by one.
+    If no number is given, the buffer holds a whole file by the first two sets of limits, which so is read by one call, and written by
+    one; by the third set, whose files may be of any size, it holds 64 KiB.
     """
     create_file(tree, path, mode)
     raw = TreeFile(tree, path, mode)
     if buffering == 0:
         return raw
-    size = buffering if buffering > 1 else tree.limits.read_bytes
+    size = buffering if buffering > 1 else _BUFFERS[tree.limits]
     if "+" in mode:
         return Random(raw, size)
     return Reader(raw, size) if raw.readable() else Writer(raw, size)

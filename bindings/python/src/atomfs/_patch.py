@@ -116,7 +116,8 @@ class patch(OfC, contextlib.ContextDecorator):
         self._mirror = Mirror(self.tree, str(self.at), self._files, self._real) if self._with_processes else None
         self._processes = Processes(self, self._files, self._places, self._mirror)
         self._door = Door(self, self._files, self._places)
-        news = {name: self._made(name, real) for name, real in self._real.items()}
+        own = self._own()
+        news = {name: self._made(name, real, own) for name, real in self._real.items()}
         self._active = True
         try:
             self._replace([(real, news[name]) for name, real in self._real.items()])
@@ -223,33 +224,31 @@ class patch(OfC, contextlib.ContextDecorator):
 
     # ---- What is put in the place of a function, by what it takes
 
-    def _made(self, name: str, real: Any) -> Any:
-        if name in _table.CLASSES:
-            return entries_as(real) if name == "os.DirEntry" else self._guarded(name, real)
-        own: Dict[str, Callable[[Function], Function]] = {
+    def _own(self) -> Dict[str, Callable[[Function], Function]]:
+        """What makes the functions that are of no kind with others."""
+        processes = self._processes
+        return {
             **{"builtins.open": self._open, "io.open_code": self._open_code, "sqlite3.connect": self._connect},
-            **{
-                "os.getcwd": self._getcwd,
-                "os.getcwdb": self._getcwdb,
-                "os.closerange": self._closerange,
-                "os.system": self._processes.system,
-            },
-            **{"os.symlink": self._symlink, "os.umask": self._umask, "os._spawnvef": self._processes.forked},
-            "_posixsubprocess.fork_exec": self._processes.fork_exec,
-            **dict.fromkeys(_table.WAITS, self._processes.waited),
+            **{"os.getcwd": self._getcwd, "os.getcwdb": self._getcwdb, "os.closerange": self._closerange},
+            **{"os.symlink": self._symlink, "os.umask": self._umask, "os.dup2": self._dup2},
+            **{"os.system": processes.system, "os._spawnvef": processes.forked},
+            "_posixsubprocess.fork_exec": processes.fork_exec,
+            **dict.fromkeys(_table.WAITS, processes.waited),
             "faulthandler.dump_traceback": self._traced,
             **{name: functools.partial(self._traced_by_c, name) for name in _table.TRACES},
-            **{name: functools.partial(self._processes.spawned, name) for name in _table.SPAWNS},
+            **{name: functools.partial(processes.spawned, name) for name in _table.SPAWNS},
             **{name: functools.partial(self._opened_by_c, name) for name in _table.DATABASES},
             "dbm.open": self._database,
         }
+
+    def _made(self, name: str, real: Any, own: Dict[str, Callable[[Function], Function]]) -> Any:
+        if name in _table.CLASSES:
+            return entries_as(real) if name == "os.DirEntry" else self._guarded(name, real)
         function = self._door.function
         if name == "builtins.open":
             return function("open", own[name](real), real, self._open_inside)
         if name in own:
             return function("other", own[name](real), real)
-        if name == "os.dup2":
-            return function("other", self._dup2(real), real)
         if name in _table.OF_PATHS:
             return function("paths", self._of_paths(name, real, *_table.OF_PATHS[name]), real, self._inside(name))
         on_disk = self._working(real) if name in _table.WORKS else real

@@ -3,7 +3,8 @@ from __future__ import annotations
 
 import errno
 import importlib
-from typing import Any, Dict, Optional, Tuple
+import sys
+from typing import Any, Dict, Optional, Set, Tuple
 
 # Functions of a path, and the name of that argument.
 OF_PATH: Dict[str, str] = {
@@ -137,10 +138,17 @@ _MADE = (
 COVERED: Tuple[str, ...] = (*(name for name in REPLACED if name not in (*REFUSED, *WAITS)), *_MADE)
 
 
+# Modules that this Python has not.
+_absent: Set[str] = set()
+
+
 def found(name: str) -> Optional[Any]:
     """What has this name, where this Python has it."""
     module, _, rest = name.partition(".")
-    try:
-        return getattr(importlib.import_module(module), rest, None)
-    except ImportError:
-        return None
+    there = sys.modules.get(module)
+    if there is None and module not in _absent:
+        try:
+            there = importlib.import_module(module)
+        except ImportError:
+            _absent.add(module)
+    return getattr(there, rest, None)

@@ -15,6 +15,7 @@ import sys
 import tempfile
 import threading
 import time
+import types
 from typing import Any, Callable, Dict, Iterator, List, Optional, Set
 
 from .errors import Line
@@ -223,31 +224,55 @@ def _clock(real: Callable[[], Any], since: int, per: int) -> Callable[[], Any]:
 
 
 def _made(real: Callable[..., Any], kind: Callable[[], Any]) -> Callable[..., Any]:
-    """A function that makes a lock of a run in its threads, and a real one elsewhere."""
+    """A function that makes a lock of a run in its threads, and a real one elsewhere; a class, where `real` is one, as `threading.Lock` is
+    from Python 3.13 on."""
 
     def make(*given: Any, **named: Any) -> Any:
         return kind() if _ident() in THREADS else real(*given, **named)
 
-    return make
+    made: Callable[..., Any] = _class_of(real, kind, make) if isinstance(real, type) else make
+    return made
+
+
+def _class_of(real: type, kind: Any, make: Callable[..., Any]) -> Any:
+    """A class in the place of one: what is of either is of it, and its call makes what is due."""
+    kinds = (real, kind) if isinstance(kind, type) else (real,)
+
+    class OfLocks(type):
+        def __call__(cls, *given: Any, **named: Any) -> Any:
+            return make(*given, **named)
+
+        def __instancecheck__(cls, one: object) -> bool:
+            return isinstance(one, kinds)
+
+        def __subclasscheck__(cls, one: type) -> bool:
+            return issubclass(one, kinds)
+
+    words: Dict[str, Any] = {"__doc__": real.__doc__, "__module__": real.__module__}
+    return OfLocks(real.__name__, (), {**words, "__class_getitem__": classmethod(types.GenericAlias)})
 
 
 def _starts(real: Callable[..., Any]) -> Callable[..., Any]:
-    def start(function: Any, args: Any, *more: Any) -> Any:
+    """What starts a thread: `_thread.start_new_thread`, or from Python 3.13 on `_thread.start_joinable_thread`."""
+
+    def start(function: Any, *given: Any, **named: Any) -> Any:
         me = THREADS.get(_ident())
         if me is not None:
             me.run.starts(me, getattr(getattr(function, "__self__", None), "name", "without a name"))
-        return real(function, args, *more)
+        return real(function, *given, **named)
 
     return start
 
 
 def _news() -> Dict[int, Any]:
     """What comes in the place of what, by its `id`."""
+    of_c = vars(_thread)
     pairs = [
         (time.sleep, _sleep(time.sleep)),
-        (_thread.start_new_thread, _starts(_thread.start_new_thread)),
+        *((of_c[name], _starts(of_c[name])) for name in ("start_new_thread", "start_joinable_thread") if name in of_c),
         (_thread.allocate_lock, _made(_thread.allocate_lock, Lock)),
-        (getattr(_thread, "RLock"), _made(getattr(_thread, "RLock"), RLock)),
+        (threading.Lock, _made(threading.Lock, Lock)),
+        (of_c["RLock"], _made(of_c["RLock"], RLock)),
         (threading.RLock, _made(threading.RLock, RLock)),
         (queue.SimpleQueue, _made(queue.SimpleQueue, queue._PySimpleQueue)),  # type: ignore[attr-defined]
     ]
