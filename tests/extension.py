@@ -33,8 +33,9 @@ DRAWN = "60"
 MOST_SECONDS = 600
 # By both ways the same calls on a new tree, where one growth of memory is refused, each in turn: what they answer, and that the tree stands.
 REFUSED = """
-import ctypes, os, sys
+import contextlib, ctypes, os, sys
 import atomfs
+import test_door
 from atomfs import _calls
 from atomfs._tree import Stat, Step
 
@@ -89,6 +90,60 @@ def played(way, number, journal):
         heap.refuse(0, 0)
 
 
+def by_patch(told):
+    at = "/sandbox_of_refused"
+    yield from (told(os.mkdir, f"{at}/{name}") for name in ("a", "a/b", "a"))
+    for mode, size in (("wb", 10), ("r+b", 3), ("ab", 3), ("wb", 70_000), ("xb", 1)):
+        yield told(opened, f"{at}/f", mode, bytes(size))
+    yield from (told(opened, f"{at}/f", mode, None) for mode in ("rb", "r"))
+    yield from (told(sized, path) for path in (f"{at}/f", f"{at}/a", f"{at}/none"))
+    yield from (told(os.rename, f"{at}/{one}", f"{at}/{other}") for one, other in (("f", "a/g"), ("a", "c"), ("none", "d")))
+    yield from (told(call, at) for call in (os.listdir, names))
+    yield from (told(os.truncate, f"{at}/c/g", 3), told(os.unlink, f"{at}/c/g"), told(os.rmdir, f"{at}/c/b"))
+
+
+def opened(path, mode, data):
+    with open(path, mode, buffering=-1 if mode == "r" else 0) as file:
+        return [file.read() if data is None else file.write(data), file.tell()]
+
+
+def sized(path):
+    found = os.stat(path)
+    return found.st_mode, found.st_size, found.st_nlink
+
+
+def names(path):
+    with os.scandir(path) as entries:
+        return [(entry.name, entry.is_dir()) for entry in entries]
+
+
+def patched(way, number):
+    heap.refuse(0, 0)
+    try:
+        with contextlib.ExitStack() as stack:
+            if way == "ctypes":
+                test_door.in_python(stack)
+            tree = stack.enter_context(atomfs.Tree(100))
+            stack.enter_context(atomfs.patch(tree, "/sandbox_of_refused"))
+            heap.refuse(number, number)
+            answers = list(by_patch(told))
+            growths, refusals = heap.growths(), heap.refusals()
+            heap.refuse(0, 0)
+            # What is kept beside the tree has gone with it.
+            kept = [(at, sized(at)) for at, _, files in os.walk("/sandbox_of_refused") for at in (at, *(f"{at}/{one}" for one in files))]
+            assert tree.check() == "lawful" and not test_door.opened_by(tree), tree.check()
+            return growths, refusals, answers, kept, tree.journal(), tree.tree()
+    finally:
+        heap.refuse(0, 0)
+
+
+refused = 0
+growths = patched("ctypes", 0)[0]
+for number in range(1, growths + 1):
+    one, other = (patched(way, number) for way in WAYS)
+    assert one == other, (number, one, other)
+    refused += any(isinstance(told, tuple) and told[0] == "MemoryError" for told in one[2])
+assert refused > 20, refused
 refused = 0
 for journal in (atomfs.ALL, atomfs.LAST(5)):
     growths = played("ctypes", 0, journal)[0]
@@ -241,7 +296,10 @@ class Extension(Case):
         made = self.built("refused", "cc", "-O2")
         library = self.library_that_refuses()
         status, told = self.done(
-            [python()[0], "-c", REFUSED], PYTHONPATH=str(made), ATOMFS_LIBRARY=library, ATOMFS_PURE="0"
+            [python()[0], "-c", REFUSED],
+            PYTHONPATH=f"{made}:{PACKAGE / 'tests'}",
+            ATOMFS_LIBRARY=library,
+            ATOMFS_PURE="0",
         )
         self.same(
             "what both ways answer", (status, bool(re.fullmatch(r"\d+\n", told))), (0, True) if status == 0 else told

@@ -212,6 +212,15 @@ def outcome(call, *given):
     return answer
 
 
+def opened_by(tree):
+    """The descriptors of patches that a tree has still."""
+    return [
+        one._of
+        for one in gc.get_objects()
+        if isinstance(one, _descriptors.Descriptors) and one.tree is tree and one._of
+    ]
+
+
 class BothWays(unittest.TestCase):
     """The same calls by both ways."""
 

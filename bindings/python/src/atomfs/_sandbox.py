@@ -39,14 +39,13 @@ _DEVICES = itertools.count(1 << 48)
 class Entry:
     """As `os.DirEntry`: what it says of the kind is of the moment of the list, and `stat` of that of its first call."""
 
-    __slots__ = "name", "path", "_sandbox", "_inside", "_mode", "_number", "_stats"
+    __slots__ = "name", "path", "_sandbox", "_above", "_known", "_mode", "_stats"
 
     def __init__(
-        self, sandbox: Sandbox, inside: str, name: Union[str, bytes], path: Union[str, bytes], known: Optional[Inode]
+        self, sandbox: Sandbox, above: str, name: Union[str, bytes], path: Union[str, bytes], known: Optional[Inode]
     ) -> None:
-        self._sandbox, self._inside, self.name, self.path = sandbox, inside, name, path
-        self._mode, self._number = (0, 0) if known is None else (known.mode, known.number)
-        self._stats: Optional[Dict[bool, os.stat_result]] = None
+        # The kind of a node never changes, and neither does its number.
+        self._sandbox, self._above, self.name, self.path, self._known = sandbox, above, name, path, known
 
     def __repr__(self) -> str:
         return f"<DirEntry {self.name!r}>"
@@ -54,10 +53,19 @@ class Entry:
     def __fspath__(self) -> Union[str, bytes]:
         return self.path
 
+    @property
+    def _inside(self) -> str:
+        """The path in the tree."""
+        return self._above + os.fsdecode(self.name)
+
     def _kind(self, follow: bool) -> int:
-        if not self._mode:
-            self._mode = self._sandbox.kind(self._inside, False)
-        kind = self._mode & _KIND
+        known = self._known
+        if known is not None:
+            kind = known.mode & _KIND
+        else:
+            if not hasattr(self, "_mode"):
+                self._mode = self._sandbox.kind(self._inside, False)
+            kind = self._mode
         if kind != _LINK or not follow:
             return kind
         with told(self.path):
@@ -65,17 +73,15 @@ class Entry:
 
     def is_dir(self, *, follow_symlinks: bool = True) -> bool:
         """Whether it is a directory, or a link to one."""
-        kind = self._mode & _KIND
-        return (kind if kind and kind != _LINK else self._kind(follow_symlinks)) == _DIRECTORY
+        return self._kind(follow_symlinks) == _DIRECTORY
 
     def is_file(self, *, follow_symlinks: bool = True) -> bool:
         """Whether it is a file, or a link to one."""
-        kind = self._mode & _KIND
-        return (kind if kind and kind != _LINK else self._kind(follow_symlinks)) == _FILE
+        return self._kind(follow_symlinks) == _FILE
 
     def is_symlink(self) -> bool:
         """Whether it is a link."""
-        return self._kind(False) == stat.S_IFLNK
+        return self._kind(False) == _LINK
 
     def is_junction(self) -> bool:
         """It is none."""
@@ -83,12 +89,12 @@ class Entry:
 
     def inode(self) -> int:
         """The number of the node."""
-        return self._number or self.stat(follow_symlinks=False).st_ino
+        return self._known.number if self._known is not None else self.stat(follow_symlinks=False).st_ino
 
     def stat(self, *, follow_symlinks: bool = True) -> os.stat_result:
         """What stands there."""
-        if self._stats is None:
-            self._stats = {}
+        if not hasattr(self, "_stats"):
+            self._stats: Dict[bool, os.stat_result] = {}
         if follow_symlinks not in self._stats:
             with told(self.path):
                 self._stats[follow_symlinks] = self._sandbox.stat_inside(self._inside, follow_symlinks)
@@ -280,10 +286,8 @@ class Sandbox(Attributes):
         names, known = self.tree.listdir(_at(place)), (self._metadata().of(_at(place), True).entries or {}).get
         inside, front = _walk.joined(_at(place), ""), above and posixpath.join(above, above[:0])
         if isinstance(front, bytes):
-            return Entries(
-                [Entry(self, inside + one, (raw := os.fsencode(one)), front + raw, known(one)) for one in names]
-            )
-        return Entries([Entry(self, inside + one, one, front + one, known(one)) for one in names])
+            return Entries([Entry(self, inside, raw := os.fsencode(one), front + raw, known(one)) for one in names])
+        return Entries([Entry(self, inside, one, front + one, known(one)) for one in names])
 
     def no_entries(self, descriptor: int, scans: bool) -> Any:
         """What a directory that was removed has."""
@@ -307,7 +311,8 @@ class Sandbox(Attributes):
     # ---- Changes
 
     def mkdir(self, place: Place, mode: int = 0o777, **named: Any) -> None:
-        mode = _whole(mode)
+        if mode.__class__ is not int:
+            mode = _whole(mode)
         with self.tree._door:
             if place.dots:
                 self.go_to(place)
