@@ -174,7 +174,7 @@ enum {
 /* What came of a history: *found of atomfs_linearize. */
 enum {
     ATOMFS_FOUND_LAWFUL = 0, /* an order of its calls explains it; the text is the journal with its commits */
-    /* none does; `none`, the place of a return up to which none explains the entries, and its call (docs/LINEARIZE.md) */
+    /* none does; `none`, the place of a return up to which none explains the entries, and its call (docs/TEST-A-FILE-SYSTEM.md) */
     ATOMFS_FOUND_NO_ORDER = 1,
     ATOMFS_FOUND_NO_HISTORY = 2, /* an entry cannot come next; `fault`, its place and why */
     ATOMFS_FOUND_UNKNOWN = 3     /* the limit was reached; `unknown` and the place to which the search had come */
@@ -465,7 +465,7 @@ uint8_t atomfs_schedule(const char *script, size_t length, uint8_t schedule, uin
 uint8_t atomfs_seeds(const char *script, size_t length, uint64_t seed, uint64_t runs, char *out, size_t room,
                      size_t *count);
 
-/* Finds an order in which the calls of a history took effect (docs/LINEARIZE.md), and tells the journal with their commits, or why
+/* Finds an order in which the calls of a history took effect (docs/TEST-A-FILE-SYSTEM.md), and tells the journal with their commits, or why
  * there is none: tell is one of ATOMFS_TELL_, and *found, at OK and TOO_SMALL, one of ATOMFS_FOUND_. The search makes at most limit
  * configurations, or few more, where limit is 1 to 1,000,000,000; the command makes 10,000,000. It may take long, and is made again where
  * one asks again: so give out twice the length of the history.

@@ -23,18 +23,18 @@ from harness import DATA, ROOT, Case, Outcome, run
 from promised import promises
 
 README, EXAMPLES, DOCS = ROOT / "README.md", ROOT / "examples" / "README.md", ROOT / "docs"
-FORMATS, SPECIFICATION, BELIEVE, CHANGING, CHOOSING, EMBEDDING, LINEARIZE, SPEED, THREADS = (
+FORMATS, SPECIFICATION, READING, CHANGING, CHOOSING, EMBEDDING, HISTORIES, PERFORMANCE, RATTLE = (
     DOCS / f"{name}.md"
     for name in (
         "FORMATS",
         "SPECIFICATION",
-        "BELIEVE",
+        "READING-LIST",
         "CHANGING",
         "CHOOSING",
         "EMBEDDING",
-        "LINEARIZE",
-        "SPEED",
-        "THREADS",
+        "TEST-A-FILE-SYSTEM",
+        "PERFORMANCE",
+        "RATTLE",
     )
 )
 CRATES = ROOT / "crates"
@@ -426,10 +426,10 @@ class Shown(Page):
         ("docs/EMBEDDING.md", "c", 1, "examples/embed/run"),
         ("bindings/python/README.md", "python", 1, "examples/embed/run"),
         ("bindings/rust/README.md", "rust", 1, "examples/embed/run"),
-        ("docs/THREADS.md", "rust", 2, "tests/documents.py"),
-        ("docs/BELIEVE.md", "", 1, "tests/documents.py"),
+        ("docs/RATTLE.md", "rust", 2, "tests/documents.py"),
+        ("docs/READING-LIST.md", "", 1, "tests/documents.py"),
         ("docs/FORMATS.md", "", 3, "tests/documents.py"),
-        ("docs/LINEARIZE.md", "", 2, "tests/histories.py"),
+        ("docs/TEST-A-FILE-SYSTEM.md", "", 2, "tests/histories.py"),
         ("docs/ARCHITECTURE.md", "", 1, "tests/documents.py"),
         ("docs/MACHINE.md", "", 2, None),
         ("examples/tour/README.md", "", 2, "tests/worked.py"),
@@ -459,21 +459,21 @@ class Shown(Page):
         )
 
     def test_headline(self):
-        """The clauses that docs/BELIEVE.md shows are those of `Core::run`."""
-        (clauses,) = blocks(BELIEVE)
+        """The clauses that docs/READING-LIST.md shows are those of `Core::run`."""
+        (clauses,) = blocks(READING)
         (run_of,) = (function for function in promises.public(CRATES / "fs_core") if function.name == "Core::run")
         due = [
             f"ensures {clause.name} {{ {clause.text} }}"
             for clause in run_of.ensures
             if clause.name in ("linearizable", "spelled")
         ]
-        self.agrees("BELIEVE", clauses.splitlines(), due)
+        self.agrees("READING-LIST", clauses.splitlines(), due)
 
     def test_excerpts(self):
         """Each block in Rust stands in the source to which the page leads before it."""
-        found = re.findall(r"\]\((\S+\.rt)\)((?:(?!^```).)*?)^```rust\n(.*?)^```$", THREADS.read_text(), re.M | re.S)
+        found = re.findall(r"\]\((\S+\.rt)\)((?:(?!^```).)*?)^```rust\n(.*?)^```$", RATTLE.read_text(), re.M | re.S)
         self.agrees(
-            "the examples in Rust with a link before them", [shown for _, _, shown in found], blocks(THREADS, "rust")
+            "the examples in Rust with a link before them", [shown for _, _, shown in found], blocks(RATTLE, "rust")
         )
         self.each(((link, link, shown) for link, _, shown in found), self.look_at_excerpt)
 
@@ -613,7 +613,7 @@ class Explained(Page):
         means |= {spans(kind)[0]: wrong for _, kind, wrong in table(SPECIFICATION, "Number", "Kind", "What is wrong")}
         found = {
             spans(line)[0]: meaning
-            for line, _, meaning, _ in table(LINEARIZE, "It writes", "Status", "Says", "Proved by `linearize`")
+            for line, _, meaning, _ in table(HISTORIES, "It writes", "Status", "Says", "Proved by `linearize`")
             if spans(line)
         }
         means |= {
@@ -867,7 +867,7 @@ class Commands(Page):
 
 
 class Corners(Page):
-    """What sentences of docs/FORMATS.md and docs/LINEARIZE.md say of inputs that have two faults, or that end early."""
+    """What sentences of docs/FORMATS.md and docs/TEST-A-FILE-SYSTEM.md say of inputs that have two faults, or that end early."""
 
     UNBEGUN = text_of("atomfs-journal 1", "begin 1 0 mkdir /a", "return 1 failed ENOENT", "return 9 ok")
     OPEN = text_of("atomfs-journal 1", "begin 2 1 mkdir /b", "begin 1 0 mkdir /a", "commit 1")
@@ -875,7 +875,7 @@ class Corners(Page):
     WRONG = text_of("atomfs 1", "thread a", "mkdr /a", "schedule")
     ROWS = (
         (
-            LINEARIZE,
+            HISTORIES,
             "A fault is reported even if a `none` comes before it",
             UNBEGUN,
             ("linearize",),
@@ -1098,7 +1098,7 @@ def of_headline(clauses, models):
 
 
 class Believed(Sentences):
-    """What docs/BELIEVE.md counts: the definitions behind the headline, over their own references."""
+    """What docs/READING-LIST.md counts: the definitions behind the headline, over their own references."""
 
     # What the models of a timeline, a core and a store name.
     MODELS = (
@@ -1112,7 +1112,7 @@ class Believed(Sentences):
 
     def test_files(self):
         """So many lines of each file are used, of those that it has."""
-        shown = [(spans(file)[0], lines) for _, file, _, lines in table(BELIEVE, "", "File", "Says", "Lines")]
+        shown = [(spans(file)[0], lines) for _, file, _, lines in table(READING, "", "File", "Says", "Lines")]
         used = {
             f"{module.replace('.', '/')}.antt": sum(map(len, found)) for module, found in self.headline.found.items()
         }
@@ -1125,19 +1125,19 @@ class Believed(Sentences):
     def test_sums(self):
         definitions, files, lines, comments = self.headline.counts()
         self.says(
-            BELIEVE, f"They use {definitions} definitions of {files} files, {lines} lines, {comments} of them comments"
+            READING, f"They use {definitions} definitions of {files} files, {lines} lines, {comments} of them comments"
         )
         self.says(README, f"read {files} files of definitions with {lines - comments} lines")
         definitions, files, lines, comments = of_headline(("linearizable",), self.MODELS[:1]).counts()
         self.says(
-            BELIEVE,
+            READING,
             f"the first clause alone uses {definitions} of {files} files, {lines} lines, {comments} of them comments",
         )
 
     def test_linearizable(self):
         """The functions that have the clause in the words of Herlihy and Wing are those that the page names."""
         named = spans(
-            re.search(r"^The clause `linearizable` of (`Core::run` is also on [^.]*)\.", BELIEVE.read_text(), re.M)[1]
+            re.search(r"^The clause `linearizable` of (`Core::run` is also on [^.]*)\.", READING.read_text(), re.M)[1]
         )
         found = [
             function.name
@@ -1146,13 +1146,13 @@ class Believed(Sentences):
             if "linearizable" in [clause.name for clause in function.ensures]
         ]
         self.agrees(
-            "BELIEVE", sorted(named), sorted(name.replace("AtomFs::close_told", "close_told") for name in found)
+            "READING-LIST", sorted(named), sorted(name.replace("AtomFs::close_told", "close_told") for name in found)
         )
 
     def test_memory(self):
         """The lines of what counts refused memory."""
         lines = (line.strip().removeprefix("ghost ") for line in source("fs_memory/src/memory.rt").splitlines())
-        self.says(BELIEVE, f"`fs_memory/src/memory.rt` has {sum(map(is_counted, lines))} lines")
+        self.says(READING, f"`fs_memory/src/memory.rt` has {sum(map(is_counted, lines))} lines")
 
     def test_glue(self):
         """Nothing outside the folders `specs/code` uses what is inside."""
@@ -1190,7 +1190,7 @@ class Believed(Sentences):
 
     def test_models(self):
         """The models of the types of a core that use more than the files of the headline, and by which functions they are tied."""
-        rows = table(BELIEVE, "Type", "Is seen by", "In", "Which is tied to what a caller gets by")
+        rows = table(READING, "Type", "Is seen by", "In", "Which is tied to what a caller gets by")
         shown = sorted((name, spans(seen), spans(file)) for names, seen, file, _ in rows for name in spans(names))
         found = [
             (
@@ -1235,7 +1235,7 @@ class Believed(Sentences):
         self.each(((name, name, *row) for name, *row in rows), self.look_at_size)
 
     def look_at_size(self, name, pattern, found):
-        shown = tuple(map(number, re.search(pattern, BELIEVE.read_text()).groups()))
+        shown = tuple(map(number, re.search(pattern, READING.read_text()).groups()))
         self.agrees(name, shown, tuple(one if abs(one - due) <= due / 20 else due for one, due in zip(shown, found)))
 
 
@@ -1530,9 +1530,9 @@ class Touched(Sentences):
 
 
 class Guarantees(Sentences):
-    """What docs/GUARANTEES.md says carries a promise, or refuses a wrong body, is there."""
+    """What docs/PROMISES.md says carries a promise, or refuses a wrong body, is there."""
 
-    PAGE = DOCS / "GUARANTEES.md"
+    PAGE = DOCS / "PROMISES.md"
     # How many wrong bodies stand in all crates at most, in one at most, and in one that has some at least.
     MOST_EDITS, MOST_OF_A_CRATE, LEAST_OF_A_CRATE = 44, 9, 3
 
@@ -1634,12 +1634,12 @@ class Listed(Page):
                 self.agrees(crate, [name for name in libraries.split() if name not in words], [])
 
     def test_trusted_libraries(self):
-        """docs/BELIEVE.md has each library of the kit that a crate names, but the core library."""
+        """docs/READING-LIST.md has each library of the kit that a crate names, but the core library."""
         lines = [line.split(":") for line in (ROOT / "crates.txt").read_text().splitlines() if not line.startswith("#")]
         used = (
             {name for _, below in lines for name in below.split()} - {crate.split()[0] for crate, _ in lines} - {"core"}
         )
-        said = re.search(r"^- The statements of the kit's crates .*", BELIEVE.read_text(), re.M)[0]
+        said = re.search(r"^- The statements of the kit's crates .*", READING.read_text(), re.M)[0]
         self.agrees("the kit's crates", sorted(spans(said)), sorted(used))
 
     def test_picture_of_the_crates(self):
@@ -1788,7 +1788,7 @@ class Numbers(Sentences):
         stack = (ROOT / "tests" / "limits.py").read_text()
         rows = (
             (EXAMPLES, f"`tests/data/worked` has {len(inputs)} more scripts, journals and broken texts"),
-            (THREADS, f"There are places for {constants('fs_observe/src/publisher.rt')['READER_PLACES']} observers"),
+            (RATTLE, f"There are places for {constants('fs_observe/src/publisher.rt')['READER_PLACES']} observers"),
             (
                 EMBEDDING,
                 f"`embed/checks.c`, {len((ROOT / 'embed' / 'checks.c').read_text().splitlines())} lines that are not proved",
@@ -1798,10 +1798,10 @@ class Numbers(Sentences):
         self.each(((page.stem, page, sentence) for page, sentence in rows), self.says)
 
     def test_ratios(self):
-        """README's ratios are those of docs/SPEED.md, the least and the most of times, to a tenth."""
+        """README's ratios are those of docs/PERFORMANCE.md, the least and the most of times, to a tenth."""
         rows = {
             (spans(job)[0], measure): " ".join(ratios)
-            for job, measure, *ratios in table(SPEED, "Job", "Measure", "Few names", "A tree that grows")
+            for job, measure, *ratios in table(PERFORMANCE, "Job", "Measure", "Few names", "A tree that grows")
         }
         times = [
             sorted(map(float, re.findall(r"[\d.]+", rows[f"atomfs {command}", "time"]))) for command in ("run", "check")
@@ -1809,7 +1809,7 @@ class Numbers(Sentences):
         long, checks = (f"{least:.1f} to {most:.1f} times" for least, *_, most in times)
         self.says(README, f"`atomfs run` takes {long} as long as a plain, unproved tree in Rust")
         self.says(README, f"`atomfs check` {checks}")
-        throughput = dict(table(SPEED, "Threads", "Throughput"))
+        throughput = dict(table(PERFORMANCE, "Threads", "Throughput"))
         self.says(README, f"two make {throughput['2']} times as many calls, four {throughput['4']} times")
 
 

@@ -535,8 +535,8 @@ class Histories(harness.Case):
 
     @staticmethod
     def page():
-        """docs/LINEARIZE.md, and the two histories that it shows."""
-        page = (harness.ROOT / "docs" / "LINEARIZE.md").read_text()
+        """docs/TEST-A-FILE-SYSTEM.md, and the two histories that it shows."""
+        page = (harness.ROOT / "docs" / "TEST-A-FILE-SYSTEM.md").read_text()
         first, second = re.findall(r"^printf '(.*)' \| atomfs linearize$", page, re.M)
         return page, *(shown.replace("\\n", "\n").encode() for shown in (first, second))
 
@@ -550,7 +550,7 @@ class Histories(harness.Case):
         """Of the second one the page says what is printed."""
         page, _, given = self.page()
         (due,) = re.findall(r"^It prints `(.*)`: nothing explains", page, re.M)
-        self.same("docs/LINEARIZE.md", run(given, "linearize")[:2], (1, f"{due}\n".encode()))
+        self.same("docs/TEST-A-FILE-SYSTEM.md", run(given, "linearize")[:2], (1, f"{due}\n".encode()))
 
 
 class Long(harness.Case):
