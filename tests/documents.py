@@ -41,7 +41,12 @@ CRATES = ROOT / "crates"
 OF_CRATES = sorted(CRATES.glob("*/README.md"))
 FOLDERS = "docs/*.md", "examples/**/*.md", "bindings/*/README.md", "embed/*.md"
 # Those that speak of what is there now; the changelog also of what was.
-NOW = README, *(page for pattern in FOLDERS for page in sorted(ROOT.glob(pattern))), *OF_CRATES
+NOW = (
+    README,
+    ROOT / "CONTRIBUTING.md",
+    *(page for pattern in FOLDERS for page in sorted(ROOT.glob(pattern))),
+    *OF_CRATES,
+)
 PAGES = ROOT / "CHANGELOG.md", *NOW
 HELPED = DATA / "worked" / "runs" / "helped_mkdir"
 # What `atomfs schedule --robin` writes of it.
