@@ -23,10 +23,12 @@ from harness import DATA, ROOT, Case, Outcome, run
 from promised import promises
 
 README, EXAMPLES, DOCS = ROOT / "README.md", ROOT / "examples" / "README.md", ROOT / "docs"
-FORMATS, SPECIFICATION, READING, CHANGING, CHOOSING, EMBEDDING, HISTORIES, PERFORMANCE, RATTLE = (
+FORMATS, COMMANDS, PICTURES, SPECIFICATION, READING, CHANGING, CHOOSING, EMBEDDING, HISTORIES, PERFORMANCE, RATTLE = (
     DOCS / f"{name}.md"
     for name in (
         "FORMATS",
+        "COMMANDS",
+        "PICTURES",
         "SPECIFICATION",
         "READING-LIST",
         "CHANGING",
@@ -433,14 +435,16 @@ class Shown(Page):
         ("bindings/rust/README.md", "rust", 1, "examples/embed/run"),
         ("docs/RATTLE.md", "rust", 2, "tests/documents.py"),
         ("docs/READING-LIST.md", "", 1, "tests/documents.py"),
-        ("docs/FORMATS.md", "", 3, "tests/documents.py"),
-        ("docs/TEST-A-FILE-SYSTEM.md", "", 2, "tests/histories.py"),
+        ("docs/FORMATS.md", "", 2, "tests/documents.py"),
+        ("docs/PICTURES.md", "", 1, None),
+        ("docs/TEST-A-FILE-SYSTEM.md", "", 4, "tests/histories.py, tests/recorders.py"),
         ("docs/ARCHITECTURE.md", "", 1, "tests/documents.py"),
         ("docs/MACHINE.md", "", 2, None),
         ("examples/tour/README.md", "", 2, "tests/worked.py"),
         ("docs/PICTURES.md", "python", 1, "tests/tutorials.py"),
         ("docs/RACES.md", "", 1, "bindings/python/tests/test_races.py"),
-        ("docs/RACES.md", "python", 4, "bindings/python/tests/test_races.py"),
+        ("docs/RACES.md", "python", 2, "bindings/python/tests/test_races.py"),
+        ("docs/SCHEDULES.md", "python", 2, "bindings/python/tests/test_races.py"),
         ("examples/races/README.md", "", 1, "bindings/python/tests/test_races.py"),
     )
 
@@ -644,7 +648,7 @@ class Grammar(Page):
     """Each line of a call, and each reply, that a page shows."""
 
     def test_calls(self):
-        shown = [span for row in table(FORMATS, "Line", "The words behind the first") for span in spans(row[0])]
+        shown = [span for row in table(FORMATS, "Line", "The words after the first") for span in spans(row[0])]
         also = [call for row in table(SPECIFICATION, "Call", "Errors, in order", "Else") for call in row[0].split(", ")]
         self.each(((line, filled(line)) for line in (*shown, *also)), self.look_at_call)
         for lines in (shown, also):
@@ -710,10 +714,10 @@ class Commands(Page):
         return [first, *(f"{first.split(' --')[0]} {span}" if span.startswith("--") else span for span in more)]
 
     def test_of_the_program(self):
-        rows = table(FORMATS, "Command", "Writes")
+        rows = table(COMMANDS, "Command", "Writes")
         shown = [filled(command).removeprefix("atomfs ") for row in rows for command in self.shown(row[0])]
         self.each(((words, words) for words in shown), self.look)
-        self.agrees("the commands of FORMATS", sorted(shown), sorted(self.due()))
+        self.agrees("the commands of COMMANDS", sorted(shown), sorted(self.due()))
         named = spans(re.search("The program `atomfs` runs scripts (.*)", README.read_text())[1])
         self.agrees(
             "the commands of README",
@@ -872,7 +876,7 @@ class Commands(Page):
 
 
 class Corners(Page):
-    """What sentences of docs/FORMATS.md and docs/TEST-A-FILE-SYSTEM.md say of inputs that have two faults, or that end early."""
+    """What sentences of docs/FORMATS.md, docs/COMMANDS.md, docs/PICTURES.md and docs/TEST-A-FILE-SYSTEM.md say of inputs that have two faults, or that end early."""
 
     UNBEGUN = text_of("atomfs-journal 1", "begin 1 0 mkdir /a", "return 1 failed ENOENT", "return 9 ok")
     OPEN = text_of("atomfs-journal 1", "begin 2 1 mkdir /b", "begin 1 0 mkdir /a", "commit 1")
@@ -904,7 +908,7 @@ class Corners(Page):
             b"",
         ),
         (
-            FORMATS,
+            PICTURES,
             "It has no lines `thread`",
             OPEN,
             ("trace",),
@@ -912,14 +916,14 @@ class Corners(Page):
             b"atomfs-trace 2\n1 call 2 on seat 1 begins mkdir /b\n",
         ),
         (
-            FORMATS,
+            PICTURES,
             "in the order in which these calls began",
             OPEN,
             ("trace",),
             0,
             b"left call 2 on seat 1 mkdir /b\nleft call 1 on seat 0 mkdir /a\ntree\n",
         ),
-        (FORMATS, "`atomfs tree` still ends with status 0", LEFT, ("tree",), 0, b"tree\ndir /\n"),
+        (COMMANDS, "`atomfs tree` still ends with status 0", LEFT, ("tree",), 0, b"tree\ndir /\n"),
     )
 
     def test_each(self):
@@ -1639,12 +1643,12 @@ class Listed(Page):
                 self.agrees(crate, [name for name in libraries.split() if name not in words], [])
 
     def test_trusted_libraries(self):
-        """docs/READING-LIST.md has each library of the kit that a crate names, but the core library."""
+        """docs/TRUST.md has each library of the kit that a crate names, but the core library."""
         lines = [line.split(":") for line in (ROOT / "crates.txt").read_text().splitlines() if not line.startswith("#")]
         used = (
             {name for _, below in lines for name in below.split()} - {crate.split()[0] for crate, _ in lines} - {"core"}
         )
-        said = re.search(r"^- The statements of the kit's crates .*", READING.read_text(), re.M)[0]
+        said = re.search(r"^- The statements of the kit's crates .*", (DOCS / "TRUST.md").read_text(), re.M)[0]
         self.agrees("the kit's crates", sorted(spans(said)), sorted(used))
 
     def test_picture_of_the_crates(self):
@@ -1688,9 +1692,10 @@ class Listed(Page):
 
     def test_messages(self):
         """The statuses at which something is told, and each message that the sources have."""
-        said = re.search(r"^Messages go to .*", FORMATS.read_text(), re.M)[0]
+        rows = table(COMMANDS, "Status", "Message", "When")
         statuses = re.findall(r"^  (\d)  ", (DATA / "help" / "atomfs").read_text(), re.M)
-        self.agrees("the statuses", re.findall(r"\b(\d): ", said), [status for status in statuses if status != "0"])
+        shown = sorted({status for status, *_ in rows})
+        self.agrees("the statuses", shown, [status for status in statuses if status != "0"])
         sources = "".join(
             source(f"{crate}/src/fault.rt")
             for crate in ("fs_verdict", "fs_threads", "fs_trace", "fs_find", "fs_draw", "fs_replay")
@@ -1699,7 +1704,8 @@ class Listed(Page):
             r'"atomfs: ([^"]*\bhas it\b[^"]*)"', source("fs_command/src/status.rt")
         )
         messages = [re.sub(r"\{\w*\}", "N", message) for message in told]
-        self.agrees("the messages", sorted(set(spans(said)) - {"atomfs: ", "line N: KIND"}), sorted(messages))
+        said = {span for _, message, _ in rows for span in spans(message)}
+        self.agrees("the messages", sorted(said - {"line N: KIND"}), sorted(messages))
 
     def test_library(self):
         """The functions of embed/atomfs.h, and its statuses after which something has changed."""
@@ -1777,13 +1783,17 @@ class Numbers(Sentences):
             f"a limit is exceeded: {text:,} bytes of a text, {scripts['THREAD_LIMIT']} threads, {calls:,} calls, {events:,} given events or {nodes:,} nodes; in version 3 {third_text:,} bytes, {third_calls:,} calls or {third_nodes:,} nodes",
             f"then at most {scripts['THREAD_NAME_LIMIT'] - 1} of `a` to `z`",
             f"or {draws['DRAW_LIMIT']:,} are drawn",
+            f"at most {2**64 - 1:,} | `BadNumber`",
+            f"the count, at most {2**32 - 1:,}; in texts of version 3 alone",
+        )
+        of_commands = (
             f"N from 0 to {seeds['SEED_LIMIT']:,}, K from 1 to {seeds['RUN_LIMIT']:,}",
             f"of such runs, K from 1 to {constants('fs_outcomes/src/running.rt')['OUTCOME_LIMIT']:,}",
             f"that has WHAT; K from 1 to {constants('fs_find/src/finding.rt')['SEARCH_LIMIT']:,}",
             f"where it stopped at {constants('fs_shrink/src/limits.rt')['TRIAL_LIMIT']:,} runs",
-            f"at most {2**64 - 1:,} | `BadNumber`",
-            f"the count, at most {2**32 - 1:,}; in texts of version 3 alone",
+            f"A run of more than {events:,} events",
         )
+        self.each(((sentence, COMMANDS, sentence) for sentence in of_commands), self.says)
         self.each(((sentence, FORMATS, sentence) for sentence in sentences), self.says)
         self.says(EXPLAINED / "TooLarge", f"at most {events:,} events are given")
 
@@ -1798,9 +1808,19 @@ class Numbers(Sentences):
                 EMBEDDING,
                 f"`embed/checks.c`, {len((ROOT / 'embed' / 'checks.c').read_text().splitlines())} lines that are not proved",
             ),
-            (FORMATS, f"It needs a stack of {re.search(r'^STACK = ([0-9]+) . 1024$', stack, re.M)[1]} KiB"),
+            (COMMANDS, f"It needs a stack of {re.search(r'^STACK = ([0-9]+) . 1024$', stack, re.M)[1]} KiB"),
         )
         self.each(((page.stem, page, sentence) for page, sentence in rows), self.says)
+
+    def test_figures(self):
+        """The figures of docs/CHOOSING.md are those of docs/PERFORMANCE.md."""
+        heads = (
+            (("Call", "disk (tmpfs)", "`atomfs.patch`", "pyfakefs"), ("Call", "disk", "`atomfs.patch`", "pyfakefs")),
+            (("Call", "`os` on tmpfs", "`Tree`"), ("Call", "`os`", "`Tree`, by the extension", "`Tree`, by ctypes")),
+        )
+        for here, there in heads:
+            known = [row[: len(here)] for row in table(PERFORMANCE, *there)]
+            self.same("figures that it has not", [row for row in table(CHOOSING, *here) if row not in known], [])
 
     def test_ratios(self):
         """README's ratios are those of docs/PERFORMANCE.md, the least and the most of times, to a tenth."""

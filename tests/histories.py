@@ -535,22 +535,25 @@ class Histories(harness.Case):
 
     @staticmethod
     def page():
-        """docs/TEST-A-FILE-SYSTEM.md, and the two histories that it shows."""
+        """docs/TEST-A-FILE-SYSTEM.md, and the two histories that it shows: one without an order, and one that has an order."""
         page = (harness.ROOT / "docs" / "TEST-A-FILE-SYSTEM.md").read_text()
         first, second = re.findall(r"^printf '(.*)' \| atomfs linearize$", page, re.M)
         return page, *(shown.replace("\\n", "\n").encode() for shown in (first, second))
 
     def test_page(self):
-        """The first history of the page is explained."""
+        """The second history of the page is explained."""
         harness.asks_of_answers()
-        _, given, _ = self.page()
+        _, _, given = self.page()
         self.explained(given, run(given, "linearize"))
 
     def test_page_without_order(self):
-        """Of the second one the page says what is printed."""
-        page, _, given = self.page()
+        """Of the first one the page says what is printed, and what the call could have replied."""
+        page, given, _ = self.page()
         (due,) = re.findall(r"^It prints `(.*)`: nothing explains", page, re.M)
-        self.same("docs/TEST-A-FILE-SYSTEM.md", run(given, "linearize")[:2], (1, f"{due}\n".encode()))
+        (reply,) = re.findall(r"`(the call could have replied: .*?)`", page)
+        came = run(given, "linearize")
+        self.same("docs/TEST-A-FILE-SYSTEM.md", came[:2], (1, f"{due}\n".encode()))
+        self.same("what the page says of its replies", reply.encode() in came.message or not harness.compares, True)
 
 
 class Long(harness.Case):

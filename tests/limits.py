@@ -1,7 +1,7 @@
 """Inputs at each limit of docs/FORMATS.md and docs/SPECIFICATION.md and one past it, and scripts that make the program hold much, or too much.
 
 `python3 tests/limits.py --measure` also tells the seconds of each run, and the most memory that the program held: no less than Python holds when it
-starts the program. docs/PROMISES.md has the bounds. No script has calls enough for all numbers of nodes that its limits have. By the third limits what
+starts the program. docs/TRUST.md has the bounds. No script has calls enough for all numbers of nodes that its limits have. By the third limits what
 comes of few calls is what tests/model.py makes of them. The longest texts and the most calls hold 1.4 GB.
 """
 import contextlib

@@ -211,8 +211,24 @@ class Stored(Case):
     def test_each(self):
         self.each([(row[0], *row) for row in STORED], self.look)
 
+    def test_of_the_pages(self):
+        """The pictures of docs/pictures are those of the texts beside them, and each is on a page."""
+        folder = ROOT / "docs" / "pictures"
+        texts = sorted(path for path in folder.iterdir() if path.suffix in (".script", ".journal"))
+        pages = "".join(page.read_text() for page in (ROOT / "docs").glob("*.md"))
+        shown = sorted(re.findall(r"\]\(pictures/(\w+)\.svg\)", pages))
+        self.same("the pictures", sorted(path.stem for path in folder.glob("*.svg")), [path.stem for path in texts])
+        self.same("the pictures that pages show", sorted(set(shown)), [path.stem for path in texts])
+        self.each(((path.name, path) for path in texts), self.look_at_text)
+
+    def look_at_text(self, path):
+        """It says itself by which words it is drawn. `docs/pictures/draw` draws all anew."""
+        given = path.read_bytes()
+        (words,) = re.findall(rb"^# Drawn by: (.*)$", given, re.M)
+        self.same(path.name, run(given, *words.decode().split(" ")).output, path.with_suffix(".svg").read_bytes())
+
     def test_of_the_documents(self):
-        """The picture that the README and docs/MACHINE.md show."""
+        """The picture that the README shows."""
         came = run((RUNS / "helped_mkdir.script").read_bytes(), "draw")
         self.same("docs/helped_mkdir.svg", came.output, (ROOT / "docs" / "helped_mkdir.svg").read_bytes())
 

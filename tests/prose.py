@@ -6,7 +6,7 @@ from documents import OF_CRATES, PAGES, by_path, prose
 from harness import ROOT, Case
 
 # No sentence has more words than this. A span of code is one word; tables and blocks are no sentences.
-MOST_OF_A_SENTENCE = 99
+MOST_OF_A_SENTENCE = 30
 # Words and forms that the rules replace, and how often all pages together may have them. These numbers only become smaller.
 MOST = {
     r"\b(?:told|tells?)\b": 58,

@@ -16,7 +16,7 @@ import unittest
 
 import harness
 import packages
-from documents import README, blocks
+from documents import HISTORIES, README, blocks
 from harness import ROOT, Case, run
 
 RECORD, STORED = ROOT / "examples" / "record", harness.DATA / "recorders"
@@ -456,6 +456,8 @@ class InMemory(Recorder):
         place, call, words = re.fullmatch(rf"round \d+: none (\d+) (\d+)\n{sentence}", told).groups()
         shown = [block for block in blocks(README) if re.fullmatch(sentence, block)]
         self.same("the sentences of README", len(shown), 1)
+        shown = [block for block in blocks(HISTORIES) if re.fullmatch(rf"round \d+: none \d+ \d+\n{sentence}", block)]
+        self.same("the sentences of docs/TEST-A-FILE-SYSTEM.md", len(shown), 1)
         self.same("the calls of the history", len(set(re.findall(r"^begin (\d+) ", history, re.M))), 12)
         self.same(told, (status, f"begin {call} {words}" in re.sub(r"(begin \d+) \d+", r"\1", history)), (1, True))
         came = run(history.encode(), "linearize")

@@ -109,9 +109,9 @@ class Races(unittest.TestCase):
 
 @unittest.skipUnless(FOLDER.is_dir(), "the pages are those of a checkout")
 class Pages(unittest.TestCase):
-    """The blocks of docs/RACES.md and of the page of the races."""
+    """The blocks of docs/RACES.md, docs/SCHEDULES.md and of the page of the races."""
 
-    PAGE = FOLDER.parents[1] / "docs" / "RACES.md"
+    PAGE, SCHEDULES = (FOLDER.parents[1] / "docs" / name for name in ("RACES.md", "SCHEDULES.md"))
 
     def blocks(self, page, language):
         found = re.findall(r"^```(\w*)\n(.*?)^```$", page.read_text(), re.M | re.S)
@@ -140,7 +140,7 @@ class Pages(unittest.TestCase):
                 self.assertIn(line, _without_counts(told))
 
     def test_outcomes(self):
-        first, second, *_ = self.blocks(self.PAGE, "python")
+        first, second = self.blocks(self.PAGE, "python")
         space = {}
         exec(first.partition("atomfs.explore(")[0], space)
         with contextlib.redirect_stdout(io.StringIO()) as told:
@@ -157,7 +157,7 @@ class Pages(unittest.TestCase):
         """The recipes run and pass."""
         import hypothesis
 
-        _, _, given, stateful = self.blocks(self.PAGE, "python")
+        given, stateful = self.blocks(self.SCHEDULES, "python")
         few = hypothesis.settings(
             max_examples=15, stateful_step_count=5, deadline=None, database=None, derandomize=True
         )
