@@ -1539,16 +1539,16 @@ class Touched(Sentences):
 
 
 class Guarantees(Sentences):
-    """What docs/PROMISES.md says carries a promise, or refuses a wrong body, is there."""
+    """What docs/PROMISES.md says carries a promise, or rejects a mutant, is there."""
 
     PAGE = DOCS / "PROMISES.md"
     # How many wrong bodies stand in all crates at most, in one at most, and in one that has some at least.
     MOST_EDITS, MOST_OF_A_CRATE, LEAST_OF_A_CRATE = 44, 9, 3
 
     def test_promises(self):
-        """Each crate of the product has a row, with functions and clauses of it."""
-        rows = table(self.PAGE, "Crate", "Main promise", "Carried by")
-        self.agrees("its crates, in order", [crate for row in rows for crate in spans(row[0])], promises.product())
+        """Each crate of the product has a row in the table of what a user relies on it for, with functions and clauses of it."""
+        rows = [row for rows in tables(self.PAGE, "Crate", "Main promise", "Carried by") for row in rows]
+        self.agrees("its crates", sorted(crate for row in rows for crate in spans(row[0])), sorted(promises.product()))
         self.each(((row[0], spans(row[0])[0], spans(row[2])) for row in rows), self.look_at_crate)
 
     def look_at_crate(self, crate, words):

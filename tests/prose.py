@@ -2,23 +2,31 @@
 import re
 import unittest
 
-from documents import OF_CRATES, PAGES, by_path, prose
+from documents import DOCS, OF_CRATES, PACKAGES, PAGES, by_path, prose, tables
 from harness import ROOT, Case
 
 # No sentence has more words than this. A span of code is one word; tables and blocks are no sentences.
 MOST_OF_A_SENTENCE = 30
 # Words and forms that the rules replace, and how often all pages together may have them. These numbers only become smaller.
 MOST = {
-    r"\b(?:told|tells?)\b": 58,
-    r"\b(?:stands?|stood)\b": 43,
-    r"\bbehind\b": 25,
-    r"\bunder way\b": 36,
-    r"\bwant of memory\b": 3,
-    r"(?:^|[.;:|] )[Oo]f [^.|]*\bwhat\b": 5,
+    r"\b(?:told|tells?)\b": 0,
+    r"\b(?:stands?|stood)\b": 0,
+    r"\bbehind\b": 2,
+    r"\bunder way\b": 1,
+    r"\bwant of memory\b": 0,
+    r"(?:^|[.;:|] )[Oo]f [^.|]*\bwhat\b": 2,
 }
-# These show the forms that they warn of.
-EXAMPLES = (ROOT / "CONTRIBUTING.md",)
-IN_WORDS = [page for page in PAGES if page not in EXAMPLES]
+# This page shows the forms that it warns of.
+CONTRIBUTING = ROOT / "CONTRIBUTING.md"
+IN_WORDS = [page for page in PAGES if page != CONTRIBUTING]
+INDEX, GLOSSARY = DOCS / "README.md", DOCS / "GLOSSARY.md"
+# Pages that are read in one sitting have at most so many words, without blocks. A reference has what it needs.
+MOST_OF_A_PAGE = 1_200
+SITTINGS = "Tutorial", "How-to", "Explanation"
+# The words of these pages that a reader has not met, which are linked or glossed where a page has them first.
+TERMS = "seat", "commit", "journal", "lawful", "stamp", "tally", "victim", "mutant"
+# Pages that explain no words: the list of changes, those of crates, and those that are lists themselves.
+UNGLOSSED = (ROOT / "CHANGELOG.md", CONTRIBUTING, GLOSSARY, INDEX, *OF_CRATES)
 
 
 def paragraphs(text):
@@ -62,6 +70,49 @@ class Rules(Case):
         text = "\n".join(re.sub(r"`[^`\n]*`", "CODE", prose(page)) for page in IN_WORDS)
         found = {form: len(re.findall(form, text, re.M | re.I)) for form in MOST}
         self.same("forms that became more", {form: n for form, n in found.items() if n > MOST[form]}, {})
+
+    def test_kinds(self):
+        """The list of pages has each page of docs/, with its kind."""
+        rows = [row for rows in tables(INDEX, "Page", "Kind", "Answers") for row in rows]
+        self.same("the kinds", sorted({kind for _, kind, _ in rows} - {*SITTINGS, "Reference"}), [])
+        shown = sorted(self.page_of(row) for row in rows)
+        others = [ROOT / "CONTRIBUTING.md", ROOT / "CHANGELOG.md", *PACKAGES.values()]
+        others += [ROOT / "examples" / name / "README.md" for name in ("", "tour", "races")]
+        listed = {page for page in DOCS.glob("*.md")} - {INDEX, GLOSSARY, DOCS / "FAQ.md"}
+        self.same("the pages", shown, sorted((*listed, *others)))
+        self.each(((page.name, page) for page, kind in self.of_a_sitting(rows)), self.look_at_length)
+
+    @staticmethod
+    def page_of(row):
+        return (DOCS / re.search(r"\]\((.*?)\)", row[0])[1]).resolve()
+
+    def of_a_sitting(self, rows):
+        return [(self.page_of(row), row[1]) for row in rows if row[1] in SITTINGS]
+
+    def look_at_length(self, page):
+        words = len(prose(page).split())
+        self.same(f"{page.relative_to(ROOT)}, in words", max(words, MOST_OF_A_PAGE), MOST_OF_A_PAGE)
+
+    def test_terms(self):
+        """Each is a word of the glossary, and is linked or glossed where a page has it first."""
+        rows = [row for rows in tables(GLOSSARY, "Word", "In the field", "Here") for row in rows]
+        words = {word for row in rows for word in row[0].split(", ")}
+        self.same("the words that the glossary has not", [term for term in TERMS if term not in words], [])
+        self.each(by_path(page for page in PAGES if page not in UNGLOSSED), self.look_at_terms)
+
+    def look_at_terms(self, page):
+        lines = [line for line in prose(page).splitlines() if not line.startswith(("#", "|"))]
+        text = re.sub(r"`[^`\n]*`", "CODE", re.sub(r"#[\w-]*\)", ")", "\n".join(lines)))
+        bare = [term for term in TERMS if not self.is_glossed(term, text)]
+        self.same(f"{page.relative_to(ROOT)}: first uses without a link or a gloss in italics", bare, [])
+
+    @staticmethod
+    def is_glossed(term, text):
+        """Whether the first use is in italics, or the text of a link to the glossary or to a page about it."""
+        stem = term.removesuffix("y")
+        first = re.search(rf"\b{stem}(?:y|ies|s|es|ted|ting)?\b", text, re.I)
+        marked = rf"(?:\*|\[)[^*\]\n]*\b{stem}(?:y|ies|s|es|ted|ting)?\b[^*\]\n]*(?:\*|\]\([^)]*\.md[^)]*\))"
+        return not first or any(found.start() < first.end() <= found.end() for found in re.finditer(marked, text, re.I))
 
 
 if __name__ == "__main__":
