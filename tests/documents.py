@@ -182,7 +182,7 @@ class Pages(Page):
 
     # What a page names and no repository has: what is built, what stands for a name, and the files that a reader makes.
     ELSEWHERE = re.compile(
-        r"(dist|lib|include|bin|PREFIX)/.*|.*/out/.*|.*\.\..*|proofs/MODULE/FUNCTION|call\.(c|rs|py)|(kept|race)\.(script|svg)"
+        r"(dist|lib|include|bin|PREFIX)/.*|.*/out/.*|.*\.\..*|proofs/MODULE/FUNCTION|call\.(c|rs|py)|(kept|race|tour)\.(script|svg|journal)"
     )
     A_PATH = re.compile(r"\w[\w.-]*(/[\w.-]+)+|\w+\.(md|rt|antt|py|c|h|rs|script|journal|text|edit)")
 
@@ -440,8 +440,7 @@ class Shown(Page):
         ("docs/TEST-A-FILE-SYSTEM.md", "", 4, "tests/histories.py, tests/recorders.py"),
         ("docs/ARCHITECTURE.md", "", 1, "tests/documents.py"),
         ("docs/MACHINE.md", "", 2, None),
-        ("examples/tour/README.md", "", 2, "tests/worked.py"),
-        ("docs/PICTURES.md", "python", 1, "tests/tutorials.py"),
+        ("examples/tour/README.md", "", 11, "tests/worked.py"),
         ("docs/RACES.md", "", 1, "bindings/python/tests/test_races.py"),
         ("docs/RACES.md", "python", 2, "bindings/python/tests/test_races.py"),
         ("docs/SCHEDULES.md", "python", 2, "bindings/python/tests/test_races.py"),
@@ -966,7 +965,7 @@ class EachCommand(Page):
     )
     # What takes longer than a test may, or is the gate, or run by tests/many.py, tests/recorders.py or the tests of a package: that it is there and can be run is looked at.
     LONG = re.compile(
-        r"(?:python3 )?(\.ci/run|tests/run|bench/\w+|embed/\w+|examples/many/\w+|examples/record/record\.py|examples/races/\w+\.py)(?: .*)?"
+        r"(?:python3 )?(\.ci/run|tests/run|bench/\w+|embed/\w+|examples/many/\w+|examples/record/record\.py|examples/(?:races|tour)/\w+\.py)(?: .*)?"
     )
 
     @classmethod

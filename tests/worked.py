@@ -326,26 +326,29 @@ class Tour(Case):
             ["failed EEXIST"] if step.endswith(".journal") and harness.compares else [],
         )
 
-    def test_what_to_look_for(self):
-        """Each step has a row in the page, and what that says is a line that one of its commands writes."""
+    def test_page(self):
+        """The page has a part for each step, which leads to its file; and each command that it shows is one of that file, with lines that it writes."""
         page = (TOUR / "README.md").read_text()
-        rows = re.findall(r"^\| \[(.*?)\]\((.*?)\) \| .* \| (.*?) \|$", page, re.M)
-        self.same("the rows of the page", [row[:2] for row in rows], [(step, step) for step in self.STEPS])
-        self.each(
-            ((step, step, re.findall("`([^`]+)`", cell)) for step, _, cell in rows if not step.endswith(".py")),
-            self.look_for,
-        )
-        first, answer = re.findall(r"^```\n(.*?)^```$", page, re.M | re.S)
-        self.same("the command of the page", first, f"examples/run trace < examples/tour/{self.STEPS[0]}\n")
-        self.same("what it answers", answer, (DATA / "tour" / "1_one_call.trace").read_text())
+        parts = re.split(r"^## \d+\. .*$", page.partition("## Try it yourself")[0], flags=re.M)[1:]
+        self.same("the parts of the page", len(parts), len(self.STEPS))
+        for step, part in zip(self.STEPS, parts):
+            self.same(f"the file of {step}", f"[{step}]({step})" in part, True)
+            for block in re.findall(r"^```\n(.*?)^```$", part, re.M | re.S):
+                self.look_at_block(step, *block.splitlines())
 
-    def look_for(self, step, lines):
-        stored = [self.stored(command) for _, of, command in self.commands() if of == step]
-        written = [
-            line for path in stored if path.exists() and path.suffix != ".svg" for line in path.read_text().splitlines()
-        ]
-        own = without_comments((TOUR / step).read_text())
-        self.same(step, [line for line in lines if line not in (*written, *own)], [])
+    def look_at_block(self, step, first, *lines):
+        """Without the lines `..` it is what the command writes, in order, and whole where it has none."""
+        typed = first.removeprefix("$ examples/run ")
+        commands = {
+            f"{shlex.join(command.words)} < {command.reads}": command
+            for _, of, command in self.commands()
+            if of == step
+        }
+        self.same(f"a command of {step}", typed in commands, True)
+        written = self.stored(commands[typed]).read_text()
+        pieces = re.split(r"^\.\.\n", "".join(f"{line}\n" for line in lines), flags=re.M)
+        pattern = ".*".join(map(re.escape, pieces))
+        self.same(first, re.fullmatch(pattern, written, re.S) is not None, True)
 
     def test_third_step(self):
         """It is the worked example by the third limits, with comments."""
