@@ -437,6 +437,7 @@ class Shown(Page):
         ("docs/READING-LIST.md", "", 1, "tests/documents.py"),
         ("docs/FORMATS.md", "", 2, "tests/documents.py"),
         ("docs/PICTURES.md", "", 1, None),
+        ("docs/PLAYER.md", "python", 1, "tests/tutorials.py"),
         ("docs/TEST-A-FILE-SYSTEM.md", "", 4, "tests/histories.py, tests/recorders.py"),
         ("docs/ARCHITECTURE.md", "", 1, "tests/documents.py"),
         ("docs/MACHINE.md", "", 2, None),

@@ -1,4 +1,4 @@
-"""What README.md, docs/FIRST-RACE.md and docs/PICTURES.md have a reader type in Python prints and writes what stands there. The blocks of a page are run one after the other."""
+"""What README.md, docs/FIRST-RACE.md and docs/PLAYER.md have a reader type in Python prints and writes what stands there. The blocks of a page are run one after the other."""
 import json
 import os
 import pathlib
@@ -11,7 +11,7 @@ import harness
 from documents import DOCS, README, blocks
 from harness import DATA, ROOT, Case
 
-FIRST_RACE, PICTURES = DOCS / "FIRST-RACE.md", DOCS / "PICTURES.md"
+FIRST_RACE, PLAYER = DOCS / "FIRST-RACE.md", DOCS / "PLAYER.md"
 # Runs blocks of Python, and writes what each printed, and the script of an error of a race at which it ended.
 DRIVER = """\
 import contextlib, io, json, sys
@@ -81,8 +81,8 @@ class Tutorials(Case):
 
     def test_pictures(self):
         """The example writes the page that plays the worked example: with its trace and its picture."""
-        told, made = self.printed(PICTURES)
-        self.same("docs/PICTURES.md", (told, list(made)), ([["", None]], ["run.html"]))
+        told, made = self.printed(PLAYER)
+        self.same("docs/PLAYER.md", (told, list(made)), ([["", None]], ["run.html"]))
         trace = (DATA / "traces" / "helped_mkdir.trace").read_text()
         picture = (DATA / "pictures" / "helped_mkdir.svg").read_text()
         self.same("its parts", (f"\n{trace}</pre>" in made["run.html"], picture in made["run.html"]), (True, True))

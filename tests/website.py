@@ -14,7 +14,7 @@ from harness import ROOT, Case
 from promised import promises
 
 sys.path.insert(0, str(ROOT / "docs" / "site"))
-import links
+import site_links
 
 BUILD = ROOT / "docs" / "build"
 # The other Python that docs/build takes, where this one has no markdown.
@@ -40,7 +40,7 @@ class Links(Case):
             (here / "b.html").write_text('<h2 id="there">')
             words = "b.html", "b.html#there", "#own", "https://there.example", "c.html", "b.html#not-there", "#nor-here"
             (here / "a.html").write_text('<p id="own">' + "".join(f'<a href="{word}">' for word in words))
-            found = [link for _, link in links.lost(here)]
+            found = [link for _, link in site_links.lost(here)]
             self.same("the links", found, ["c.html", "b.html#not-there", "#nor-here"])
 
 
