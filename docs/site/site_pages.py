@@ -84,8 +84,11 @@ def name_of(path):
 class Site:
     """The folder that is made, and the files beside the pages to which these lead."""
 
-    def __init__(self, folder, references):
-        self.folder, self.references, self.beside = folder, references, set()
+    def __init__(self, folder, references, played):
+        self.folder, self.beside = folder, set()
+        listed = [[(link, title) for title, link in sorted(links.items())] for links in (references, played)]
+        # What the bar at the side of each page leads to.
+        self.bars = [*BAR, *((head, rows) for head, rows in zip(("Reference", "Play a run"), listed) if rows)]
         self.style = (ROOT / "docs" / "site" / "style.css").read_text()
 
     def relative(self, link, name):
@@ -103,8 +106,7 @@ class Site:
 
     def bar(self, name):
         parts = []
-        apis = tuple((link, language) for language, link in sorted(self.references.items()))
-        for head, rows in (*BAR, ("Reference", apis)):
+        for head, rows in self.bars:
             items = []
             for page, title in rows:
                 to = page if page.startswith("api/") else name_of(ROOT / page)
@@ -154,9 +156,9 @@ class Site:
                 self.put(name, path.name, f"<h1>{path.relative_to(ROOT)}</h1><pre><code>{text}</code></pre>")
 
 
-def write(folder, references):
-    """Writes all pages into a folder."""
-    site = Site(folder, references)
+def write(folder, references, played):
+    """Writes all pages into a folder, with what leads to references and to runs that are played."""
+    site = Site(folder, references, played)
     folder.mkdir(parents=True, exist_ok=True)
     (folder / "style.css").write_text(site.style)
     for path in sources():

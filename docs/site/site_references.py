@@ -88,6 +88,29 @@ def python(folder):
     return "index.html"
 
 
+PLAYED = {
+    "A rename helps": "docs/pictures/rename_helps.script",
+    "An exchange helps": "docs/pictures/both_sides.script",
+    "A wrong reply": "docs/pictures/memoryfs.journal",
+}
+PLAYS = "import sys, atomfs; atomfs.draw(open(sys.argv[1]).read(), html=True).save(sys.argv[2])"
+
+
+def players(folder):
+    """Pages that play runs, each with its title; and why they are left out, if they are."""
+    made = {}
+    try:
+        variables = os.environ | {"ATOMFS_LIBRARY": library(), "PYTHONPATH": str(ROOT / "bindings" / "python" / "src")}
+        folder.mkdir(parents=True, exist_ok=True)
+        for title, text in PLAYED.items():
+            name = f"{pathlib.Path(text).stem}.html"
+            ran([sys.executable, "-B", "-c", PLAYS, str(ROOT / text), str(folder / name)], env=variables)
+            made[title] = f"api/players/{name}"
+    except Missing as missing:
+        return {}, [("pages that play runs", str(missing))]
+    return made, []
+
+
 KINDS = {"rattle": ("Rattle", rattle), "c": ("C and C++", c), "rust": ("Rust", rust), "python": ("Python", python)}
 
 
