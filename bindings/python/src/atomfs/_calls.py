@@ -133,7 +133,7 @@ class ByCtypes:
         return made
 
     def kind(self, tree: Tree, path: AnyPath) -> Optional[bool]:
-        """Whether a directory stands at a path, and none of both where nothing does."""
+        """Whether a directory is at a path, and none of both where nothing does."""
         try:
             return self.stat(tree, path).is_dir
         except (FileNotFoundError, NotADirectoryError):

@@ -34,11 +34,11 @@ class ClosedError(Error, ValueError):
 
 
 class UnderWayError(Error):
-    """A call is under way, where none may be: `about` is its number."""
+    """A call is pending, where none may be: `about` is its number."""
 
 
 class WaitsError(Error):
-    """The call is under way and waits for a node that the call of another seat holds: `seat.finish()` goes on with it."""
+    """The call is pending, and waits for a node that the call of another seat holds: `seat.finish()` goes on with it."""
 
     def __init__(self, words: str, about: int, seat: Seat) -> None:
         super().__init__(Status.WAITS, words, about)

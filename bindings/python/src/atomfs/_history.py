@@ -193,7 +193,7 @@ class History:
 
     An `OSError` that leaves the block is the reply of the call, and so is an error of PyFilesystem2, or of a class in `errors`, which has
     its number from `errno`, or none for an error that others do not have: it ends the block, and stands in `answer.error`. Behind timeouts,
-    broken connections and all other exceptions, which are raised on, the call stays under way: it may have taken effect, or not.
+    broken connections and all other exceptions, which are raised on, the call stays pending: it may have taken effect, or not.
 
     Record one thread first: what nothing explains there is another kind of tree, and no race.
     """
@@ -224,20 +224,23 @@ class History:
     def call(self, call: str, *words: Any) -> ContextManager[Answer]:
         """Records a call, which is made in the block of a `with`: `call("mkdir /a")`, as in a script, or `call("mkdir", "/a")`.
 
-        Behind its name stands what the method of `Tree` takes: `call("write", "/f", 0, b"x")`; `ValueError` and `TypeError` tell what is no
-        call. The replies of `stat`, `readdir`, `list`, `read` and `write` are told in the block by what it is given; what is no reply raises these,
-        and so does the end of a block in which none was told. The call stays under way then.
+        After its name comes what the method of `Tree` takes: `call("write", "/f", 0, b"x")`; `ValueError` and `TypeError` tell what is no
+        call. The replies of `stat`, `readdir`, `list`, `read` and `write` are reported in the block through what it is given; what is no reply raises these,
+        and so does the end of a block in which none was told. The call stays pending then.
         """
         return _Recorded(self, *self._read(call, words))
 
     def text(self) -> str:
-        """The history so far: a journal without its lines `commit`, in which calls that have not returned are under way."""
+        """The history so far: a journal without its lines `commit`, in which calls that have not returned are pending."""
         with self._lock:
             entries = sorted(self._entries)
         return "".join(f"{line}\n" for line in (*self._opening, *(line for _, line in entries)))
 
     def linearize(self, limit: Optional[int] = None) -> Linearized:
-        """An order in which the calls so far took effect, or the first return up to which no order explains them, as the function `linearize`."""
+        """An order in which the calls so far took effect, or the first return up to which no order explains them, as the function `linearize`.
+
+        Raises `ValueError` for a text that is no history, and `MemoryError`.
+        """
         return linearize(self.text(), limit)
 
     def _read(self, call: str, words: Tuple[Any, ...]) -> Tuple[Call, str]:

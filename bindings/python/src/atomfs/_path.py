@@ -51,21 +51,21 @@ class Path(pathlib.PurePosixPath):
     # ---- What stands there
 
     def stat(self, *, follow_symlinks: bool = True) -> Stat:
-        """What stands there."""
+        """What is there."""
         return self.tree.stat(self)
 
     lstat = stat
 
     def exists(self, *, follow_symlinks: bool = True) -> bool:
-        """Whether something stands there."""
+        """Whether something is there."""
         return self.tree.exists(self)
 
     def is_dir(self, *, follow_symlinks: bool = True) -> bool:
-        """Whether a directory stands there."""
+        """Whether a directory is there."""
         return self.tree.is_dir(self)
 
     def is_file(self, *, follow_symlinks: bool = True) -> bool:
-        """Whether a file stands there."""
+        """Whether a file is there."""
         return self.tree.is_file(self)
 
     def is_mount(self) -> bool:
@@ -73,13 +73,13 @@ class Path(pathlib.PurePosixPath):
         return _walk.plain(self) == "/"
 
     def _never(self) -> bool:
-        """It is none, whatever stands there: a tree has files and directories."""
+        """It is none, whatever is there: a tree has files and directories."""
         return False
 
     is_symlink = is_junction = is_socket = is_fifo = is_block_device = is_char_device = _never
 
     def samefile(self, other: Any) -> bool:
-        """Whether both are one path of one tree, at which something stands: a node has one path."""
+        """Whether both are one path of one tree, at which something is: a node has one path."""
         self.stat()
         same = (
             _walk.plain(self._of(os.fspath(other))) == _walk.plain(self)
@@ -188,7 +188,7 @@ class Path(pathlib.PurePosixPath):
     # ---- Moves
 
     def rename(self: _Self, target: Any) -> _Self:
-        """Moves what stands there by one `rename`; a file or an empty directory at the target is replaced."""
+        """Moves what is there by one `rename`; a file or an empty directory at the target is replaced."""
         self.tree.rename(self, target)
         return self._of(_walk.text_of(target))
 

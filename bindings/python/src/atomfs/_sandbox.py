@@ -178,7 +178,7 @@ class Sandbox(Attributes):
         self._device = next(_DEVICES)
 
     def _looked(self, place: Place) -> Stat:
-        """What stands there, which is a directory where the path says so."""
+        """What is there, which is a directory where the path says so."""
         found = self.tree.stat(_at(place))
         if place.of_directory and not found.is_dir:
             failed(errno.ENOTDIR, place.path)
@@ -202,7 +202,7 @@ class Sandbox(Attributes):
     lstat = stat
 
     def stat_inside(self, inside: str, follow: bool) -> os.stat_result:
-        """What stands at a path of the tree, or where a link there leads."""
+        """What is at a path of the tree, or where a link there leads."""
         if follow and self._is_link(inside):
             path = self._places.outside(inside)
             place = self._places.of(path)
@@ -228,7 +228,7 @@ class Sandbox(Attributes):
         return 0 if is_dir is None else stat.S_IFDIR if is_dir else stat.S_IFREG
 
     def access(self, place: Place, mode: int = os.F_OK, **named: Any) -> bool:
-        """Whether something stands there that the permissions let be read, written or run: all but the last is permitted anyway, if they are
+        """Whether something is there that the permissions let be read, written or run: all but the last is permitted anyway, if they are
         not enforced."""
         try:
             inode = self.inode(place)

@@ -63,7 +63,7 @@ def _absent(name: str, what: str) -> property:
 
 
 class Stat(NamedTuple):
-    """What stands at a path: a directory and how many entries it has, or a file and how many bytes.
+    """What is at a path: a directory and how many entries it has, or a file and how many bytes.
 
     Of the fields of `os.stat_result` it has `st_size` and `st_mode`; those of times, owners and numbers say that a tree keeps none.
     """
@@ -103,7 +103,7 @@ class Step(NamedTuple):
 
 
 def _names(told: bytes) -> List[bytes]:
-    """The names of a reply, in which a byte 0 is behind each."""
+    """The names of a reply, with a byte 0 after each."""
     return told.split(b"\0")[:-1]
 
 
@@ -114,8 +114,19 @@ class Tree(Names):
     `journal` says how many calls it keeps: `ALL`, `LAST(10_000)` or `NONE`. A tree that keeps all grows with every call.
 
     Threads may share it: each method holds `lock`, which is re-entrant, so that `with tree.lock:` keeps the other threads off
-    for several calls. The calls of a thread are on a seat of its own, by which the journal tells threads apart. Paths are absolute;
+    for several calls. The calls of a thread are on a seat of its own, so the journal says which thread made each. Paths are absolute;
     those of `str` are UTF-8. `with` closes it.
+
+    `room` is how many bytes a reply may have before the memory for replies grows. For example:
+
+        with atomfs.Tree() as tree:
+            tree.makedirs("/a/b")
+            tree.write_text("/a/b/f", "hello")
+            print(tree.check())
+
+    A call raises the `OSError` of its error, for example `FileNotFoundError`, and `OSError` with `EINVAL` or `ENAMETOOLONG` for what is no
+    path. A method of a closed tree raises `ClosedError`. Where memory runs out it is `MemoryError`, and the tree is as before. A call that
+    needs a node which a call on another seat holds raises `WaitsError`. A limit of nodes that no tree has is a `ValueError`.
     """
 
     def __init__(
@@ -227,6 +238,8 @@ class Tree(Names):
         """A tree of these files: by paths, with or without the first slash, `bytes` or `str`, as UTF-8.
 
         None is an empty directory, and a dictionary what is in one.
+
+        Raises `OSError` with `EINVAL` or `ENAMETOOLONG` for what is no path, and `TypeError` for what are no bytes.
         """
         with _load.into(cls(limit, limits=limits)) as tree:
             _load.from_dict(tree, files)
@@ -254,14 +267,17 @@ class Tree(Names):
     def from_zip(
         cls: Type[_Self], file: Union[StrPath, IO[bytes]], limit: Optional[int] = None, *, limits: Limits = Limits.V3
     ) -> _Self:
-        """A tree of what is in a zip, given by its path or as a file object. A name that is no path is refused."""
+        """A tree of what is in a zip, given by its path or as a file object. A name that is no path is refused.
+
+        Raises `OSError` with `EINVAL` or `ENAMETOOLONG` for such a name, and what the module zipfile raises.
+        """
         with _load.into(cls(limit, limits=limits)) as tree:
             _load.from_zip(tree, file)
         return tree
 
     @classmethod
     def from_text(cls: Type[_Self], text: str, limit: Optional[int] = None, *, limits: Limits = Limits.V3) -> _Self:
-        """A tree by its text, as `tree()` tells it. A line that is none is a `ValueError` with its number."""
+        """A tree by its text, as `tree()` writes it. A line that is not valid is a `ValueError` with its number."""
         return _load.of_snapshot(cls, limit, Snapshot(limits, text))
 
     def to_dict(self) -> Dict[str, Optional[bytes]]:
@@ -269,17 +285,25 @@ class Tree(Names):
         return _load.dictionary(self.tree())
 
     def to_directory(self, path: StrPath, exist_ok: bool = False) -> None:
-        """Makes the tree as of one moment below a directory of the disk, which may be there with `exist_ok`."""
+        """Makes the tree as of one moment below a directory of the disk, which may be there with `exist_ok`.
+
+        Raises `FileExistsError` if the directory is there without `exist_ok`, and what the disk raises.
+        """
         _load.to_directory(self, path, exist_ok)
 
     def to_zip(self, file: Union[StrPath, IO[bytes]]) -> None:
-        """Writes the tree as of one moment as a zip, to a path or a file object. Names have to be UTF-8."""
+        """Writes the tree as of one moment as a zip, to a path or a file object. Names have to be UTF-8.
+
+        Raises `UnicodeEncodeError` for another name, and what the disk raises.
+        """
         _load.to_zip(self, file)
 
     def snapshot(self) -> Snapshot:
         """The tree as it is now, of one moment and by no call: as much work and memory as its text.
 
         Permissions, times and so on, which `atomfs.patch` keeps, are in it too.
+
+        Raises `ClosedError`, and `MemoryError`.
         """
         with self.lock:
             return Snapshot(self.limits, self.tree(), self._metadata and self._metadata.copied())
@@ -331,7 +355,7 @@ class Tree(Names):
         return iter([_rows.told(_rows.path_of(line)) for line in self.tree().splitlines()[1:]])
 
     def __contains__(self, path: AnyPath) -> bool:
-        """Whether something stands at a path, by a `stat`."""
+        """Whether something is at a path, by a `stat`."""
         return self.exists(path)
 
     # ---- Calls
@@ -356,18 +380,18 @@ class Tree(Names):
         self._calls.rmdir(self, path)
 
     def rename(self, path: AnyPath, other: AnyPath) -> None:
-        """Moves what stands at `path`, with all below it, to `other`; a file or an empty directory there is replaced.
+        """Moves what is at `path`, with all below it, to `other`; a file or an empty directory there is replaced.
 
         `OSError` with `ENOTEMPTY` if the directory there has entries, with `EINVAL` if `other` is below `path`. `IsADirectoryError` and
         `NotADirectoryError` if one of them is a file and the other a directory."""
         self._calls.rename(self, path, other)
 
     def exchange(self, path: AnyPath, other: AnyPath) -> None:
-        """Lets what stands at two paths change places, each with all below it. `OSError` with `EINVAL` if one is below the other."""
+        """Lets what is at two paths change places, each with all below it. `OSError` with `EINVAL` if one is below the other."""
         self._calls.exchange(self, path, other)
 
     def stat(self, path: AnyPath) -> Stat:
-        """What stands at a path. `FileNotFoundError` if nothing does."""
+        """What is at a path. `FileNotFoundError` if nothing does."""
         return self._calls.stat(self, path)
 
     @overload
@@ -395,7 +419,10 @@ class Tree(Names):
 
     def list(self, path: AnyPath, after: AnyPath = "/", count: int = LISTED) -> Union[List[str], List[bytes]]:
         """The names of a directory above the last name of the path `after`, or from the first on, in byte order: at most `count`, and at
-        most 256. A tree by `Limits.V3` alone has it."""
+        most 256. A tree by `Limits.V3` alone has it.
+
+        Raises `FileNotFoundError`, `NotADirectoryError`, and `Error` with `BAD_VERSION` for a tree with other limits.
+        """
         return self._calls.list(self, path, after, count)
 
     @overload
@@ -408,13 +435,19 @@ class Tree(Names):
 
     def listdir(self, path: AnyPath) -> Union[List[str], List[bytes]]:
         """All names of a directory, in byte order, by one `readdir`; by `Limits.V3` by a `list` for each 256, each a call of its own, between
-        which others may change the directory."""
+        which others may change the directory.
+
+        Raises `FileNotFoundError` if nothing is there, and `NotADirectoryError` if a file is.
+        """
         names: Union[List[str], List[bytes]] = _walk.names(self, path)
         return names
 
     def read(self, path: AnyPath, offset: int = 0, count: Optional[int] = None) -> bytes:
         """At most `count` bytes of a file from an offset on, or all from there on: what one call reads, and where that are more than
-        `limits.read_bytes`, as they may be by `Limits.V3`, what several do."""
+        `limits.read_bytes`, as they may be by `Limits.V3`, what several do.
+
+        Raises `FileNotFoundError` if nothing is there, and `IsADirectoryError` if a directory is.
+        """
         return self._calls.read(self, path, offset, count)
 
     def _read_pieces(self, path: AnyPath, offset: int, count: Optional[int], known: Optional[bytes] = None) -> bytes:
@@ -448,11 +481,18 @@ class Tree(Names):
         return self._calls.piece(self, path, offset, count)
 
     def write(self, path: AnyPath, offset: int, data: Data) -> int:
-        """Writes bytes into a file at an offset: all of them or none. A gap before them reads as zeros."""
+        """Writes bytes into a file at an offset: all of them or none. A gap before them reads as zeros.
+
+        Raises `FileNotFoundError` if nothing is there, `IsADirectoryError` if a directory is, and `OSError` with `EFBIG` past the limit of
+        a file.
+        """
         return self._calls.write(self, path, offset, data)
 
     def truncate(self, path: AnyPath, size: int) -> None:
-        """Cuts a file to a size, or adds zeros up to it."""
+        """Cuts a file to a size, or adds zeros up to it.
+
+        Raises `FileNotFoundError`, `IsADirectoryError`, and `OSError` with `EFBIG` past the limit of a file.
+        """
         self._calls.truncate(self, path, size)
 
     def _refusal(self, status: int) -> Exception:
@@ -496,7 +536,7 @@ class Tree(Names):
     # ---- What is made of these calls
 
     def _kind(self, path: AnyPath) -> Optional[bool]:
-        """Whether a directory stands at a path, and none of both where nothing does, by a `stat`."""
+        """Whether a directory is at a path, and none of both where nothing does, by a `stat`."""
         if type(self).stat is Tree.stat:
             return self._calls.kind(self, path)
         # A subclass has a `stat` of its own.
@@ -506,25 +546,40 @@ class Tree(Names):
             return None
 
     def exists(self, path: AnyPath) -> bool:
-        """Whether something stands at a path, by a `stat`."""
+        """Whether something is at a path, by a `stat`.
+
+        Raises `OSError` for what is no path, and for nothing else.
+        """
         return _walk.kind(self, path) is not None
 
     def is_dir(self, path: AnyPath) -> bool:
-        """Whether a directory stands at a path, by a `stat`."""
+        """Whether a directory is at a path, by a `stat`.
+
+        Raises `OSError` for what is no path, and for nothing else.
+        """
         return _walk.kind(self, path) is True
 
     def is_file(self, path: AnyPath) -> bool:
-        """Whether a file stands at a path, by a `stat`."""
+        """Whether a file is at a path, by a `stat`.
+
+        Raises `OSError` for what is no path, and for nothing else.
+        """
         return _walk.kind(self, path) is False
 
     def makedirs(self, path: AnyPath, exist_ok: bool = False) -> None:
-        """Makes a directory and those above it that are missing: several calls."""
+        """Makes a directory and those above it that are missing: several calls.
+
+        Raises `FileExistsError` if it is there without `exist_ok`, and `NotADirectoryError` if the path leads through a file.
+        """
         _walk.makedirs(self, path, exist_ok)
 
     def walk(
         self, top: AnyPath = "/", topdown: bool = True, onerror: Optional[Callable[[OSError], object]] = None
     ) -> Iterator[_walk.Walked]:
-        """Each directory from `top` down, with the names of the directories and of the files in it, as `os.walk`: several calls."""
+        """Each directory from `top` down, with the names of the directories and of the files in it, as `os.walk`: several calls.
+
+        Errors go to `onerror`, and otherwise nowhere.
+        """
         return _walk.walk(self, top, topdown, onerror)
 
     def glob(self, pattern: AnyPath) -> List[str]:
@@ -532,17 +587,24 @@ class Tree(Names):
 
         `*`, `?` and `[..]` match in a name, a dot at its begin like any other byte; `**` any directories, or none, and at the end
         all that is below.
+
+        Raises `OSError` with `EINVAL` for a pattern that does not begin with a slash.
         """
         return _walk.glob(self, pattern)
 
     def rmtree(self, path: AnyPath, ignore_errors: bool = False) -> None:
-        """Removes a directory with all below it, and of the root all below it: several calls."""
+        """Removes a directory with all below it, and of the root all below it: several calls.
+
+        Raises `FileNotFoundError` if nothing is there, and `NotADirectoryError` if a file is, unless `ignore_errors` is set.
+        """
         _walk.rmtree(self, path, ignore_errors)
 
     def copy(self, source: AnyPath, target: AnyPath) -> None:
         """Copies a file, whose bytes replace those of a file at `target`, or a directory with all below it: several calls.
 
-        `target` is the path of the copy, at which no directory may stand. Of a directory that is not copied whole nothing stays.
+        `target` is the path of the copy, at which no directory may be. Of a directory that is not copied whole nothing stays.
+
+        Raises `FileNotFoundError` if there is no source, and the errors of the calls that it makes.
         """
         _walk.copy(self, source, target)
 
@@ -557,7 +619,7 @@ class Tree(Names):
     ) -> IO[Any]:
         """A file object, as of the builtin `open`; a text is UTF-8 where nothing else is given. Several calls, as each read is one.
 
-        An open file is a path and a position: once its path went away, it raises `FileNotFoundError`.
+        An open file is a path and a position: after the file has been moved or removed, using it raises `FileNotFoundError`.
         """
         _walk.check_mode(mode, buffering, encoding, errors, newline)
         at = _walk.text_of(path)
@@ -569,26 +631,38 @@ class Tree(Names):
         return text
 
     def read_bytes(self, path: AnyPath) -> bytes:
-        """The bytes of a file, by one `read`, and of more than `limits.read_bytes` by several."""
+        """The bytes of a file, by one `read`, and of more than `limits.read_bytes` by several.
+
+        Raises what `read` does.
+        """
         return self.read(path)
 
     def read_text(
         self, path: AnyPath, encoding: str = "utf-8", errors: str = "strict", newline: Optional[str] = None
     ) -> str:
-        """The text of a file, read as by `read_bytes`; the ends of lines are as of `open`."""
+        """The text of a file, read as by `read_bytes`; the ends of lines are as of `open`.
+
+        Raises what `read` does, and `UnicodeDecodeError`.
+        """
         return io.TextIOWrapper(io.BytesIO(self.read(path)), encoding, errors, newline).read()
 
     def write_bytes(self, path: AnyPath, data: Data) -> int:
         """Lets a file have these bytes and no others, and makes it where it is missing: several calls.
 
         Where it fails, the file is as it was.
+
+        Raises `IsADirectoryError` if a directory is there, `FileNotFoundError` or `NotADirectoryError` if the path leads through what is
+        missing or a file, and `OSError` with `EFBIG` or `ENOSPC`.
         """
         return _walk.write_bytes(self, path, bytes_of(data, "write_bytes"))
 
     def write_text(
         self, path: AnyPath, text: str, encoding: str = "utf-8", errors: str = "strict", newline: Optional[str] = None
     ) -> int:
-        """As `write_bytes` of the bytes of a text: several calls. It answers how many characters were written."""
+        """As `write_bytes` of the bytes of a text: several calls. It answers how many characters were written.
+
+        Raises what `write_bytes` does, and `TypeError` for what is no `str`.
+        """
         if not isinstance(text, str):
             raise TypeError(f"write_text takes str, and this is {type(text).__name__}")
         made = io.BytesIO()
@@ -606,7 +680,7 @@ class Tree(Names):
 
     @property
     def calls(self) -> int:
-        """How many calls stand in the journal: those since the tree was opened, handed it out, or forgot."""
+        """How many calls are in the journal: those since the tree was opened, handed it out, or forgot."""
         with self.lock:
             self._entries(2**63 - 1)
             count, size = self._room.entries.value, 3
@@ -642,7 +716,10 @@ class Tree(Names):
         return self._standing.before
 
     def keep(self, journal: Journal) -> None:
-        """Says how many calls the journal keeps from now on."""
+        """Says how many calls the journal keeps from now on.
+
+        Raises `ClosedError`.
+        """
         with self.lock:
             # The numbers of calls tell when some are forgotten, so the last one so far is looked up.
             self._standing.last = self.calls
@@ -653,7 +730,7 @@ class Tree(Names):
             self._called()
 
     def forget(self) -> int:
-        """Lets the journal begin again at the tree as it stands, and answers how many calls are forgotten.
+        """Lets the journal begin again at the current tree, and answers how many calls are forgotten.
 
         It raises `UnderWayError` while a call is under way.
         """
@@ -664,7 +741,10 @@ class Tree(Names):
             return self._number.value
 
     def journal(self) -> str:
-        """The journal: what `check` of the package reads. Its first call is the one behind `calls_before` others."""
+        """The journal: what `check` of the package reads. Its first call is the one behind `calls_before` others.
+
+        Raises `ClosedError`, and `MemoryError`.
+        """
         with self.lock:
             opening = told_text(self._library, self._room, self._library.opening, self._at)
             return self._named(opening + self._entries(0))
@@ -710,9 +790,11 @@ class Tree(Names):
         return "\n".join([header, *(f"# seat {number} {name}" for number, name in self._names.items()), lines])
 
     def check(self) -> str:
-        """The verdict on the journal as it stands, without a text: `lawful`, or the first entry at fault.
+        """The verdict on the journal as it is now, without a text: `lawful`, or the first entry at fault.
 
         By the proof it is always `lawful`. What was forgotten, or handed out by a checkpoint, is not looked at.
+
+        Raises `ClosedError`, and `MemoryError`.
         """
         place, kind = ctypes.c_uint64(), ctypes.c_uint8()
         with self.lock:
@@ -721,7 +803,7 @@ class Tree(Names):
         return f"fault {place.value} {Fault(kind.value).kind}" if kind.value else "lawful"
 
     def checkpoint(self) -> str:
-        """Hands the journal out, and lets it begin again at the tree as it stands, which frees its memory.
+        """Hands the journal out, and lets it begin again at the current tree, which frees its memory.
 
         It raises `UnderWayError` while a call is under way.
         """
@@ -735,14 +817,20 @@ class Tree(Names):
             return self._named(room.told().decode("ascii"))
 
     def tree(self) -> str:
-        """The text of the tree: a line for each node."""
+        """The text of the tree: a line for each node.
+
+        Raises `ClosedError`, and `MemoryError`.
+        """
         with self.lock:
             return self._told_tree().decode("ascii")
 
     # ---- Schedules
 
     def seat(self, name: Optional[str] = None) -> Seat:
-        """A new seat, on which calls are made step by step. Its name, as of a thread of a script, stands in the journal, in a comment."""
+        """A new seat, on which calls are made step by step. Its name, as of a thread of a script, is in the journal, in a comment.
+
+        Raises `ClosedError`, and `MemoryError`.
+        """
         if name is not None and not re.fullmatch(NAME, name, re.A):
             raise ValueError(
                 f"a name is a letter, then at most 15 of a to z, 0 to 9 and _, and not finish; this is {name!r}"
@@ -759,6 +847,8 @@ class Tree(Names):
         """Makes one step of a call that does not wait, whichever it is: the number of its seat, and what the step did.
 
         It is `None` where no call is under way, and only there: in a loop it brings every call to its return.
+
+        Raises `ClosedError`.
         """
         seat, did, about = ctypes.c_uint64(), ctypes.c_uint8(), ctypes.c_uint64()
         with self.lock:
@@ -780,7 +870,7 @@ _CHANGES = (Call.MKDIR, Call.MKNOD, Call.UNLINK, Call.RMDIR, Call.RENAME, Call.E
 
 
 class Seat:
-    """A place for one call under way. `begin` begins a call, `step` makes one step of it, `finish` makes the rest."""
+    """A slot for one pending call. `begin` begins a call, `step` makes one step of it, `finish` makes the rest."""
 
     def __init__(self, tree: Tree, number: int, name: Optional[str] = None) -> None:
         self.tree, self.number, self.name = tree, number, name
@@ -820,7 +910,10 @@ class Seat:
         return number
 
     def step(self) -> Step:
-        """Makes one step of the call on the seat."""
+        """Makes one step of the call on the seat.
+
+        Raises `ClosedError`.
+        """
         tree = self.tree
         if tree._metadata is None:
             return tree._calls.step(tree, self.number)
@@ -888,7 +981,11 @@ class Seat:
 
 
 class Begin:
-    """The begins of the twelve calls on a seat. Each answers the number of its call."""
+    """The begins of the twelve calls on a seat. Each answers the number of its call.
+
+    Each raises `Error` with `SEAT_BUSY` if the seat has a pending call, `OSError` for what is no path, and `MemoryError`. Errors of the
+    call itself come with its reply.
+    """
 
     def __init__(self, seat: Seat) -> None:
         self._seat = seat
@@ -910,23 +1007,23 @@ class Begin:
         return self._seat._begin(Call.RMDIR, path)
 
     def rename(self, path: AnyPath, other: AnyPath) -> int:
-        """Moves what stands at `path` to `other`."""
+        """Moves what is at `path` to `other`."""
         return self._seat._begin(Call.RENAME, path, other)
 
     def exchange(self, path: AnyPath, other: AnyPath) -> int:
-        """Lets what stands at two paths change places."""
+        """Lets what is at two paths change places."""
         return self._seat._begin(Call.EXCHANGE, path, other)
 
     def stat(self, path: AnyPath) -> int:
-        """Tells what stands at a path."""
+        """Says what is at a path."""
         return self._seat._begin(Call.STAT, path)
 
     def readdir(self, path: AnyPath) -> int:
-        """Tells the names of a directory."""
+        """Returns the names of a directory."""
         return self._seat._begin(Call.READDIR, path)
 
     def list(self, path: AnyPath, after: AnyPath = "/", count: int = LISTED) -> int:
-        """Tells names of a directory above the last one of `after`, at most `count`."""
+        """Returns names of a directory above the last one of `after`, at most `count`."""
         return self._seat._begin(Call.LIST, path, after, size=names_asked(count))
 
     def read(self, path: AnyPath, offset: int, count: int) -> int:

@@ -45,7 +45,7 @@ def plain(path: AnyPath) -> str:
 
 
 def kind(tree: Tree, path: AnyPath) -> Optional[bool]:
-    """Whether a directory stands at a path, and none of both where nothing does."""
+    """Whether a directory is at a path, and none of both where nothing does."""
     return tree._kind(path)
 
 

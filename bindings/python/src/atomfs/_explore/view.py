@@ -113,7 +113,7 @@ class View(Tree):
             self._made(me, Call.RMDIR, path)
 
     def rename(self, path: AnyPath, other: AnyPath) -> None:
-        """Moves what stands at `path` to `other`."""
+        """Moves what is at `path` to `other`."""
         me = self._me()
         if me is None:
             super().rename(path, other)
@@ -121,7 +121,7 @@ class View(Tree):
             self._made(me, Call.RENAME, path, other)
 
     def exchange(self, path: AnyPath, other: AnyPath) -> None:
-        """Lets what stands at two paths change places."""
+        """Lets what is at two paths change places."""
         me = self._me()
         if me is None:
             super().exchange(path, other)
@@ -129,7 +129,7 @@ class View(Tree):
             self._made(me, Call.EXCHANGE, path, other)
 
     def stat(self, path: AnyPath) -> Stat:
-        """What stands at a path."""
+        """What is at a path."""
         me = self._me()
         found: Stat = super().stat(path) if me is None else self._made(me, Call.STAT, path)
         return found
