@@ -7,6 +7,7 @@ use Rattle.fs_calls.specs.declared.reply.Reply.{Reply}
 use Rattle.fs_nodes.specs.Graphs.{graph_shapes}
 use Rattle.fs_nodes.specs.Stores.{graph_of}
 use Rattle.fs_timeline.specs.Timeline as timeline
+use Rattle.fs_linearizable.specs.Linearizable.{history, IsLinearizable}
 use Rattle.fs_names.specs.Keys.{Key}
 use Rattle.fs_names.specs.Limits.{node_limit}
 use Rattle.fs_names.specs.Reading.{reading}
@@ -68,9 +69,9 @@ abbrev pub ToldIfClosed : ℕ → Option CoreValue → Option CoreValue → Type
 ToldIfClosed status None new = (status ≡ CLOSED) × (new ≡ None)
 ToldIfClosed status (Some core) new = (status ≡ CLOSED → ⊥) × IsSome new
 
--- the timeline of the core, where there is one, is lawful from its start tree
+-- the timeline of the core, if there is one, is lawful from its start tree, and its history is linearizable
 abbrev pub IsLawful : Option CoreValue → Type 0
-IsLawful new = IfSome new (λ core. timeline.IsLawful core.start core.timeline)
+IsLawful new = IfSome new (λ core. timeline.IsLawful core.start core.timeline × IsLinearizable core.start (history core.timeline))
 
 -- where no call of it is under way, its nodes spell the tree that the commits of its timeline play on its start tree
 abbrev pub IsSpelled : Option CoreValue → Type 0
