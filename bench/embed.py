@@ -3,7 +3,7 @@ checkpoints alone.
 
 With CALLS alone also what files of others take by the same words: a directory on tmpfs, pyfakefs, PyFilesystem2's and fsspec's memory, each beside
 the tree by these words. Of them those are left out, and told, that are not there: Debian's python3-pyfakefs, python3-fs, python3-fsspec.
-With --beside CALLS these alone, word by word and by turns: of each word the processor time of so many, the least of five turns, in microseconds,
+With --beside CALLS [TABLE ..] these alone, or the tables that are named, word by word and by turns: of each word the processor time of so many, the least of five turns, in microseconds,
 and as a ratio to the first of its table. Each word is called a thousand times first, which is what a tree keeps: so each pays for its own calls,
 and not for those before it that are forgotten.
 
@@ -453,9 +453,11 @@ def least_of_turns(sides, calls):
     return least
 
 
-def measure_beside(calls):
+def measure_beside(calls, titles):
     print(f"by {atomfs.binding()}; microseconds, least of {TURNS} turns of {calls}, and over the first")
     for title, sides in TABLES.items():
+        if titles and title not in titles:
+            continue
         there = [side for side in sides if importlib.util.find_spec(side[2]) is not None]
         for side in sides:
             if side not in there:
@@ -505,7 +507,7 @@ if sys.argv[2] == "--long":
     for journal, calls in ((FORGOTTEN, given), (HANDED_OUT, given), (KEPT, min(given, MOST_KEPT))):
         run_long(calls, journal)
 elif sys.argv[2] == "--beside":
-    measure_beside(int(sys.argv[3]))
+    measure_beside(int(sys.argv[3]), sys.argv[4:])
 elif sys.argv[2] == "--checkpoints":
     run_long(int(sys.argv[3]), HANDED_OUT)
 else:

@@ -15,6 +15,7 @@ import tempfile
 import threading
 import unittest
 import unittest.mock
+import warnings
 import weakref
 
 import atomfs
@@ -397,6 +398,19 @@ class Functions(unittest.TestCase):
         # What was kept goes to the disk once the patch has ended.
         self.assertRaises(FileNotFoundError, kept, AT)
         self.assertTrue(os.path.samestat(kept("/"), os.stat("/")))
+
+    def test_warnings(self):
+        """A warning names the line of the caller."""
+        for way in ("extension", "python"):
+            with patched(way), warnings.catch_warnings(record=True) as told:
+                warnings.simplefilter("always")
+                open(f"{AT}/f", "rb", buffering=1).close()
+                open(f"{AT}/./f", "rb", buffering=1).close()
+                os.stat(bytearray(os.fsencode(AT)))
+                os.rename(bytearray(os.fsencode(f"{AT}/f")), f"{AT}/g")
+            kinds = [(one.category, one.filename) for one in told]
+            wanted = [RuntimeWarning] * 2 + [DeprecationWarning] * 2
+            self.assertEqual(kinds, [(kind, __file__) for kind in wanted], way)
 
     def test_is_freed(self):
         """A patch that has ended goes away with its functions, descriptors and tree."""

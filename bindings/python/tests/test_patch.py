@@ -627,7 +627,7 @@ ROWS = {
     "faulthandler.dump_traceback": traced,
     "os.DirEntry": lambda at: [isinstance(one, os.DirEntry) for one in os.scandir(at)],
     "os.statvfs": lambda at: (
-        os.statvfs(f"{at}/f") == os.statvfs(at),
+        os.statvfs(f"{at}/f").f_frsize == os.statvfs(at).f_frsize,
         os.statvfs(at).f_namemax,
         number_of(os.statvfs, f"{at}/none"),
     ),

@@ -12,6 +12,7 @@ import io
 import operator
 import os
 import secrets
+import sys
 import types
 import warnings
 from typing import TYPE_CHECKING, Any, Callable, ContextManager, Dict, NoReturn, Optional, Tuple, Type, TypeVar, cast
@@ -31,6 +32,8 @@ READ = 65_536
 _NOTHING = bytearray()
 # What `io` says of what is not open so.
 _NOT_READ, _NOT_WRITTEN = "File not open for reading", "File not open for writing"
+# Where the files of this package are.
+_PACKAGE = os.path.dirname(os.path.abspath(__file__)) + os.sep
 # What asks `lseek` for data and for holes.
 _OF_HOLES = getattr(os, "SEEK_DATA", 3), getattr(os, "SEEK_HOLE", 4)
 # What keeps the number of a descriptor from the system: C that writes to it by itself gets an error. It has a high number itself.
@@ -81,6 +84,14 @@ def _away(number: int) -> int:
         return number
     _close(number)
     return high
+
+
+def warned(words: str, kind: Type[Warning]) -> None:
+    """Warns of what was given by the first caller that is none of this package."""
+    frame, level = sys._getframe(1), 2
+    while frame.f_back is not None and frame.f_code.co_filename.startswith(_PACKAGE):
+        frame, level = frame.f_back, level + 1
+    warnings.warn(words, kind, level)
 
 
 def failed(number: int, *paths: Any) -> NoReturn:
@@ -540,7 +551,7 @@ class DescribedFile(io.FileIO):
         if getattr(self, "_finalizing", False):
             self._dealloc_warn(self)
         try:
-            super().close()
+            _FileIO.close(self)
         finally:
             if self._closefd:
                 self._files.close(number)
@@ -578,7 +589,7 @@ def file_object(
         return raw if "b" in mode else _unbuffered()
     if buffering == 1 and "b" in mode:
         words = "line buffering (buffering=1) isn't supported in binary mode, the default buffer size will be used"
-        warnings.warn(words, RuntimeWarning, 6)
+        warned(words, RuntimeWarning)
     line = buffering == 1 and "b" not in mode
     if "+" in mode:
         buffer: Any = io.BufferedRandom(raw, buffering if buffering > 1 else BLOCK)

@@ -18,12 +18,11 @@ import subprocess
 import sys
 import time
 import types
-import warnings
 from typing import Any, Callable, Dict, Iterator, List, NamedTuple, Optional, Tuple, Union
 
 from . import _table, _walk
 from ._calls import places
-from ._descriptors import DescribedFile, Descriptors, failed, told, twin_of
+from ._descriptors import DescribedFile, Descriptors, failed, told, twin_of, warned
 from ._door import Door
 from ._imports import imports_again
 from ._mapping import Mapped
@@ -630,7 +629,7 @@ def _bytes_of(name: str, key: str, path: Any, or_number: bool = False) -> bytes:
     """A path of other bytes, which functions of `os` take still."""
     kinds = "string, bytes, os.PathLike or integer" if or_number else "string, bytes or os.PathLike"
     words = f"{name.rpartition('.')[2]}: {key} should be {kinds}, not {type(path).__name__}"
-    warnings.warn(words, DeprecationWarning, 4)
+    warned(words, DeprecationWarning)
     return bytes(path)
 
 
