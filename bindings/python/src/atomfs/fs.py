@@ -11,9 +11,22 @@ A tree keeps no times, owners and permissions, so `setinfo` changes nothing.
 """
 from __future__ import annotations
 
-import contextlib
 import errno
-from typing import TYPE_CHECKING, Any, BinaryIO, Collection, Dict, Iterator, List, Mapping, Optional, Text, Tuple, Type
+from typing import (
+    TYPE_CHECKING,
+    Any,
+    BinaryIO,
+    Collection,
+    ContextManager,
+    Dict,
+    Iterator,
+    List,
+    Mapping,
+    Optional,
+    Text,
+    Tuple,
+    Type,
+)
 
 from fs import errors
 from fs.base import FS
@@ -54,18 +67,26 @@ _OF_MOVES: _Kinds = {**_OF_FILES, errno.EINVAL: errors.ResourceNotFound}
 _OF_DIRECTORIES: _Kinds = {**_OF_ANY, errno.ENOTDIR: errors.DirectoryExpected, errno.EEXIST: errors.DirectoryExists}
 
 
-@contextlib.contextmanager
-def _of(path: str, kinds: _Kinds, action: str) -> Iterator[None]:
-    """Raises PyFilesystem2's error for that of a call."""
-    try:
-        yield
-    except OSError as error:
-        kind = kinds.get(error.errno or 0)
+class _Of(ContextManager[None]):
+    """Within `with` PyFilesystem2's error is raised for that of a call."""
+
+    def __init__(self, path: str, kinds: _Kinds, action: str) -> None:
+        self._path, self._kinds, self._action = path, kinds, action
+
+    def __enter__(self) -> None:
+        pass
+
+    def __exit__(self, kind: Any, error: Any, trace: Any) -> None:
+        if isinstance(error, OSError):
+            raise self._error(error) from error
+
+    def _error(self, error: OSError) -> errors.FSError:
+        kind, path = self._kinds.get(error.errno or 0), self._path
         if kind is None:
-            raise errors.OperationFailed(path=path, exc=error, msg=f"{action}: {error.strerror}") from error
+            return errors.OperationFailed(path=path, exc=error, msg=f"{self._action}: {error.strerror}")
         if kind is errors.InsufficientStorage:
-            raise errors.InsufficientStorage(path=path, exc=error, msg=f"path '{{path}}': {error.strerror}") from error
-        raise kind(path=path, exc=error) from error  # type: ignore[call-arg]
+            return errors.InsufficientStorage(path=path, exc=error, msg=f"path '{{path}}': {error.strerror}")
+        return kind(path=path, exc=error)  # type: ignore[call-arg]
 
 
 class AtomFS(FS):
@@ -98,6 +119,8 @@ class AtomFS(FS):
         #: The tree itself.
         self.atom_tree = Tree(limit, limits=limits, journal=journal) if tree is None else tree
         self._owns = tree is None
+        # No path of so few characters is too long: each is of four bytes at most.
+        self._short = min(self.atom_tree.limits.name_bytes // 4, self.atom_tree.limits.path_names)
 
     def __repr__(self) -> str:
         return f"AtomFS({self.atom_tree!r})"
@@ -119,6 +142,8 @@ class AtomFS(FS):
 
     def validatepath(self, path: Text) -> Text:
         path = super().validatepath(path)
+        if len(path) <= self._short:
+            return path
         names, limits = path.split("/")[1:], self.atom_tree.limits
         if len(names) > limits.path_names:
             raise errors.InvalidPath(path, msg=f"path '{{path}}' has more than {limits.path_names:,} names")
@@ -136,7 +161,7 @@ class AtomFS(FS):
 
     def getinfo(self, path: Text, namespaces: Optional[Collection[Text]] = None) -> Info:
         at = self.validatepath(path)
-        with _of(path, _OF_ANY, "getinfo"):
+        with _Of(path, _OF_ANY, "getinfo"):
             return self._info(basename(at), self.atom_tree.stat(at), namespaces)
 
     def setinfo(self, path: Text, info: Mapping[Text, Mapping[Text, object]]) -> None:
@@ -145,7 +170,7 @@ class AtomFS(FS):
 
     def listdir(self, path: Text) -> List[Text]:
         at = self.validatepath(path)
-        with _of(path, _OF_DIRECTORIES, "listdir"):
+        with _Of(path, _OF_DIRECTORIES, "listdir"):
             return self.atom_tree.listdir(at)
 
     def scandir(
@@ -165,7 +190,7 @@ class AtomFS(FS):
     def makedir(self, path: Text, permissions: Optional[Permissions] = None, recreate: bool = False) -> SubFS[FS]:
         at = self.validatepath(path)
         try:
-            with _of(path, _OF_DIRECTORIES, "makedir"):
+            with _Of(path, _OF_DIRECTORIES, "makedir"):
                 self.atom_tree.mkdir(at)
         except errors.DirectoryExists:
             if not recreate:
@@ -175,19 +200,19 @@ class AtomFS(FS):
     def openbin(self, path: Text, mode: Text = "r", buffering: int = -1, **options: Any) -> BinaryIO:
         Mode(mode).validate_bin()
         at = self.validatepath(path)
-        with _of(path, _OF_FILES, "openbin"):
+        with _Of(path, _OF_FILES, "openbin"):
             return open_file(self.atom_tree, at, mode, buffering)  # type: ignore[return-value]
 
     def remove(self, path: Text) -> None:
         at = self.validatepath(path)
-        with _of(path, _OF_FILES, "remove"):
+        with _Of(path, _OF_FILES, "remove"):
             self.atom_tree.unlink(at)
 
     def removedir(self, path: Text) -> None:
         at = self.validatepath(path)
         if at == "/":
             raise errors.RemoveRootError(path=path)
-        with _of(path, _OF_DIRECTORIES, "removedir"):
+        with _Of(path, _OF_DIRECTORIES, "removedir"):
             self.atom_tree.rmdir(at)
 
     def move(self, src_path: Text, dst_path: Text, overwrite: bool = False, preserve_time: bool = False) -> None:
@@ -199,7 +224,7 @@ class AtomFS(FS):
                 raise errors.DestinationExists(dst_path)
             if self.getinfo(src_path).is_dir:
                 raise errors.FileExpected(src_path)
-            with _of(dst_path, _OF_MOVES, "move"):
+            with _Of(dst_path, _OF_MOVES, "move"):
                 self.atom_tree.rename(source, goal)
 
 
