@@ -227,6 +227,14 @@ class Stored(Case):
         (words,) = re.findall(rb"^# Drawn by: (.*)$", given, re.M)
         self.same(path.name, run(given, *words.decode().split(" ")).output, path.with_suffix(".svg").read_bytes())
 
+    def test_lines_of_helping(self):
+        """The lines of a trace that docs/HELPING.md explains are those of the run that it draws."""
+        given = (ROOT / "docs" / "pictures" / "rename_helps.script").read_bytes()
+        trace = run(given, "trace").output.decode()
+        shown = re.findall(r"^\| `(\d+ .*)` \| ", (ROOT / "docs" / "HELPING.md").read_text(), re.M)
+        self.same("how many there are", len(shown), 3)
+        self.same("the lines that it has not", [line for line in shown if line not in trace.splitlines()], [])
+
     def test_of_the_documents(self):
         """The picture that the README shows."""
         came = run((RUNS / "helped_mkdir.script").read_bytes(), "draw")
