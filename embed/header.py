@@ -18,6 +18,7 @@ VERSIONS = (
     ("bindings/rust/Cargo.toml", r'(?m)(^version = ")[^"]*(")'),
     ("README.md", r"(atomfs-)\d+\.\d+\.\d+(-x86_64-linux)"),
     ("docs/EMBEDDING.md", r"(atomfs-)\d+\.\d+\.\d+(-x86_64-linux)"),
+    ("CITATION.cff", r"(?m)(^version: )\d+\.\d+\.\d+($)"),
 )
 # What Python calls a list of numbers, by the first of them, how its names begin, and what it says.
 NUMBERED = {

@@ -662,7 +662,7 @@ class Numbers(Case):
             )
             words = [sys.executable, top / "embed" / "header.py"]
             status, told = done([*words, "--check"], top)
-            self.assertEqual((status, told.count("is not what embed/header.py makes")), (1, 6), told)
+            self.assertEqual((status, told.count("is not what embed/header.py makes")), (1, 7), told)
             self.same("embed/header.py", done(words, top)[0], 0)
             self.same("and then --check", done([*words, "--check"], top), (0, ""))
             for path, _, pattern in self.versions():

@@ -66,10 +66,18 @@ class Rules(Case):
         self.same(f"{page.name}: sentences above {MOST_OF_A_SENTENCE} words", long, [])
 
     def test_words(self):
-        """Words that the rules replace do not become more."""
-        text = "\n".join(re.sub(r"`[^`\n]*`", "CODE", prose(page)) for page in IN_WORDS)
-        found = {form: len(re.findall(form, text, re.M | re.I)) for form in MOST}
-        self.same("forms that became more", {form: n for form, n in found.items() if n > MOST[form]}, {})
+        """Words that the rules replace do not become more. Of a form that did, each place is named."""
+        for form, most in MOST.items():
+            found = [place for page in IN_WORDS for place in self.places(form, page)]
+            self.same(f"`{form}`, at most {most} times", found if len(found) > most else [], [])
+
+    @staticmethod
+    def places(form, page):
+        """Where a page has a form, with some words around it."""
+        text = re.sub(r"`[^`\n]*`", "CODE", prose(page))
+        for found in re.finditer(form, text, re.M | re.I):
+            around = text[max(0, found.start() - 40) : found.end() + 40]
+            yield f"{page.relative_to(ROOT)}: {' '.join(around.split())}"
 
     def test_kinds(self):
         """The list of pages has each page of docs/, with its kind."""
