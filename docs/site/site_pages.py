@@ -35,6 +35,8 @@ BAR = (
             ("docs/FIRST-RACE.md", "First race"),
             ("examples/tour/README.md", "Tour"),
             ("docs/RACES.md", "Your own functions"),
+            ("docs/SCHEDULES.md", "Schedules"),
+            ("docs/PATCHES.md", "Patches"),
             ("docs/TEST-A-FILE-SYSTEM.md", "Test a file system"),
             ("bindings/python/README.md", "Python"),
             ("bindings/rust/README.md", "Rust"),
@@ -43,6 +45,9 @@ BAR = (
             ("docs/SPECIFICATION.md", "Specification"),
             ("docs/FORMATS.md", "Formats"),
             ("docs/COMMANDS.md", "Commands"),
+            ("docs/PICTURES.md", "Traces and pictures"),
+            ("docs/PLAYER.md", "Playing a run"),
+            ("docs/PERFORMANCE.md", "Performance"),
         ),
     ),
     (
