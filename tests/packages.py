@@ -21,6 +21,7 @@ import zipfile
 import harness
 from documents import PACKAGES, blocks, constants, spans
 from harness import ROOT, Case
+from website import has_markdown
 
 BINDINGS, EMBED, CRATES = ROOT / "bindings", ROOT / "embed", ROOT / "crates"
 HEADER = (EMBED / "atomfs.h").read_text()
@@ -170,6 +171,9 @@ class OfTheArchive(Installed):
             with self.subTest(str(page)):
                 self.same(page, (self.prefix / "share" / "atomfs" / page.name).read_text(), (ROOT / page).read_text())
         self.same("include/atomfs.h", (self.prefix / "include" / "atomfs.h").read_text(), HEADER)
+        if has_markdown():
+            first = self.prefix / "share" / "doc" / "atomfs" / "index.html"
+            self.same("the pages for a browser", first.is_file(), True)
 
     def test_no_paths(self):
         """No file of it names the folder where it was built."""
