@@ -41,6 +41,7 @@ _KEEPER, _AWAY = "/dev/null", 512
 _keeper = -1
 # Those of the disk: a patch puts others into the modules meanwhile.
 _FileIO, _dup, _open, _close, _fstat = io.FileIO, os.dup, os.open, os.close, os.fstat
+_new: Any = io.FileIO.__new__
 _mkdir, _chdir, _fchdir, _rmdir = os.mkdir, os.chdir, os.fchdir, os.rmdir
 # Where a directory may be made for a moment.
 _FOLDERS = "/tmp", "/var/tmp", "/dev/shm"
@@ -465,7 +466,7 @@ class DescribedFile(io.FileIO):
     @classmethod
     def of(cls, files: Descriptors, descriptor: int, name: Any, mode: str, closefd: bool) -> DescribedFile:
         """The file object of a descriptor."""
-        made = cls.__new__(cls)
+        made: DescribedFile = _new(cls)
         made._begin(files, descriptor, name, mode, closefd)
         return made
 
@@ -583,6 +584,8 @@ def file_object(
     newline: Optional[str],
 ) -> Any:
     """The file object of the builtin `open` over a raw one."""
+    if buffering == -1 and mode == "rb":
+        return io.BufferedReader(raw, BLOCK)
     if buffering < -1:
         raise ValueError("invalid buffering size")
     if buffering == 0:

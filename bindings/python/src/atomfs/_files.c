@@ -25,7 +25,7 @@ typedef struct {
     char reads, writes, appends;
 } Description;
 
-#define EACH_WORD(DO) DO(read) DO(write) DO(seek) DO(stat) DO(of)
+#define EACH_WORD(DO) DO(read) DO(write) DO(seek) DO(stat) DO(of) DO(root) DO(entries)
 #define WORD(name) PyObject *word_##name;
 
 /* The descriptors of a tree, by their numbers, and the nodes by their paths; what gives a number away; and what does the rest. */
@@ -335,6 +335,33 @@ static PyObject *files_seek(Files *self, PyObject *const *given, Py_ssize_t coun
 
 /* ---- Open and close */
 
+/* What is kept of the node at a path, held, from what is kept of the root on; none, without an error, where nothing is, or of the other kind. */
+static PyObject *kept_at(Files *self, PyObject *metadata, PyObject *path, int is_dir) {
+    Py_ssize_t size;
+    const char *at = PyUnicode_AsUTF8AndSize(path, &size), *end = at + size;
+    PyObject *one = at == NULL ? NULL : PyObject_GetAttr(metadata, self->word_root), *entries = NULL;
+    if (one != NULL) entries = PyObject_GetAttr(one, self->word_entries);
+    while (entries != NULL && at < end) {
+        const char *behind = memchr(at, '/', (size_t)(end - at));
+        Py_ssize_t length = (behind == NULL ? end : behind) - at;
+        if (length > 0) {
+            PyObject *name = PyUnicode_FromStringAndSize(at, length);
+            PyObject *below = name != NULL && PyDict_Check(entries) ? PyDict_GetItemWithError(entries, name) : NULL;
+            Py_XDECREF(name);
+            Py_XINCREF(below);
+            Py_DECREF(one);
+            Py_DECREF(entries);
+            one = below;
+            entries = one == NULL ? NULL : PyObject_GetAttr(one, self->word_entries);
+        }
+        at += length + 1;
+    }
+    if (entries == NULL || (entries != Py_None) != is_dir) Py_CLEAR(one);
+    Py_XDECREF(entries);
+    PyErr_Clear();
+    return one;
+}
+
 /* The node at a path, held; none, without an error, where the rest is to find it. */
 static PyObject *node_at(Files *self, PyObject *path, int is_dir) {
     PyObject *node = PyDict_GetItemWithError(self->nodes, path);
@@ -342,7 +369,8 @@ static PyObject *node_at(Files *self, PyObject *path, int is_dir) {
     if (node != NULL && is_node(node) && ((Node *)node)->is_dir == is_dir) return Py_NewRef(node);
     PyObject *metadata = PyObject_GetAttr(self->tree, self->word_metadata), *inode = NULL;
     node = NULL;
-    if (metadata != NULL && metadata != Py_None)
+    if (metadata != NULL && metadata != Py_None) inode = kept_at(self, metadata, path, is_dir);
+    if (inode == NULL && metadata != NULL && metadata != Py_None)
         inode = PyObject_CallMethodObjArgs(metadata, self->word_of, path, is_dir ? Py_True : Py_False, NULL);
     if (inode != NULL) node = node_made(self->node_type, path, is_dir, inode);
     if (node != NULL && PyDict_SetItem(self->nodes, path, node) < 0) Py_CLEAR(node);

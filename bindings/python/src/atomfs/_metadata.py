@@ -76,7 +76,8 @@ class Inode:
 
     def _result(self, device: int, size: int) -> os.stat_result:
         accessed, modified, changed = self.accessed, self.modified, self.changed
-        first, last = _seconds(accessed), _seconds(modified)
+        last = _seconds(modified)
+        first = last if accessed == modified else _seconds(accessed)
         since = last if changed == modified else _seconds(changed)
         words = self.mode, self.number, device, self.links, self.uid, self.gid, size, first[0], last[0], since[0]
         return os.stat_result(

@@ -462,7 +462,8 @@ class patch(OfC, contextlib.ContextDecorator):
             raise ValueError(_KEPT_OPEN)
         sandbox = self._sandbox
         descriptor = sandbox.open(place, flags_of(mode), 0o666)
-        return sandbox.file(descriptor, os.fspath(file), mode, buffering, encoding, errors, newline)
+        name = file if file.__class__ is str else os.fspath(file)
+        return sandbox.file(descriptor, name, mode, buffering, encoding, errors, newline)
 
     def _open_code(self, real: Function) -> Function:
         opened = self._open(lambda path, *given: real(path))

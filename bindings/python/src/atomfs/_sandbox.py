@@ -129,10 +129,11 @@ class Entries:
     """What `os.scandir` answers: an iterator, which `with` closes."""
 
     def __init__(self, entries: List[Entry]) -> None:
-        self._entries, self._open = iter(entries), True
+        self._count, self._entries, self._open = len(entries), iter(entries), True
 
     def __iter__(self) -> Iterator[Entry]:
-        return self
+        # A loop over it is one over the list.
+        return self._entries
 
     def __next__(self) -> Entry:
         for entry in self._entries:
@@ -147,11 +148,13 @@ class Entries:
         self.close()
 
     def close(self) -> None:
-        """Ends it."""
-        self._entries, self._open = iter(()), False
+        """Ends it, and so does a loop that goes over it."""
+        if self._open:
+            self._entries.__setstate__(self._count)  # type: ignore[attr-defined]
+            self._open = False
 
     def __del__(self) -> None:
-        if getattr(self, "_open", False):
+        if getattr(self, "_open", False) and operator.length_hint(self._entries):
             warnings.warn(f"unclosed scandir iterator {self!r}", ResourceWarning, 1, self)
 
 
@@ -711,8 +714,7 @@ class Sandbox(Attributes):
 
     def check_file(self, descriptor: int, name: Any, closefd: bool) -> None:
         """Raises where a descriptor is of a directory, and closes it if it was opened for that."""
-        description = self._files._of.get(descriptor)
-        if (description or self._files.of(descriptor)).node.is_dir:
+        if self._files.of(descriptor).node.is_dir:
             if closefd and not isinstance(name, int):
                 self._files.close(descriptor)
             failed(errno.EISDIR, name)
@@ -729,8 +731,11 @@ class Sandbox(Attributes):
         closefd: bool = True,
     ) -> Any:
         """The file object of a descriptor. Where it cannot be made, the descriptor is closed if it was to be."""
-        self.check_file(descriptor, name, closefd)
-        raw = DescribedFile.of(self._files, descriptor, name, _kind_of(mode), closefd)
+        files = self._files
+        description = files._of.get(descriptor)
+        if description is None or description.node.is_dir:
+            self.check_file(descriptor, name, closefd)
+        raw = DescribedFile.of(files, descriptor, name, _kind_of(mode), closefd)
         try:
             return file_object(raw, mode, buffering, encoding, errors, newline)
         except BaseException:
