@@ -305,10 +305,15 @@ class BothWays(unittest.TestCase):
             os.symlink(at, f"{self.folder}/in/link")
 
         def played(tree):
-            return [outcome(os.listdir, path) for path in (f"{self.folder}/in/link", at, f"{self.folder}/in")]
+            yield from (outcome(os.listdir, path) for path in (f"{self.folder}/in/link", at, f"{self.folder}/in"))
+            # Also by a path that does not name the tree.
+            yield outcome(os.mkdir, f"{self.folder}/in/link/g")
+            yield outcome(os.rename, f"{at}/g", f"{self.folder}/in/link/h")
+            yield outcome(os.stat, f"{at}/h"), outcome(os.listdir, at)
 
-        answers = self.both(played, begin, at=at)
-        self.assertEqual(answers, [["d", "f"], ["d", "f"], ["link"]])
+        answers = self.both(lambda tree: list(played(tree)), begin, at=at)
+        self.assertEqual(answers[:3], [["d", "f"], ["d", "f"], ["link"]])
+        self.assertEqual((answers[3:5], answers[5][1]), ([None, None], ["d", "f", "h"]))
 
     def test_removed(self):
         """An open file that is removed, renamed and replaced; one that another descriptor has; a closed one."""

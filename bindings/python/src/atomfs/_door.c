@@ -121,13 +121,12 @@ static PyObject *below_root(Door *door, PyObject *text) {
 
 /* Where a path leads that is given without a directory: of one inside, the place. */
 static int leads(Door *door, PyObject *given, PyObject **place) {
-    if (door->shadows) return UNKNOWN;
     PyObject *text = text_of(given);
     if (text == NULL) return UNKNOWN;
     int to = UNKNOWN, named = PyUnicode_Contains(text, door->name);
     int absolute = PyUnicode_GetLength(text) > 0 && PyUnicode_ReadChar(text, 0) == '/';
     if (named == 0 && PyUnicode_GetLength(text) > 0) {
-        int elsewhere = absolute ? 0 : works_inside(door);
+        int elsewhere = door->shadows ? 1 : absolute ? 0 : works_inside(door);
         to = elsewhere < 0 ? FAILED : elsewhere ? UNKNOWN : OUTSIDE;
     } else if (named > 0 && absolute) {
         PyObject *inside = below_root(door, text);

@@ -66,7 +66,7 @@ class Places:
     def plain(self, text: str) -> Optional[str]:
         """The path in the tree of an absolute one that is written so: each name behind one slash, none of them of dots, and no link on the way.
         Of any other there is none here."""
-        if self._shadows or self._name not in text or self._metadata().links:
+        if self._name not in text or self._metadata().links:
             return None
         for root in self._roots:
             if text.startswith(root):
