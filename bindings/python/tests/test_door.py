@@ -19,7 +19,7 @@ import warnings
 import weakref
 
 import atomfs
-from atomfs import _calls, _descriptors, _door, _sandbox
+from atomfs import _calls, _descriptors, _door, _metadata, _sandbox
 from atomfs._places import Place
 
 # How many calls are drawn.
@@ -51,6 +51,7 @@ def in_python(stack):
     """Lets a patch that begins within be made in Python alone."""
     for module, names in (
         (_calls, {"extension": None}),
+        (_metadata, {"_kept": _metadata._kept_in_python}),
         (_door, {"extension": None}),
         (_descriptors, {"extension": None}),
         *((module, {"Node": _descriptors.PureNode}) for module in (_descriptors, _sandbox)),
@@ -490,6 +491,42 @@ class Functions(unittest.TestCase):
                 # There is nothing that does the rest.
                 self.assertRaises(AttributeError, call, 3)
             self.assertIsNone(files.open_there("/", os.O_CREAT))
+
+    @unittest.skipUnless(HAS_EXTENSION, "the extension")
+    def test_kept(self):
+        """What is kept of a node is found by both ways."""
+        with atomfs.Tree() as tree, atomfs.patch(tree, AT):
+            os.makedirs(f"{AT}/a/ü")
+            with open(f"{AT}/a/ü/\udcff", "w"), open(f"{AT}/f", "w"):
+                pass
+            root = tree._metadata.root
+        paths = (
+            "",
+            "/",
+            "//",
+            "/a",
+            "/a/",
+            "//a//ü",
+            "/a/ü/\udcff",
+            "/f",
+            "/f/",
+            "/f/x",
+            "/none",
+            "/a/none",
+            "a/ü",
+            "/a/ü/none/x",
+        )
+        for path in paths:
+            for is_dir in (True, False):
+                found = [
+                    kept("entries", root, path, is_dir) for kept in (_calls.extension.kept, _metadata._kept_in_python)
+                ]
+                # Of a path that is no UTF-8 the rest speaks.
+                self.assertIs(found[0], None if "\udcff" in path else found[1], (path, is_dir))
+        self.assertIs(_calls.extension.kept("entries", root, "/a", True), root.entries["a"])
+        for given in ((), (1, root, "/", True), ("entries", root, 1, True), ("entries", root, "/")):
+            self.assertRaises(TypeError, _calls.extension.kept, *given)
+        self.assertIsNone(_calls.extension.kept("entries", 3, "/", True))
 
 
 if __name__ == "__main__":

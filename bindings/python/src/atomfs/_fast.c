@@ -794,10 +794,12 @@ failed:
     return NULL;
 }
 
-static PyMethodDef module_methods[] = { { "functions", functions, METH_O, "The functions at these addresses." },
-                                        { "places", (PyCFunction)(void (*)(void))places, METH_FASTCALL,
-                                          "Where objects are in dictionaries." },
-                                        { NULL, NULL, 0, NULL } };
+static PyMethodDef module_methods[] = {
+    { "functions", functions, METH_O, "The functions at these addresses." },
+    { "places", (PyCFunction)(void (*)(void))places, METH_FASTCALL, "Where objects are in dictionaries." },
+    { "kept", (PyCFunction)(void (*)(void))atomfs_kept, METH_FASTCALL, "What is kept of the node at a path." },
+    { NULL, NULL, 0, NULL }
+};
 
 int atomfs_add_types(PyObject *module, PyType_Spec **specs, int count) {
     for (int at = 0; at < count; at++) {

@@ -14,5 +14,7 @@ int atomfs_add_types(PyObject *module, PyType_Spec **specs, int count);
 /* Adds those of `_door.c`, and those of `_files.c`. */
 int atomfs_add_door(PyObject *module);
 int atomfs_add_files(PyObject *module);
+/* A function of the module. */
+PyObject *atomfs_kept(PyObject *module, PyObject *const *given, Py_ssize_t count);
 
 #endif

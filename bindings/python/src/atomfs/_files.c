@@ -185,6 +185,47 @@ static PyType_Slot description_slots[] = { { Py_tp_new, description_new },
 static PyType_Spec description_spec = { "atomfs._fast.Description", sizeof(Description), 0,
                                         Py_TPFLAGS_DEFAULT | Py_TPFLAGS_HAVE_GC, description_slots };
 
+/* ---- What is kept of a node */
+
+/* What is kept of the node at a path, held, from what is kept of the root on; none, without an error, where nothing is, or of the other kind.
+ * Of a directory its entries are an attribute of this name, and of a file that is none. */
+static PyObject *kept_below(PyObject *root, PyObject *word, PyObject *path, int is_dir) {
+    Py_ssize_t size;
+    const char *at = PyUnicode_AsUTF8AndSize(path, &size), *end = at + size;
+    PyObject *one = at == NULL ? NULL : Py_NewRef(root), *entries = NULL;
+    if (one != NULL) entries = PyObject_GetAttr(one, word);
+    while (entries != NULL && at < end) {
+        const char *behind = memchr(at, '/', (size_t)(end - at));
+        Py_ssize_t length = (behind == NULL ? end : behind) - at;
+        if (length > 0) {
+            PyObject *name = PyUnicode_FromStringAndSize(at, length);
+            PyObject *below = name != NULL && PyDict_Check(entries) ? PyDict_GetItemWithError(entries, name) : NULL;
+            Py_XDECREF(name);
+            Py_XINCREF(below);
+            Py_DECREF(one);
+            Py_DECREF(entries);
+            one = below;
+            entries = one == NULL ? NULL : PyObject_GetAttr(one, word);
+        }
+        at += length + 1;
+    }
+    if (entries == NULL || (entries != Py_None) != is_dir) Py_CLEAR(one);
+    Py_XDECREF(entries);
+    PyErr_Clear();
+    return one;
+}
+
+PyObject *atomfs_kept(PyObject *Py_UNUSED(module), PyObject *const *given, Py_ssize_t count) {
+    if (count != 4 || !PyUnicode_Check(given[0]) || !PyUnicode_Check(given[2])) {
+        PyErr_SetString(PyExc_TypeError,
+                        "the name of an attribute, a root, a path, and whether it is of a directory are taken");
+        return NULL;
+    }
+    int is_dir = PyObject_IsTrue(given[3]);
+    PyObject *one = is_dir < 0 ? NULL : kept_below(given[1], given[0], given[2], is_dir);
+    return is_dir < 0 ? NULL : one != NULL ? one : Py_NewRef(Py_None);
+}
+
 /* ---- Around a call */
 
 static int enter(Files *self) {
@@ -335,33 +376,6 @@ static PyObject *files_seek(Files *self, PyObject *const *given, Py_ssize_t coun
 
 /* ---- Open and close */
 
-/* What is kept of the node at a path, held, from what is kept of the root on; none, without an error, where nothing is, or of the other kind. */
-static PyObject *kept_at(Files *self, PyObject *metadata, PyObject *path, int is_dir) {
-    Py_ssize_t size;
-    const char *at = PyUnicode_AsUTF8AndSize(path, &size), *end = at + size;
-    PyObject *one = at == NULL ? NULL : PyObject_GetAttr(metadata, self->word_root), *entries = NULL;
-    if (one != NULL) entries = PyObject_GetAttr(one, self->word_entries);
-    while (entries != NULL && at < end) {
-        const char *behind = memchr(at, '/', (size_t)(end - at));
-        Py_ssize_t length = (behind == NULL ? end : behind) - at;
-        if (length > 0) {
-            PyObject *name = PyUnicode_FromStringAndSize(at, length);
-            PyObject *below = name != NULL && PyDict_Check(entries) ? PyDict_GetItemWithError(entries, name) : NULL;
-            Py_XDECREF(name);
-            Py_XINCREF(below);
-            Py_DECREF(one);
-            Py_DECREF(entries);
-            one = below;
-            entries = one == NULL ? NULL : PyObject_GetAttr(one, self->word_entries);
-        }
-        at += length + 1;
-    }
-    if (entries == NULL || (entries != Py_None) != is_dir) Py_CLEAR(one);
-    Py_XDECREF(entries);
-    PyErr_Clear();
-    return one;
-}
-
 /* The node at a path, held; none, without an error, where the rest is to find it. */
 static PyObject *node_at(Files *self, PyObject *path, int is_dir) {
     PyObject *node = PyDict_GetItemWithError(self->nodes, path);
@@ -369,7 +383,9 @@ static PyObject *node_at(Files *self, PyObject *path, int is_dir) {
     if (node != NULL && is_node(node) && ((Node *)node)->is_dir == is_dir) return Py_NewRef(node);
     PyObject *metadata = PyObject_GetAttr(self->tree, self->word_metadata), *inode = NULL;
     node = NULL;
-    if (metadata != NULL && metadata != Py_None) inode = kept_at(self, metadata, path, is_dir);
+    PyObject *root = metadata == NULL || metadata == Py_None ? NULL : PyObject_GetAttr(metadata, self->word_root);
+    if (root != NULL) inode = kept_below(root, self->word_entries, path, is_dir);
+    Py_XDECREF(root);
     if (inode == NULL && metadata != NULL && metadata != Py_None)
         inode = PyObject_CallMethodObjArgs(metadata, self->word_of, path, is_dir ? Py_True : Py_False, NULL);
     if (inode != NULL) node = node_made(self->node_type, path, is_dir, inode);

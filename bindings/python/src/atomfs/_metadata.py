@@ -10,6 +10,7 @@ import stat
 import time
 from typing import TYPE_CHECKING, Callable, Dict, List, Optional, Tuple
 
+from ._calls import extension
 from ._errors import AnyPath
 from ._library import Call
 from ._walk import text_of
@@ -115,6 +116,20 @@ def _seconds(time: int) -> Tuple[int, float]:
     return whole, whole + 1e-9 * rest
 
 
+def _kept_in_python(word: str, root: Inode, path: str, is_dir: bool) -> Optional[Inode]:
+    """What is kept of the node at a path, from what is kept of the root on: none where nothing is, or of the other kind."""
+    one: Optional[Inode] = root
+    for name in path.split("/"):
+        if name:
+            below = one.entries if one is not None else None
+            one = below.get(name) if below is not None else None
+    return one if one is not None and (one.entries is not None) == is_dir else None
+
+
+# By the extension it is a function of C.
+_kept = _kept_in_python if extension is None else extension.kept
+
+
 class Metadata:
     """What is kept of the nodes of one tree."""
 
@@ -188,14 +203,8 @@ class Metadata:
 
     def of(self, path: str, is_dir: bool) -> Inode:
         """What is kept of the node at a path, of which the tree says whether it is a directory."""
-        one: Optional[Inode] = self.root
-        for name in path.split("/"):
-            if name:
-                below = one.entries if one is not None else None
-                one = below.get(name) if below is not None else None
-        if one is not None and (one.entries is not None) == is_dir:
-            return one
-        return self.entry(path, is_dir)[1]
+        one = _kept("entries", self.root, path, is_dir)
+        return one if one is not None else self.entry(path, is_dir)[1]
 
     def entry(self, path: str, is_dir: bool) -> Tuple[Inode, Inode]:
         """What is kept of the directory above a path, and of the node there."""
@@ -204,6 +213,10 @@ class Metadata:
 
     def _above(self, path: str) -> Tuple[Inode, str]:
         """The directory in which a path ends, and its last name: of the root none."""
+        folder, _, name = path.rpartition("/")
+        known = _kept("entries", self.root, folder, True) if name else None
+        if known is not None:
+            return known, name
         above, last = self.root, ""
         for name in path.split("/"):
             if name:

@@ -337,8 +337,8 @@ class Sandbox(Attributes):
 
     def _made(self, place: Place, mode: int) -> None:
         """A node was made with these permissions."""
-        metadata = self._metadata()
-        above, inode = metadata.entry(_at(place), stat.S_ISDIR(mode))
+        metadata, at = self._metadata(), _at(place)
+        above, inode = metadata.of(at.rpartition("/")[0], True), metadata.of(at, stat.S_ISDIR(mode))
         inode.mode = mode & ~metadata.mask
         if above.mode & stat.S_ISGID:
             # A directory gives its group on.
