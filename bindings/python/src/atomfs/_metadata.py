@@ -127,7 +127,7 @@ def _kept_in_python(word: str, root: Inode, path: str, is_dir: bool) -> Optional
 
 
 # By the extension it is a function of C.
-_kept = _kept_in_python if extension is None else extension.kept
+_kept: Callable[..., Optional[Inode]] = _kept_in_python if extension is None else extension.kept
 
 
 class Metadata:
