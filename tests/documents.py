@@ -1815,7 +1815,10 @@ class Numbers(Sentences):
     def test_figures(self):
         """The figures of docs/CHOOSING.md are those of docs/PERFORMANCE.md."""
         heads = (
-            (("Call", "disk (tmpfs)", "`atomfs.patch`", "pyfakefs"), ("Call", "disk", "`atomfs.patch`", "pyfakefs")),
+            (
+                ("Call", "disk (tmpfs)", "`atomfs.patch`", "pyfakefs"),
+                ("Call", "disk", "`atomfs.patch`", "pyfakefs", "patch over disk"),
+            ),
             (("Call", "`os` on tmpfs", "`Tree`"), ("Call", "`os`", "`Tree`, by the extension", "`Tree`, by ctypes")),
         )
         for here, there in heads:
