@@ -240,7 +240,8 @@ class BothWays(unittest.TestCase):
             os.makedirs(f"{self.folder}/in")
             os.chdir(self.folder)
             begin()
-            with patched(way, **words) as tree:
+            with patched(way, **words) as tree, warnings.catch_warnings():
+                warnings.simplefilter("ignore")
                 kind = type(os.stat).__module__ + "." + type(os.stat).__name__
                 self.assertEqual(kind, "atomfs._fast.Function" if way == "extension" else "atomfs._door.Replaced")
                 answers = played(tree)

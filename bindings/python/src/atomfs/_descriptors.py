@@ -41,7 +41,7 @@ _KEEPER, _AWAY = "/dev/null", 512
 _keeper = -1
 # Those of the disk: a patch puts others into the modules meanwhile.
 _FileIO, _dup, _open, _close, _fstat = io.FileIO, os.dup, os.open, os.close, os.fstat
-_new: Any = io.FileIO.__new__
+_new, _begin = io.FileIO.__new__, io.FileIO.__init__
 _mkdir, _chdir, _fchdir, _rmdir = os.mkdir, os.chdir, os.fchdir, os.rmdir
 # Where a directory may be made for a moment.
 _FOLDERS = "/tmp", "/var/tmp", "/dev/shm"
@@ -458,7 +458,7 @@ class DescribedFile(io.FileIO):
             kind._disk.__init__(self, *words)
 
     def _begin(self, files: Descriptors, descriptor: int, name: Any, mode: str, closefd: bool) -> None:
-        _FileIO.__init__(self, descriptor, mode, False)
+        _begin(self, descriptor, mode, False)
         self._files, self._closefd, self.name = files, closefd, name
         if mode[0] == "a":
             self.seek(0, os.SEEK_END)

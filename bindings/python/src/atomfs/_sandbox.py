@@ -535,8 +535,9 @@ class Sandbox(Attributes):
     def open(self, place: Place, flags: int, mode: int = 0o777, **named: Any) -> int:
         if mode.__class__ is not int:
             mode = _whole(mode)
-        if not self.enforce and not place.of_directory:
-            number = self._files.open_there(_at(place), flags)
+        at = place.inside
+        if at is not None and not self.enforce and not place.of_directory:
+            number = self._files.open_there(at, flags)
             if number is not None:
                 return number
         with self.tree._door:
