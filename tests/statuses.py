@@ -136,6 +136,11 @@ class Words(Case):
                     Outcome(0, b'{"times":3,"seed":7,"digest":"%s","replies":{"t#1":"ok"}}\n' % DIGEST),
                 ),
                 (
+                    "outcomes --seed 7 --runs 3 --never 'helped t#1' --always 'tree dir /' --json --all",
+                    of(ONE_CALL),
+                    Outcome(0, b'{"times":3,"seed":7,"digest":"%s","replies":{"t#1":"ok"}}\n' % DIGEST),
+                ),
+                (
                     "find --where 'helped t#1' --seed 7 --runs 3 --json",
                     of(ONE_CALL),
                     Outcome(1, b'{"seed":null}\n', b"atomfs: no run of 3 from seed 7 on has it\n"),
@@ -538,6 +543,10 @@ class Words(Case):
                     misused("the argument '--add' cannot be used with '--runs <K>'", of_outcomes),
                 ),
                 ("outcomes --add --trees", misused("the argument '--add' cannot be used with '--trees'", of_outcomes)),
+                (
+                    "outcomes --add --sometimes 'helped t#1'",
+                    misused("the argument '--add' cannot be used with '--sometimes <WHAT>'", of_outcomes),
+                ),
                 (
                     "linearize --front --many",
                     misused("the argument '--front' cannot be used with '--many'", "linearize [OPTIONS] [FILE]"),

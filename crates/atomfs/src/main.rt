@@ -13,18 +13,19 @@ ghost use Rattle.fs_arguments.specs.Commands.{IsWithin};
 ghost use Rattle.fs_sched.specs.declared.seeding.TheConstants.{SEED_LIMIT};
 ghost use Rattle.fs_find.specs.declared.finding.TheConstants.{SEARCH_LIMIT};
 
-use fs_arguments::{Format, Histories, Invocation, Subcommand, parse};
+use fs_arguments::{Asserted, Format, Histories, Invocation, Subcommand, parse};
 use fs_command::{
-    Erasing, Input, Kept, Line, Screen, SharedLine, report, report_check, report_draw,
-    report_fault, report_file, report_find, report_from, report_linearize, report_many,
-    report_picture, report_schedule, report_shrink, report_trace, report_tree, report_unopened,
-    report_words, status_of_run, status_of_unreadable_args, status_of_usage, status_of_verdict,
-    tell_reading,
+    Erasing, Input, Kept, Line, Screen, SharedLine, report, report_asserted, report_check,
+    report_draw, report_fault, report_file, report_find, report_from, report_linearize,
+    report_many, report_picture, report_schedule, report_shrink, report_trace, report_tree,
+    report_unopened, report_words, status_of_run, status_of_unreadable_args, status_of_usage,
+    status_of_verdict, tell_reading,
 };
 use fs_draw::{DrawFault, draw_input};
 use fs_entries::trace_input;
 use fs_explain::{Topic, explanation};
 use fs_find::{Clause, FindFault, find_seed, read_what};
+use fs_litmus::{Assertion, assert_outcomes, read_assertion};
 use fs_objects::{check_object, find_object, seed_objects};
 use fs_outcomes::{Form, add_outcomes, run_outcomes};
 use fs_recorded::{Histories as Found, Linearized, Untold, linearize_history, linearize_many};
@@ -328,6 +329,92 @@ fn outcomes_shown<C: Clock, R: Source, W: Sink>(
     outcome
 }
 
+/// What is asserted of drawn runs, read from words. Where these say nothing, the answer is the status, and the message is written.
+fn assertions_of<'a, E: Write>(
+    alloc: Global,
+    asserted: &[Asserted<'a>],
+    errors: &mut E,
+) -> Result<Vec<Assertion<'a>>, u8> {
+    let mut asserts = Vec::new(alloc);
+    for said in asserted {
+        let assertion = match read_assertion(alloc, said.quantifier, said.text) {
+            Ok(assertion) => assertion,
+            Err(fault) => return Err(report_words(errors, said.quantifier.word(), fault)),
+        };
+        if asserts.push(assertion).is_err() {
+            return Err(report_fault(errors, RunFault::OutOfMemory));
+        }
+    }
+    Ok(asserts)
+}
+
+/// Counts the ends of drawn runs of a script and decides what is asserted of these, and tells on a terminal how far the runs are.
+fn asserts_shown<C: Clock, R: Source, W: Sink>(
+    clock: &C,
+    alloc: Global,
+    reader: &mut R,
+    writer: &mut W,
+    asserts: &[Assertion<'_>],
+    numbers: (u64, u64),
+    form: Form,
+    screen: &Screen,
+) -> Result<Vec<Option<u64>>, FindFault>
+    requires reads { R.failures reader.old < 2 ^ 64 - 1 }
+    requires writes { W.failures writer.old < 2 ^ 64 - 1 }
+    requires within { IsWithin (Subcommand.Outcomes numbers.0 numbers.1 form) }
+{
+    let (first, runs) = numbers;
+    if !screen.is_terminal() {
+        return assert_outcomes(
+            alloc,
+            reader,
+            writer,
+            asserts,
+            first,
+            runs,
+            form,
+            &mut Silent,
+        );
+    }
+    let mut line = Line::new(clock, screen);
+    let outcome = assert_outcomes(alloc, reader, writer, asserts, first, runs, form, &mut line);
+    screen.erase();
+    outcome
+}
+
+/// The same of what words assert, which are read first, and answers the exit status.
+fn asserted_outcomes<C: Clock, R: Source, W: Sink, E: Write>(
+    clock: &C,
+    alloc: Global,
+    asserted: &[Asserted<'_>],
+    numbers: (u64, u64),
+    form: Form,
+    reader: &mut Kept<R>,
+    writer: &mut W,
+    errors: &mut E,
+    screen: &Screen,
+) -> u8
+    requires reads { R.failures reader.old.inner < 2 ^ 64 - 1 }
+    requires writes { W.failures writer.old < 2 ^ 64 - 1 }
+    requires within { IsWithin (Subcommand.Outcomes numbers.0 numbers.1 form) }
+{
+    let asserts = match assertions_of(alloc, asserted, errors) {
+        Ok(asserts) => asserts,
+        Err(status) => return status,
+    };
+    let outcome = asserts_shown(
+        clock, alloc, reader, writer, &asserts, numbers, form, screen,
+    );
+    report_asserted(
+        errors,
+        &reader.seen,
+        &asserts,
+        numbers.0,
+        numbers.1,
+        outcome,
+    )
+}
+
 /// Adds up lines of ends, and answers the status.
 fn added_outcomes<R: Source, W: Sink>(
     alloc: Global,
@@ -410,7 +497,7 @@ fn find<C: Clock, R: Source, W: Sink, E: Write>(
 {
     let what = match read_what(alloc, what.as_bytes()) {
         Ok(what) => what,
-        Err(fault) => return report_words(errors, fault),
+        Err(fault) => return report_words(errors, "where", fault),
     };
     let outcome = find_shown(
         clock,
@@ -438,7 +525,7 @@ fn shrink<R: Source, W: Sink, E: Write>(
 {
     let what = match read_what(alloc, what.as_bytes()) {
         Ok(what) => what,
-        Err(fault) => return report_words(errors, fault),
+        Err(fault) => return report_words(errors, "where", fault),
     };
     let outcome = shrink_script(alloc, reader, writer, what.as_slice());
     report_shrink(errors, &reader.seen, outcome)
@@ -508,12 +595,13 @@ fn many_shown<C: Clock, R: Source, W: Sink>(
     outcome
 }
 
-/// Does what a subcommand asks for, from a reader to a writer, and answers the exit status. The message of a fault goes
+/// Does what a subcommand asks for, and what is asserted of its runs, from a reader to a writer, and answers the exit status. The message of a fault goes
 /// to `errors`. Where these are shown on a terminal, that is told how far a long command is.
 fn perform<T: Threads + Wait + Clock + Files + Sync, R: Source, W: Sink, E: Write>(
     rt: &T,
     alloc: Global,
     subcommand: &Subcommand<'_>,
+    asserted: &[Asserted<'_>],
     reader: &mut Kept<R>,
     writer: &mut W,
     errors: &mut E,
@@ -531,6 +619,12 @@ fn perform<T: Threads + Wait + Clock + Files + Sync, R: Source, W: Sink, E: Writ
         Subcommand::Seeds(first, runs, format) => {
             let numbers = (*first, *runs);
             seeds_shown(rt, alloc, reader, writer, numbers, *format, screen)
+        }
+        Subcommand::Outcomes(first, runs, form) if !asserted.is_empty() => {
+            let numbers = (*first, *runs);
+            return asserted_outcomes(
+                rt, alloc, asserted, numbers, *form, reader, writer, errors, screen,
+            );
         }
         Subcommand::Outcomes(first, runs, form) => {
             outcomes_shown(rt, alloc, reader, writer, (*first, *runs), *form, screen)
@@ -660,6 +754,7 @@ where
         rt,
         alloc,
         &asked.command,
+        &asked.asserted,
         &mut reader,
         &mut writer,
         errors,

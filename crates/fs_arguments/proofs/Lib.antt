@@ -1,1 +1,2 @@
 mod Somes
+pub mod Saying

@@ -1,8 +1,9 @@
 -- What the command line asks for.
-use Rattle.std.specs.Prelude.{ℕ, ◌≡◌, ◌≤◌, ◌<◌, ◌^◌, Bool, true, false, if◌then◌else◌, List, Option, Some, None, codes}
+use Rattle.std.specs.Prelude.{ℕ, ◌≡◌, ◌≤◌, ◌<◌, ◌^◌, Bool, true, false, if◌then◌else◌, List, [], ◌++◌, map, Option, Some, None, codes}
 use Rattle.std.specs.Str.Parse.{IsNumeral, digits_value, without_leading_plus}
-use Rattle.clap.specs.Matches.{one_text}
+use Rattle.clap.specs.Matches.{matched_of, one_text, raw_values}
 use Rattle.clap.specs.declared.parser.matches.Found.{Found}
+use Rattle.clap.specs.declared.parser.matches.MatchedArg.{MatchedArg}
 use Rattle.fs_sched.specs.declared.seeding.TheConstants.{SEED_LIMIT, RUN_LIMIT}
 use Rattle.fs_outcomes.specs.declared.running.TheConstants.{OUTCOME_LIMIT}
 use Rattle.fs_outcomes.specs.declared.lines.Form.{Form}
@@ -10,6 +11,10 @@ use Rattle.fs_find.specs.declared.finding.TheConstants.{SEARCH_LIMIT}
 use Rattle.fs_recorded.specs.declared.linearizing.TheConstants.{CONFIGURATION_LIMIT}
 use Rattle.fs_replay.specs.declared.asking.Asked.{Asked}
 use Rattle.fs_replay.specs.declared.asking.Asked.TheVariants as asked
+use Rattle.fs_litmus.specs.Asserts.{word_of}
+use Rattle.fs_litmus.specs.declared.assertion.Quantifier.{Quantifier}
+use Rattle.fs_litmus.specs.declared.assertion.Quantifier.TheVariants.{Never, Always, Sometimes}
+use Rattle.fs_arguments.specs.declared.subcommand.Asserted.{Asserted}
 use Rattle.fs_arguments.specs.declared.subcommand.Format.{Format}
 use Rattle.fs_arguments.specs.declared.subcommand.Format.TheVariants.{Text, Json}
 use Rattle.fs_arguments.specs.declared.subcommand.Subcommand.{Subcommand}
@@ -79,6 +84,23 @@ IsFormatOf found Json = IsFlagOf found (codes "json") true
 -- what is written of the ends of runs
 abbrev pub IsFormOf : Found → Form → Type 0
 IsFormOf found form = IsFlagOf found (codes "all") form.all × IsFlagOf found (codes "trees") form.trees × IsFlagOf found (codes "json") form.json
+
+-- an assertion's quantifier and its words
+abbrev pub said : Asserted → Quantifier × List ℕ
+said a = (a.quantifier, a.text.now)
+
+-- the values of an option, in the order in which they are given
+abbrev pub values_in : Option MatchedArg → List (List ℕ)
+values_in None = []
+values_in (Some given) = raw_values given
+
+-- what is asserted by the option of a quantifier's word
+abbrev pub said_by : Found → Quantifier → List (Quantifier × List ℕ)
+said_by found quantifier = map (λ text. (quantifier, text)) (values_in (matched_of found (word_of quantifier)))
+
+-- and by all three
+abbrev pub all_said : Found → List (Quantifier × List ℕ)
+all_said found = (said_by found Never ++ said_by found Always) ++ said_by found Sometimes
 
 -- a search of this, from this number on, in so many runs, written so
 abbrev pub IsSearch : List ℕ → ℕ → ℕ → Format → Subcommand → Type 0

@@ -22,6 +22,10 @@ fn written<'a>(argument: Arg<'a>, name: &'static str, form: &Form) -> Arg<'a> {
     match form {
         Form::Flag => argument.long(name).action(ArgAction::SetTrue),
         Form::Text(value) => argument.long(name).value_name(value),
+        Form::Texts(value) => argument
+            .long(name)
+            .value_name(value)
+            .action(ArgAction::Append),
         Form::Number(value, least, most) => argument
             .long(name)
             .value_name(value)
@@ -127,7 +131,7 @@ fn command<'a>(alloc: Global) -> Result<Command<'a>, Error> {
 fn asked_for<'a>(alloc: Global, matches: &ArgMatches<'a>) -> Result<Invocation<'a>, Error>
     ensures within { IfOk result (λ asked. IsWithin asked.command) }
 {
-    match invocation_of(matches) {
+    match invocation_of(alloc, matches)? {
         Some(asked) => Ok(asked),
         None => Err(command(alloc)?.error(ErrorKind::InvalidSubcommand, "no such subcommand")?),
     }

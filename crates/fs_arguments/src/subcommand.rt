@@ -1,18 +1,20 @@
 //! What the command line asks for, read of what `clap` matched.
 
-ghost use Rattle.std.specs.Prelude.{◌≡◌, ◌≤◌, ℕ, Bool, List, true, false, Some, None, IfSome, codes};
+ghost use Rattle.std.specs.Prelude.{◌≡◌, ◌≤◌, ◌++◌, ℕ, Bool, List, map, true, false, Some, None, IfSome, IfOk, OnOk, codes};
 ghost use Rattle.std.specs.Option.{ForSome};
 ghost use Rattle.clap.specs.Matches.{first_value, found_of, one_text, subcommand_name_of};
-ghost use Rattle.fs_arguments.specs.Commands.{AreNumbersOf, AsksBefore, AsksWho, IsFlagOf, IsFormOf, IsFormatOf, IsNumberOf, IsWithin, SearchesFor, ShrinksFor, name_of};
+ghost use Rattle.fs_arguments.specs.Commands.{AreNumbersOf, AsksBefore, AsksWho, IsFlagOf, IsFormOf, IsFormatOf, IsNumberOf, IsWithin, SearchesFor, ShrinksFor, all_said, name_of, said, said_by};
 ghost use Rattle.fs_explain.specs.Topics.{word_of};
 
 use clap::ArgMatches;
 use fs_explain::{Topic, topic_of};
 use fs_find::SEARCH_LIMIT;
+use fs_litmus::Quantifier;
 use fs_outcomes::{Form, OUTCOME_LIMIT};
 use fs_recorded::CONFIGURATION_LIMIT;
 use fs_replay::Asked;
 use fs_sched::{RUN_LIMIT, SEED_LIMIT, Schedule};
+use std::alloc::{AllocError, Global};
 
 /// How many configurations `linearize` makes where no limit is given.
 pub const CONFIGURATIONS: u64 = 10_000_000;
@@ -70,13 +72,22 @@ pub enum Subcommand<'a> {
     Explain(Topic, Option<Topic>),
 }
 
-/// What the command line asks for, and what is read.
+/// What is asserted of drawn runs, in words.
 #[derive(Clone, Copy, Debug, PartialEq, Eq)]
+pub struct Asserted<'a> {
+    pub quantifier: Quantifier,
+    pub text: &'a str,
+}
+
+/// What the command line asks for, and what is read.
+#[derive(Drop)]
 pub struct Invocation<'a> {
     /// What is asked for.
     pub command: Subcommand<'a>,
     /// The file that is named behind it; `-` is the name of standard input.
     pub file: Option<&'a str>,
+    /// What is asserted of the runs: that none has something, then that each has it, then that one has it.
+    pub asserted: Vec<Asserted<'a>>,
 }
 
 /// The number that the option with an identifier gives.
@@ -193,6 +204,45 @@ fn outcomes_of<'a>(matches: &ArgMatches<'a>) -> Option<Subcommand<'a>>
         Some(numbers) => Some(Subcommand::Outcomes(numbers.0, numbers.1, form)),
         None => None,
     }
+}
+
+/// Adds what is asserted by one word.
+fn push_texts<'a>(
+    quantifier: Quantifier,
+    texts: &[&'a str],
+    asserted: &mut Vec<Asserted<'a>>,
+) -> Result<(), AllocError>
+    ensures { OnOk result (map said asserted.new.items ≡ map said asserted.old.items ++ map (λ text. (quantifier, text.now)) texts.now) }
+{
+    for text in texts {
+        asserted.push(Asserted { quantifier, text })?;
+    }
+    Ok(())
+}
+
+/// The same by the option of that word, where it is given.
+fn push_asserted<'a>(
+    matches: &ArgMatches<'a>,
+    quantifier: Quantifier,
+    asserted: &mut Vec<Asserted<'a>>,
+) -> Result<(), AllocError>
+    ensures { OnOk result (map said asserted.new.items ≡ map said asserted.old.items ++ said_by (found_of matches.now) quantifier) }
+{
+    match matches.get_strs(quantifier.word()) {
+        Some(texts) => push_texts(quantifier, texts, asserted),
+        None => Ok(()),
+    }
+}
+
+/// What is asserted of drawn runs.
+fn asserted_of<'a>(alloc: Global, matches: &ArgMatches<'a>) -> Result<Vec<Asserted<'a>>, AllocError>
+    ensures { IfOk result (λ asserted. map said asserted.items ≡ all_said (found_of matches.now)) }
+{
+    let mut asserted = Vec::new(alloc);
+    push_asserted(matches, Quantifier::Never, &mut asserted)?;
+    push_asserted(matches, Quantifier::Always, &mut asserted)?;
+    push_asserted(matches, Quantifier::Sometimes, &mut asserted)?;
+    Ok(asserted)
 }
 
 /// What is searched, in how many runs.
@@ -316,14 +366,23 @@ fn named<'a>(name: &str, given: &ArgMatches<'a>) -> Option<Subcommand<'a>>
 }
 
 /// What the command line asks for, if it is a subcommand, and the file that it names.
-pub(crate) fn invocation_of<'a>(matches: &ArgMatches<'a>) -> Option<Invocation<'a>>
-    ensures within { IfSome result (λ asked. IsWithin asked.command) }
-    ensures name { IfSome result (λ asked. subcommand_name_of matches.now ≡ Some (name_of asked.command)) }
+pub(crate) fn invocation_of<'a>(
+    alloc: Global,
+    matches: &ArgMatches<'a>,
+) -> Result<Option<Invocation<'a>>, AllocError>
+    ensures within { IfOk result (λ asked. IfSome asked (λ asked. IsWithin asked.command)) }
+    ensures name { IfOk result (λ asked. IfSome asked (λ asked. subcommand_name_of matches.now ≡ Some (name_of asked.command))) }
 {
-    let (name, given) = matches.subcommand()?;
-    let command = named(name, given)?;
-    Some(Invocation {
+    let Some((name, given)) = matches.subcommand() else {
+        return Ok(None);
+    };
+    let Some(command) = named(name, given) else {
+        return Ok(None);
+    };
+    let asserted = asserted_of(alloc, given)?;
+    Ok(Some(Invocation {
         command,
         file: given.get_str("file"),
-    })
+        asserted,
+    }))
 }

@@ -12,6 +12,8 @@ pub(crate) enum Form {
     Flag,
     /// `--NAME` and a text, which help calls by this word.
     Text(&'static str),
+    /// `--NAME` and a text, any number of times.
+    Texts(&'static str),
     /// `--NAME` and a number, which help calls by this word, from the least to the most.
     Number(&'static str, u64, u64),
     /// A word that can be explained; help lists them.
@@ -113,6 +115,30 @@ const WHERE: Argument = Argument {
     help: "What the run is to have, as below",
 };
 
+const NEVER: Argument = Argument {
+    name: "never",
+    form: Form::Texts("WHAT"),
+    need: Need::Never,
+    conflicts: &["add"],
+    help: "Status 1 if a run has WHAT, which is as for `atomfs find`. This option and the two below may be given several times",
+};
+
+const ALWAYS: Argument = Argument {
+    name: "always",
+    form: Form::Texts("WHAT"),
+    need: Need::Never,
+    conflicts: &["add"],
+    help: "Status 1 if a run has WHAT not",
+};
+
+const SOMETIMES: Argument = Argument {
+    name: "sometimes",
+    form: Form::Texts("WHAT"),
+    need: Need::Never,
+    conflicts: &["add"],
+    help: "Status 1 if no run has WHAT",
+};
+
 const RUN: Row = Row {
     name: "run",
     about: "Runs a script and writes its journal, its tree and its counts",
@@ -192,6 +218,9 @@ const OUTCOMES: Row = Row {
             conflicts: &[],
             help: "Reads lines that pieces of a range of numbers wrote with --all, and adds them up",
         },
+        NEVER,
+        ALWAYS,
+        SOMETIMES,
         JSON,
         FILE,
     ],

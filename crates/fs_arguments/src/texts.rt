@@ -30,17 +30,20 @@ Example:
 
 pub(crate) const OUTCOMES_STATUSES: &str = "\
 A line is `TIMES seed SEED tree DIGEST`, and the calls whose replies differ: ` | THREAD#N REPLY`, the N-th call of THREAD. The most frequent end comes first; SEED is the least number that has it, for `atomfs run --seed SEED`.
+With --never, --always or --sometimes the lines are the same, and standard error names each WHAT that the runs break, with the first seed that breaks it. `atomfs help find` says what WHAT may be.
 Where standard error is a terminal, a command that takes longer than a quarter of a second shows there how far it is.
 
 Exit status:
-  0  success
-  2  usage error
+  0  success; what is asserted of the runs holds
+  1  what is asserted of them does not hold
+  2  usage error, or the script has not a call that is named
   3  the input is no script, or with --add no lines of `outcomes --all`: `atomfs explain` says what to write instead
   4  out of memory
   5  a read or a write failed
 
-Example:
-  atomfs outcomes --seed 1 --runs 1000 examples/moved_ancestor.script";
+Examples:
+  atomfs outcomes --seed 1 --runs 1000 examples/moved_ancestor.script
+  atomfs outcomes --seed 1 --runs 1000 --sometimes 'reply writer#2 failed' examples/moved_ancestor.script";
 
 pub(crate) const FIND_STATUSES: &str = "\
 WHAT is one or several conditions with `and` between them, each also behind `not`:

@@ -1,6 +1,7 @@
 -- The exit statuses.
 use Rattle.std.specs.List.{list_any}
 use Rattle.std.specs.Prelude.{ℕ, List, Bool, ◌==◌, if◌then◌else◌, Result, Ok, Err, Option, Some, None}
+use Rattle.std.specs.Global.{Vec}
 use Rattle.fs_sched.specs.declared.running.RunEnd.{RunEnd}
 use Rattle.fs_sched.specs.Faults.{status_of_fault}
 use Rattle.fs_verdict.specs.declared.checking.Checked.{Checked}
@@ -23,6 +24,8 @@ use Rattle.fs_find.specs.Faults.{status_of_find}
 use Rattle.fs_find.specs.declared.fault.FindFault.{FindFault}
 use Rattle.fs_find.specs.declared.reading.WhatFault.{WhatFault}
 use Rattle.fs_find.specs.declared.reading.WhatFault.TheVariants as words
+use Rattle.fs_litmus.specs.Asserts.{all_hold}
+use Rattle.fs_litmus.specs.declared.assertion.Assertion.{Assertion}
 use Rattle.fs_shrink.specs.declared.shrinking.Shrunk.{Shrunk}
 use Rattle.fs_trace.specs.Faults.{status_of_schedule}
 use Rattle.fs_trace.specs.declared.fault.ScheduleFault.{ScheduleFault}
@@ -80,6 +83,11 @@ abbrev pub status_of_found : Result (Option ℕ) FindFault → ℕ
 status_of_found (Ok (Some seed)) = 0
 status_of_found (Ok None) = 1
 status_of_found (Err fault) = status_of_find fault
+
+-- success where all assertions hold, by the first runs that decide them, else 1
+abbrev pub status_of_asserted : List Assertion → Result (Vec (Option ℕ)) FindFault → ℕ
+status_of_asserted asserts (Ok decided) = status_of_verdict (all_hold asserts decided.items)
+status_of_asserted asserts (Err fault) = status_of_find fault
 
 -- success where a script was shrunk, 1 where its run has not what is said
 abbrev pub status_of_shrunk : Result (Option Shrunk) FindFault → ℕ

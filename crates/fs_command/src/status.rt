@@ -3,7 +3,7 @@
 ghost use Rattle.std.specs.Prelude.{◌≡◌, ◌≢◌, ◌⊎◌};
 ghost use Rattle.std.specs.IoError.{error_kind};
 ghost use Rattle.clap.specs.Values.{kind_of};
-ghost use Rattle.fs_command.specs.Statuses.{has_status, status_of, status_of_checked, status_of_drawn, status_of_found, status_of_linearized, status_of_many, status_of_outcome, status_of_outcomes, status_of_replayed, status_of_run, status_of_scheduled, status_of_shrunk, status_of_started, status_of_traced, status_of_verdict, status_of_words};
+ghost use Rattle.fs_command.specs.Statuses.{has_status, status_of, status_of_asserted, status_of_checked, status_of_drawn, status_of_found, status_of_linearized, status_of_many, status_of_outcome, status_of_outcomes, status_of_replayed, status_of_run, status_of_scheduled, status_of_shrunk, status_of_started, status_of_traced, status_of_verdict, status_of_words};
 ghost use Rattle.fs_sched.specs.Faults.{status_of_fault};
 
 use crate::input::words_of;
@@ -13,6 +13,7 @@ use clap::error::ErrorKind;
 use fs_draw::DrawFault;
 use fs_entries::Traced;
 use fs_find::{FindFault, WhatFault};
+use fs_litmus::{Assertion, Quantifier, all_hold};
 use fs_recorded::{Histories, Linearized, Outcome};
 use fs_replay::{ReplayFault, Replayed};
 use fs_sched::{Checked, RunEnd, RunFault};
@@ -266,6 +267,64 @@ pub fn report_find<E: Write>(
     fault.status()
 }
 
+/// Writes how the runs break an assertion, if they do: the words, and the first run that does.
+fn tell_broken<E: Write>(
+    errors: &mut E,
+    assertion: &Assertion<'_>,
+    decided: Option<u64>,
+    seed: u64,
+    runs: u64,
+) {
+    if assertion.quantifier.holds(decided) {
+        return;
+    }
+    let (word, text) = (assertion.quantifier.word(), assertion.text);
+    let _ = write!(errors, "atomfs: {word} {text}: ");
+    let _ = match (assertion.quantifier, decided) {
+        (Quantifier::Always, Some(broken)) => writeln!(errors, "seed {broken} has it not"),
+        (_, Some(broken)) => writeln!(errors, "seed {broken} has it"),
+        (_, None) => writeln!(errors, "no run of {runs} from seed {seed} on has it"),
+    };
+}
+
+/// The same of each assertion.
+fn tell_all_broken<E: Write>(
+    errors: &mut E,
+    asserts: &[Assertion<'_>],
+    decided: &[Option<u64>],
+    seed: u64,
+    runs: u64,
+) {
+    for at in 0..asserts.len() {
+        if at < decided.len() {
+            tell_broken(errors, &asserts[at], decided[at], seed, runs);
+        }
+    }
+}
+
+/// The status that assertions on so many runs from a number on came to, by the first runs that decide them, or that of their fault,
+/// whose message is written: success where all hold. What the runs break is told too.
+pub fn report_asserted<E: Write>(
+    errors: &mut E,
+    seen: &Seen,
+    asserts: &[Assertion<'_>],
+    seed: u64,
+    runs: u64,
+    outcome: Result<Vec<Option<u64>>, FindFault>,
+) -> u8
+    ensures { result ≡ status_of_asserted asserts.now outcome }
+{
+    let fault = match outcome {
+        Ok(decided) => {
+            tell_all_broken(errors, asserts, &decided, seed, runs);
+            return status_of_verdict(all_hold(asserts, &decided));
+        }
+        Err(fault) => fault,
+    };
+    tell_fault(errors, seen, &fault);
+    fault.status()
+}
+
 /// Writes what is left of a script, and whether more could go.
 fn tell_shrunk<E: Write>(errors: &mut E, shrunk: &Shrunk) {
     let _ = write!(
@@ -306,14 +365,14 @@ pub fn report_shrink<E: Write>(
     fault.status()
 }
 
-/// The status where words say nothing of a run, and the message.
-pub fn report_words<E: Write>(errors: &mut E, fault: WhatFault) -> u8
+/// The status where the words of an option say nothing of a run, and the message.
+pub fn report_words<E: Write>(errors: &mut E, option: &str, fault: WhatFault) -> u8
     ensures { result ≡ status_of_words fault }
 {
     if let WhatFault::OutOfMemory = fault {
         return report_fault(errors, RunFault::OutOfMemory);
     }
-    let _ = writeln!(errors, "atomfs: --where: {fault}");
+    let _ = writeln!(errors, "atomfs: --{option}: {fault}");
     2
 }
 

@@ -1,5 +1,6 @@
 -- The first drawn run that has something.
-use Rattle.std.proofs.Common.{◌≡◌, ℕ, ◌+◌, ◌≤◌, ◌<◌, ltb, Bool, true, false, List, Option, Some, None, Ok, refl, subst, arith}
+use Rattle.std.proofs.Common.{◌≡◌, ℕ, ◌+◌, ◌≤◌, ◌<◌, ltb, Bool, true, false, not, List, Option, Some, None, Ok, refl, subst, arith}
+use Rattle.std.proofs.Math.Bool.{beq}
 use Rattle.std.proofs.lemmas.Bool.{ltb-true, ltb-false}
 use Rattle.fs_script.specs.Script.{script_of}
 use Rattle.fs_script.specs.declared.script.Script.{Script}
@@ -18,14 +19,27 @@ use Rattle.fs_find.specs.code.Mades.{IsNotWritten}
 use Rattle.fs_find.specs.declared.fault.FindFault.TheVariants.{Schedule}
 use Rattle.fs_find.specs.declared.what.Clause.{Clause}
 
--- one run more that has it not
-pub each_more : (script : Script) (what : List Clause) (seed run : ℕ) → ((k : ℕ) → seed ≤ k → k < seed + run → RunHas (Seeded k) script what false) → RunHas (Seeded (seed + run)) script what false
-    → (k : ℕ) → seed ≤ k → k < seed + (run + 1) → RunHas (Seeded k) script what false
-each_more script what seed run each this k low high = go (ltb k (seed + run)) refl
+-- one run more that is so
+pub each_more : (b : Bool) (script : Script) (what : List Clause) (seed run : ℕ) → ((k : ℕ) → seed ≤ k → k < seed + run → RunHas (Seeded k) script what b) → RunHas (Seeded (seed + run)) script what b
+    → (k : ℕ) → seed ≤ k → k < seed + (run + 1) → RunHas (Seeded k) script what b
+each_more b script what seed run each this k low high = go (ltb k (seed + run)) refl
   where
-    go : (b : Bool) → ltb k (seed + run) ≡ b → RunHas (Seeded k) script what false
+    go : (less : Bool) → ltb k (seed + run) ≡ less → RunHas (Seeded k) script what b
     go true t = each k low (ltb-true _ _ t)
-    go false f = let here : seed + run ≡ k = omega (arith, ltb-false _ _ f, high) in subst (λ (n : ℕ). RunHas (Seeded n) script what false) here this
+    go false f = let here : seed + run ≡ k = omega (arith, ltb-false _ _ f, high) in subst (λ (n : ℕ). RunHas (Seeded n) script what b) here this
+
+-- what a test answers is as wanted, or the contrary is so
+pub as_wanted : (P : Bool → Type 0) (a b : Bool) → beq a b ≡ true → P a → P b
+as_wanted P true true same p = p
+as_wanted P true false same p = absurd cc
+as_wanted P false true same p = absurd cc
+as_wanted P false false same p = p
+
+pub unwanted : (P : Bool → Type 0) (a b : Bool) → beq a b ≡ false → P a → P (not b)
+unwanted P true true other p = absurd cc
+unwanted P true false other p = p
+unwanted P false true other p = p
+unwanted P false false other p = absurd cc
 
 -- a drawn run stops only for want of memory
 pub only_memory : (n : ℕ) (script : Script) (fault : RunFault) → IsStop (Seeded n) script fault → fault ≡ faults.OutOfMemory

@@ -1,5 +1,5 @@
 -- The first drawn run that has something.
-use Rattle.std.specs.Prelude.{ℕ, ◌≡◌, ◌+◌, ◌≤◌, ◌<◌, Bool, true, false, List, [], Ok, Option, Some, None}
+use Rattle.std.specs.Prelude.{ℕ, ◌≡◌, ◌+◌, ◌≤◌, ◌<◌, Bool, true, false, not, List, [], Ok, Option, Some, None}
 use Rattle.fs_script.specs.Script.{script_of}
 use Rattle.fs_script.specs.declared.script.Script.{Script}
 use Rattle.fs_sched.specs.Moments.{TellsRun}
@@ -16,17 +16,25 @@ use Rattle.fs_find.specs.declared.what.Clause.{Clause}
 abbrev pub RunHas : Schedule → Script → List Clause → Bool → Type 0
 RunHas schedule script what b = (ms : List Moment) × (last : Stage) × TellsRun schedule script ms last × Has script.names (lived ms) last.state.graph what b
 
--- of the runs that are drawn from a number, the next one, and so on, the one drawn from n has it, and none before it
-pub record IsFirst (script : Script) (what : List Clause) (seed runs n : ℕ) : Type 0 where
+-- of the runs that are drawn from a number, the next one, and so on, the one drawn from n is as wanted, and none before it: it has what is said, or it has it not
+pub record IsFirstWhere (wanted : Bool) (script : Script) (what : List Clause) (seed runs n : ℕ) : Type 0 where
   pub from : seed ≤ n
   pub below : n < seed + runs
-  pub has : RunHas (Seeded n) script what true
-  pub before : (k : ℕ) → seed ≤ k → k < n → RunHas (Seeded k) script what false
+  pub has : RunHas (Seeded n) script what wanted
+  pub before : (k : ℕ) → seed ≤ k → k < n → RunHas (Seeded k) script what (not wanted)
 
--- the first of so many runs that has it, if one has
+-- the first of so many runs that is as wanted, if one is
+abbrev pub IsFoundWhere : Bool → Script → List Clause → ℕ → ℕ → Option ℕ → Type 0
+IsFoundWhere wanted script what seed runs (Some n) = IsFirstWhere wanted script what seed runs n
+IsFoundWhere wanted script what seed runs None = (k : ℕ) → seed ≤ k → k < seed + runs → RunHas (Seeded k) script what (not wanted)
+
+-- the first that has what is said
+abbrev pub IsFirst : Script → List Clause → ℕ → ℕ → ℕ → Type 0
+IsFirst script what seed runs n = IsFirstWhere true script what seed runs n
+
+-- and that, if one has it
 abbrev pub IsFound : Script → List Clause → ℕ → ℕ → Option ℕ → Type 0
-IsFound script what seed runs (Some n) = IsFirst script what seed runs n
-IsFound script what seed runs None = (k : ℕ) → seed ≤ k → k < seed + runs → RunHas (Seeded k) script what false
+IsFound script what seed runs found = IsFoundWhere true script what seed runs found
 
 -- what is written: the script with the run that was found as its words, which is read back so; else nothing
 abbrev pub IsWritten : List ℕ → Option ℕ → List ℕ → Type 0

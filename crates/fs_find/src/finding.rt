@@ -10,7 +10,7 @@ ghost use Rattle.fs_sched.specs.Runs.{calls_in};
 ghost use Rattle.fs_sched.specs.code.Done.{IsStop};
 ghost use Rattle.fs_trace.specs.declared.fault.ScheduleFault.TheVariants as schedule;
 ghost use Rattle.fs_find.specs.Faults.{LacksRoom};
-ghost use Rattle.fs_find.specs.Finds.{RunHas, IsFound, IsSearchOf, IsWritten, LacksCall};
+ghost use Rattle.fs_find.specs.Finds.{RunHas, IsFoundWhere, IsSearchOf, IsWritten, LacksCall};
 ghost use Rattle.fs_find.specs.code.Mades.{IsNotWritten, MakesFound};
 
 use crate::fault::FindFault;
@@ -48,11 +48,13 @@ pub fn run_has(
     }
 }
 
-/// The first of so many numbers from which a run is drawn that has what is said.
-fn first_seed<Listener: Witness>(
+/// The first of so many numbers from which a run is drawn that is as wanted: it has what is said, or has it not. What is said of a
+/// call that is not there is false. Whoever is told of progress hears of each run before.
+pub fn first_seed<Listener: Witness>(
     alloc: Global,
     script: &Script,
     what: &[Clause],
+    wanted: bool,
     seed: u64,
     runs: u64,
     witness: &mut Listener,
@@ -60,14 +62,16 @@ fn first_seed<Listener: Witness>(
     requires few { calls_in script.now.lists ≤ call_limit script.now.limits }
     requires seed { seed ≤ SEED_LIMIT }
     requires runs { runs ≤ SEARCH_LIMIT }
-    ensures found { IfOk result (IsFound script.now what.now seed runs) }
+    ensures found { IfOk result (IsFoundWhere wanted script.now what.now seed runs) }
     ensures fault { IfErr result (λ fault. fault ≡ RunFault.OutOfMemory) }
 {
     for run in 0..runs {
-        match run_has(alloc, script, Schedule::Seeded(seed + run), what) {
-            Ok(true) => return Ok(Some(seed + run)),
-            Ok(false) => {}
+        let has = match run_has(alloc, script, Schedule::Seeded(seed + run), what) {
+            Ok(has) => has,
             Err(fault) => return Err(fault),
+        };
+        if has == wanted {
+            return Ok(Some(seed + run));
         }
         witness.has_run(run + 1, runs);
     }
@@ -102,7 +106,7 @@ fn found_in<Listener: Witness>(
     if !names_calls(&script, what) {
         return Err(FindFault::NoCall);
     }
-    let found = first_seed(alloc, &script, what, seed, runs, witness)?;
+    let found = first_seed(alloc, &script, what, true, seed, runs, witness)?;
     drop(script);
     match text_of_found(alloc, text, found) {
         Ok(text) => Ok(Made { text, end: found }),

@@ -18,6 +18,6 @@ pub mod what;
 
 pub use copying::copy_of_reply;
 pub use fault::FindFault;
-pub use finding::{SEARCH_LIMIT, find_seed, run_has};
+pub use finding::{SEARCH_LIMIT, find_seed, first_seed, run_has};
 pub use reading::{WhatFault, read_what};
 pub use what::{CallName, Clause, Condition, names_calls};

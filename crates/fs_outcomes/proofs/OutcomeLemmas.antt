@@ -7,10 +7,10 @@ use Rattle.std.proofs.lemmas.Map.Keys.{IsDistinct-IsPermutation}
 use Rattle.fs_script.specs.declared.script.Script.{Script}
 use Rattle.fs_outcomes.specs.Ends.{EndValue, places_of}
 use Rattle.fs_outcomes.specs.Lines.{labels_of, rows_text}
-use Rattle.fs_outcomes.specs.Outcomes.{EndsAs, IsOfItsRun, AreDrawn}
+use Rattle.fs_outcomes.specs.Outcomes.{EndsAs, IsOfItsRun, AreDrawn, AreLinesOf}
 use Rattle.fs_outcomes.specs.Sums.{same_end, times_of, IsSum, IsAmongEnds, AddsUp, AreInOrder}
 use Rattle.fs_outcomes.specs.code.Adding.{with_row}
-use Rattle.fs_outcomes.specs.code.Mades.{single, AddsRun, AreLinesOf, HasRuns}
+use Rattle.fs_outcomes.specs.code.Mades.{single, AddsRun, HasRuns}
 use Rattle.fs_outcomes.specs.declared.lines.Form.{Form}
 use Rattle.fs_outcomes.specs.declared.rows.Row.{Row}
 use Rattle.fs_outcomes.proofs.AddLemmas.{adds_none, adds_more, same_flip, total_more}

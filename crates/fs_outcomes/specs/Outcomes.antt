@@ -34,7 +34,10 @@ pub record AreOutcomes (script : Script) (seed runs : ℕ) (rows : List Row) : T
   pub total : sum_by times_of rows ≡ runs
   pub order : AreInOrder rows
 
--- the lines of the ends of runs of the script that an input has
+-- the lines of the ends of a script's runs
+abbrev pub AreLinesOf : Script → ℕ → ℕ → Form → List ℕ → Type 0
+AreLinesOf script seed runs form text = (rows : List Row) × AreOutcomes script seed runs rows × (text ≡ rows_text form (labels_of script.names (places_of script.lists)) rows)
+
+-- the same of the script that an input has
 abbrev pub AreOutcomesOf : ℕ → ℕ → Form → List ℕ → List ℕ → Type 0
-AreOutcomesOf seed runs form input text =
-    (script : Script) × (script_of input ≡ Ok script) × (rows : List Row) × AreOutcomes script seed runs rows × (text ≡ rows_text form (labels_of script.names (places_of script.lists)) rows)
+AreOutcomesOf seed runs form input text = (script : Script) × (script_of input ≡ Ok script) × AreLinesOf script seed runs form text

@@ -25,4 +25,4 @@ pub use ends::End;
 pub use lines::Form;
 pub use places::Place;
 pub use rows::Row;
-pub use running::{OUTCOME_LIMIT, run_outcomes};
+pub use running::{OUTCOME_LIMIT, outcomes_of, run_outcomes};

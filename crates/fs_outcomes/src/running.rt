@@ -9,10 +9,10 @@ ghost use Rattle.fs_script.specs.Limits.{call_limit};
 ghost use Rattle.fs_sched.specs.Devices.{KeepsDevices, WritesBeginning};
 ghost use Rattle.fs_sched.specs.Runs.{calls_in};
 ghost use Rattle.fs_outcomes.specs.Ends.{places_of};
-ghost use Rattle.fs_outcomes.specs.Outcomes.{AreOutcomesOf, EndsAs};
+ghost use Rattle.fs_outcomes.specs.Outcomes.{AreLinesOf, AreOutcomesOf, EndsAs};
 ghost use Rattle.fs_outcomes.specs.Sums.{times_of};
 ghost use Rattle.fs_outcomes.specs.code.Adding.{AreKept};
-ghost use Rattle.fs_outcomes.specs.code.Mades.{AddsRun, AreLinesOf, HasRuns, MakesOutcomes};
+ghost use Rattle.fs_outcomes.specs.code.Mades.{AddsRun, HasRuns, MakesOutcomes};
 
 use crate::ends::{End, end_of};
 use crate::lines::{Form, labels_of, rows_text};
@@ -112,8 +112,8 @@ fn lines_of(
     Ok(text)
 }
 
-/// The lines of the ends of a script's drawn runs.
-fn outcomes_of<Listener: Witness>(
+/// The lines of the ends of a script's drawn runs, of which there are so many from a number on.
+pub fn outcomes_of<Listener: Witness>(
     alloc: Global,
     script: &Script,
     seed: u64,

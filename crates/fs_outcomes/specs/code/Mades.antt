@@ -9,9 +9,9 @@ use Rattle.fs_words.specs.Headers.{is_too_long}
 use Rattle.fs_verdict.specs.declared.fault.RunFault.{RunFault}
 use Rattle.fs_verdict.specs.declared.fault.RunFault.TheVariants.{Input, Read, Write, OutOfMemory, Full, UnderWay}
 use Rattle.fs_outcomes.specs.Added.{AreAdded}
-use Rattle.fs_outcomes.specs.Ends.{EndValue, places_of}
-use Rattle.fs_outcomes.specs.Lines.{added_line, added_text, labels_of, rows_text}
-use Rattle.fs_outcomes.specs.Outcomes.{AreDrawn, AreOutcomes, AreOutcomesOf, EndsAs}
+use Rattle.fs_outcomes.specs.Ends.{EndValue}
+use Rattle.fs_outcomes.specs.Lines.{added_line, added_text}
+use Rattle.fs_outcomes.specs.Outcomes.{AreDrawn, AreOutcomesOf, EndsAs}
 use Rattle.fs_outcomes.specs.Sums.{AddsUp, AreInOrder, times_of}
 use Rattle.fs_outcomes.specs.code.Adding.{with_row}
 use Rattle.fs_outcomes.specs.declared.lines.Form.{Form}
@@ -32,10 +32,6 @@ pub record HasRuns (script : Script) (seed runs : ℕ) (rows : List Row) : Type 
   pub count : length drawn ≡ runs
   pub adds_up : AddsUp drawn rows
   pub total : sum_by times_of rows ≡ runs
-
--- the lines of the ends of a script's runs
-abbrev pub AreLinesOf : Script → ℕ → ℕ → Form → List ℕ → Type 0
-AreLinesOf script seed runs form text = (rows : List Row) × AreOutcomes script seed runs rows × (text ≡ rows_text form (labels_of script.names (places_of script.lists)) rows)
 
 -- the lines of the ends of drawn runs; or why there are none
 pub record MakesOutcomes (seed runs : ℕ) (form : Form) (input : List ℕ) (result : Result (Made (Unit {0})) RunFault) : Type 0 where

@@ -1,0 +1,2 @@
+pub mod Asserts
+pub mod code

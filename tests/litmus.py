@@ -1,0 +1,128 @@
+"""What `--never`, `--always` and `--sometimes` answer, beside `atomfs find`.
+
+Of drawn scripts each assertion is decided here once more, by the runs of `atomfs find`: the first run that has WHAT, or has it not.
+"""
+import random
+import shlex
+import unittest
+
+import find
+from harness import Case, Outcome, asks_of_answers, rows_of, run
+
+SCRIPTS, RUNS = 200, 8
+RACE = find.RACE
+
+
+def broken(quantifier, what, first, runs, seeds_with, seeds_without):
+    """How a message names an assertion that does not hold; nothing if it holds."""
+    match quantifier:
+        case "never" if seeds_with:
+            return f"atomfs: never {what}: seed {seeds_with[0]} has it\n"
+        case "always" if seeds_without:
+            return f"atomfs: always {what}: seed {seeds_without[0]} has it not\n"
+        case "sometimes" if not seeds_with:
+            return f"atomfs: sometimes {what}: no run of {runs} from seed {first} on has it\n"
+    return ""
+
+
+class Asserts(Case):
+    def outcomes(self, text, first, *words):
+        return run(text, "outcomes", "--seed", str(first), "--runs", str(RUNS), *words)
+
+    def look(self, number):
+        """A drawn script, and some of what `find` may look for, under drawn quantifiers."""
+        draw = random.Random(number)
+        script, what = find.drawn_script(draw)
+        text, first, names = script.text(), draw.randrange(1000), list(script.threads)
+        seeds = range(first, first + RUNS)
+        given = [(draw.choice(("never", "always", "sometimes")), what)]
+        given += [
+            (quantifier, find.drawn_clause(draw, script.threads))
+            for quantifier in ("never", "always", "sometimes")
+            if draw.randrange(3)
+        ]
+        runs = [
+            find.seen(
+                names,
+                run(text, "run", "--seed", str(seed)).output,
+                run(text, "trace", "--seed", str(seed)).output,
+            )
+            for seed in seeds
+        ]
+        told = ""
+        for quantifier in ("never", "always", "sometimes"):
+            for other, said in given:
+                if other == quantifier:
+                    having = [seed for seed, seen in zip(seeds, runs) if find.has(said, seen)]
+                    lacking = [seed for seed in seeds if seed not in having]
+                    told += broken(quantifier, said, first, RUNS, having, lacking)
+        words = [word for quantifier, said in given for word in (f"--{quantifier}", said)]
+        wanted = Outcome(1 if told else 0, self.outcomes(text, first).output, told.encode())
+        self.same(f"atomfs outcomes {shlex.join(words)}\n{text.decode()}", self.outcomes(text, first, *words), wanted)
+
+    def test_drawn_scripts(self):
+        asks_of_answers()
+        self.each(((f"script_{number}", number) for number in range(rows_of(SCRIPTS))), self.look)
+
+    def ends(self, words, wanted):
+        self.same(f"atomfs {words}", run(RACE, *shlex.split(words)), wanted)
+
+    def test_each_quantifier(self):
+        """What holds and what is broken, of each quantifier; several at once; and with the other forms of the lines."""
+        seeds = "outcomes --seed 1 --runs 50"
+        lines = run(RACE, *seeds.split()).output
+        objects = run(RACE, *seeds.split(), "--json", "--all").output
+        none, always = "no run of 50 from seed 1 on has it", "reply m#1 ok"
+        self.each(
+            (
+                (f"{words}", f"{seeds} {words}", Outcome(1 if told else 0, output, told))
+                for words, output, told in (
+                    ("--never 'tree dir /none'", lines, b""),
+                    ("--always 'reply m#1 ok'", lines, b""),
+                    ("--sometimes 'tree dir /b'", lines, b""),
+                    (f"--never '{always}'", lines, f"atomfs: never {always}: seed 1 has it\n".encode()),
+                    ("--always 'tree dir /none'", lines, b"atomfs: always tree dir /none: seed 1 has it not\n"),
+                    ("--sometimes 'tree dir /none'", lines, f"atomfs: sometimes tree dir /none: {none}\n".encode()),
+                    (
+                        f"--sometimes 'tree dir /none' --never '{always}' --always '{always}' --never 'not {always}'",
+                        lines,
+                        f"atomfs: never {always}: seed 1 has it\natomfs: sometimes tree dir /none: {none}\n".encode(),
+                    ),
+                    ("--json --all --never 'tree dir /none'", objects, b""),
+                )
+            ),
+            self.ends,
+        )
+
+    def test_first_seed(self):
+        """The first seed that breaks an assertion is the one that `atomfs find` finds."""
+        asks_of_answers()
+        for what in ("reply r#1 ok", "reply m#2 failed ENOENT", "before r#1 m#2"):
+            found = run(RACE, "find", "--where", what, "--seed", "1", "--runs", "100").message.decode()
+            told = run(RACE, "outcomes", "--seed", "1", "--runs", "100", "--never", what)
+            self.same(what, told.message.decode(), f"atomfs: never {what}: {found[8:-1]} has it\n")
+
+    def test_bad_words(self):
+        """They are read before any run, and the message names the option."""
+        seeds = "outcomes --seed 1 --runs 5"
+        no_call = Outcome(2, b"", b"atomfs: the script has no such call\n")
+
+        def bad(option, why):
+            return Outcome(2, b"", b"atomfs: --" + option + b": " + why + b"\n")
+
+        self.each(
+            (
+                ("never", f"{seeds} --never m#1", bad(b"never", find.WORDS)),
+                ("always", f"{seeds} --always 'helped m'", bad(b"always", find.CALL)),
+                ("sometimes", f"{seeds} --sometimes 'reply m#1 done'", bad(b"sometimes", find.REPLY)),
+                ("a line", f"{seeds} --never 'helped m#1' --never 'tree dir a'", bad(b"never", find.LINE)),
+                ("nothing", f"{seeds} --sometimes ''", bad(b"sometimes", find.WORDS)),
+                ("no call", f"{seeds} --never 'helped m#3'", no_call),
+                ("no such thread", f"{seeds} --never 'helped m#1' --always 'helped n#1'", no_call),
+            ),
+            self.ends,
+        )
+
+
+if __name__ == "__main__":
+    unittest.main()
