@@ -446,6 +446,7 @@ class Shown(Page):
         ("docs/RACES.md", "python", 2, "bindings/python/tests/test_races.py"),
         ("docs/SCHEDULES.md", "python", 2, "bindings/python/tests/test_races.py"),
         ("examples/races/README.md", "", 1, "bindings/python/tests/test_races.py"),
+        ("examples/litmus/README.md", "", 1, "tests/documents.py"),
     )
 
     def test_each_block(self):

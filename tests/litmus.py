@@ -1,16 +1,59 @@
-"""What `--never`, `--always` and `--sometimes` answer, beside `atomfs find`.
+"""The texts of examples/litmus: each command does what the head of its text says; and what `--never`, `--always` and `--sometimes` answer, beside `atomfs find`.
 
 Of drawn scripts each assertion is decided here once more, by the runs of `atomfs find`: the first run that has WHAT, or has it not.
 """
 import random
+import re
 import shlex
 import unittest
 
 import find
-from harness import Case, Outcome, asks_of_answers, rows_of, run
+from harness import ROOT, Case, Outcome, asks_of_answers, rows_of, run
 
+FOLDER = ROOT / "examples" / "litmus"
 SCRIPTS, RUNS = 200, 8
 RACE = find.RACE
+
+
+def head(path):
+    """The words of the command that the head of a text has, its status, and the message that it has to write."""
+    text = path.read_text()
+    indented = re.findall(r"^#     (.*)$", text, re.MULTILINE)
+    messages = [line for line in indented if line.startswith("atomfs: ")]
+    command = " ".join(line.removesuffix("\\") for line in indented if line not in messages)
+    status = re.search(r"^# Status ([01])\b", text, re.MULTILINE)
+    if status is None:
+        raise ValueError(f"{path}: no line says the status")
+    return shlex.split(command), int(status[1]), "".join(f"{line}\n" for line in messages).encode()
+
+
+class Texts(Case):
+    def look(self, path):
+        words, status, message = head(path)
+        self.same(path, words[:2] + words[-1:], ["atomfs", "outcomes", str(path.relative_to(ROOT))])
+        came = run(b"", *words[1:-1], str(path))
+        plain = run(b"", *words[1:6], str(path))
+        self.same(shlex.join(words), (came.status, came.message), (status, message))
+        self.same(f"the lines of {path.name}", came.output, plain.output)
+
+    def test_each_text(self):
+        """Its status and its message are those that its head says, and the lines are those without assertions."""
+        self.each(((path.stem, path) for path in sorted(FOLDER.glob("*.script"))), self.look)
+
+    def test_both_statuses(self):
+        """Some texts hold, and some are broken: a program that answers one status to all is found out."""
+        statuses = [head(path)[1] for path in FOLDER.glob("*.script")]
+        self.same("texts", len(statuses), 12)
+        self.same("statuses", set(statuses), {0, 1})
+
+    def test_page(self):
+        """The page has a line for each text, with its status."""
+        rows = re.findall(r"^\| `(\w+)` \| .* \| ([01]) \|$", (FOLDER / "README.md").read_text(), re.MULTILINE)
+        self.same(
+            "examples/litmus/README.md",
+            sorted(rows),
+            sorted((path.stem, str(head(path)[1])) for path in FOLDER.glob("*.script")),
+        )
 
 
 def broken(quantifier, what, first, runs, seeds_with, seeds_without):
