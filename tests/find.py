@@ -15,18 +15,21 @@ SCRIPTS, SEEDS = 200, 6
 REPLIES = "ok", "failed", "failed ENOENT", "failed EEXIST", "stat dir 0", "wrote 0"
 LINES = "dir /a", "dir /b", "dir /a/a", "dir /b/a", "dir /a/b", "file /a -", "file /a/a -", "dir /c"
 RACE = b"atomfs 1\nthread m\nmkdir /a\nmkdir /a/d\nthread r\nrename /a /b\nschedule\nfinish\n"
-WORDS = b"write `reply CALL REPLY`, `tree LINE`, `helped CALL` or `before CALL CALL`, each also behind `not`, with `and` between two"
+WORDS = b"write `reply CALL REPLY`, `tree LINE`, `helped CALL`, `waits CALL`, `before CALL CALL` or `overlap CALL CALL`, each also behind `not`, with `and` between two"
 CALL = b"a CALL is the name of a thread, `#` and a number from 1"
 REPLY = b"a REPLY is that of a journal, or `failed` for any error"
 LINE = b"a LINE is `dir PATH` or `file PATH HEX`, as a tree text has it"
 
 
 class Seen(typing.NamedTuple):
-    """What a run showed: by the thread and the place of a call its reply, when it committed, and whether it was helped; and the lines of its tree."""
+    """What a run showed: by the thread and the place of a call its reply, when it began, committed and returned, whether it was helped and whether it waited; and the lines of its tree."""
 
     replies: dict
+    begins: dict
     commits: dict
+    returns: dict
     helped: set
+    waited: set
     lines: set
 
 
@@ -47,19 +50,22 @@ def seen(names, text, trace):
     """What a run of one piece showed by its run text and its trace."""
     lines = text.decode().splitlines()
     at = lines.index("tree")
-    calls, begun, replies, commits = {}, {}, {}, {}
+    calls, begun, replies, begins, commits, returns = {}, {}, {}, {}, {}, {}
     for place, line in enumerate(lines[1:at]):
         kind, number, *rest = line.split()
         if kind == "begin":
             name = names[int(rest[0])]
             begun[name] = begun.get(name, 0) + 1
             calls[number] = (name, begun[name])
+            begins[calls[number]] = place
         elif kind == "commit":
             commits[calls[number]] = place
         else:
             replies[calls[number]] = " ".join(rest)
+            returns[calls[number]] = place
     helped = {call_of(word) for word in re.findall(r" helps (\w+#\d+), ", trace.decode())}
-    return Seen(replies, commits, helped, set(lines[at + 1 : -1]))
+    waited = {call_of(word) for word in re.findall(r" (\w+#\d+) waits for ", trace.decode())}
+    return Seen(replies, begins, commits, returns, helped, waited, set(lines[at + 1 : -1]))
 
 
 def call_of(word):
@@ -80,6 +86,11 @@ def holds(clause, run):
             return " ".join(words[1:]) in run.lines
         case "helped":
             return call_of(words[1]) in run.helped
+        case "waits":
+            return call_of(words[1]) in run.waited
+        case "overlap":
+            one, other = map(call_of, words[1:])
+            return run.begins[one] < run.returns[other] and run.begins[other] < run.returns[one]
         case "before":
             first, second = (run.commits.get(call_of(word)) for word in words[1:])
             return first is not None and second is not None and first < second
@@ -97,15 +108,15 @@ def drawn_clause(draw, threads):
         name = draw.choice([name for name in threads if threads[name]])
         return f"{name}#{draw.randint(1, len(threads[name]))}"
 
-    match draw.choice(("reply", "reply", "tree", "helped", "before")):
+    match draw.choice(("reply", "reply", "tree", "helped", "waits", "before", "overlap")):
         case "reply":
             clause = f"reply {call()} {draw.choice(REPLIES)}"
         case "tree":
             clause = f"tree {draw.choice(LINES)}"
-        case "helped":
-            clause = f"helped {call()}"
-        case _:
-            clause = f"before {call()} {call()}"
+        case "helped" | "waits" as word:
+            clause = f"{word} {call()}"
+        case word:
+            clause = f"{word} {call()} {call()}"
     return clause if draw.randrange(4) else f"not {clause}"
 
 
@@ -175,7 +186,7 @@ class Words(Case):
 
         rows = (
             ("", WORDS), (" ", WORDS), ("and", WORDS), ("not", WORDS), ("reply", WORDS), ("none m#1", WORDS), ("reply m#1 ok and", WORDS), ("reply m#1 ok  and helped m#1", WORDS),
-            ("not not helped m#1", WORDS), ("helped", WORDS), ("helped m#1 m#2", WORDS), ("before m#1", WORDS), ("before m#1 m#2 m#2", WORDS),
+            ("not not helped m#1", WORDS), ("helped", WORDS), ("helped m#1 m#2", WORDS), ("before m#1", WORDS), ("waits", WORDS), ("waits m#1 m#2", WORDS), ("overlap m#1", WORDS), ("overlap m#1 m#2 m#2", WORDS), ("waits m#0", CALL), ("overlap m#1 r", CALL), ("before m#1 m#2 m#2", WORDS),
             ("helped m", CALL), ("helped m#", CALL), ("helped m#0", CALL), ("helped m#01", CALL), ("helped m#x", CALL), ("before m#1 r", CALL), ("reply m ok", CALL),
             ("reply m#1", REPLY), ("reply m#1 done", REPLY), ("reply m#1 ok ok", REPLY), ("reply m#1 failed ENONE", REPLY), ("reply m#1 stat dir", REPLY), ("reply m#1 bytes 0", REPLY), ("reply m#1 failed ENOENT EEXIST", REPLY),
             ("tree", LINE), ("tree dir", LINE), ("tree dir a", LINE), ("tree dir /a 00", LINE), ("tree file /a", LINE), ("tree file /a 0", LINE), ("tree link /a", LINE),
@@ -197,6 +208,8 @@ class Words(Case):
                         "helped n#1",
                         "reply m#18446744073709551615 ok",
                         "before m#1 r#2",
+                        "waits m#3",
+                        "overlap m#1 r#2",
                         "not helped M#1",
                     )
                 ),
@@ -214,7 +227,7 @@ class Words(Case):
     def test_readable(self):
         """What words may be."""
         self.each(((what, ("find", "--where", what, "--seed", "1", "--runs", "1"), b"atomfs 1\nthread m\nreaddir /\nschedule\n", Outcome(0, b"atomfs 1\nthread m\nreaddir /\nschedule\nm*5\n", b"atomfs: seed 1\n")) for what in (
-            "reply m#1 names", "not reply m#1 failed", "not reply m#1 names a %61nd b", "tree dir /", "not tree file /f -", "not helped m#1 and not before m#1 m#1", "not reply m#1 bytes -", "not reply m#1 stat file 3",
+            "reply m#1 names", "not reply m#1 failed", "not reply m#1 names a %61nd b", "tree dir /", "not tree file /f -", "not helped m#1 and not before m#1 m#1", "not waits m#1 and overlap m#1 m#1", "not reply m#1 bytes -", "not reply m#1 stat file 3",
         )), self.ends)  # fmt: skip
 
 

@@ -50,7 +50,9 @@ WHAT is one or several conditions with `and` between them, each also behind `not
   reply CALL REPLY   the call returned this, as a journal has it, or `failed` for any error
   tree LINE          at the end this is a line of the tree text, as `dir /b/d/x`
   helped CALL        the step of another call committed this one
+  waits CALL         the call waited for a node that another call held
   before CALL CALL   the first committed before the second
+  overlap CALL CALL  each began before the other returned
 CALL is `THREAD#N`, the N-th call of the thread's block. A name `and` is written `%61nd`.
 
 Exit status:

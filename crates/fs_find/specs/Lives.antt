@@ -1,5 +1,5 @@
 -- What a run told of its threads' calls.
-use Rattle.std.specs.Prelude.{ℕ, ◌+◌, ◌-◌, ◌==◌, Bool, true, false, List, [], ◌∷◌, ◌++◌, Option, Some, None, fold, slice_index, if◌then◌else◌}
+use Rattle.std.specs.Prelude.{ℕ, ◌+◌, ◌-◌, ◌==◌, Bool, true, false, List, [], ◌∷◌, ◌++◌, length, Option, Some, None, fold, slice_index, if◌then◌else◌}
 use Rattle.fs_calls.specs.declared.reply.Reply.{Reply}
 use Rattle.fs_machine.specs.declared.answers.Stepped.{Stepped}
 use Rattle.fs_machine.specs.declared.answers.Stepped.TheVariants as step
@@ -9,9 +9,13 @@ use Rattle.fs_witness.specs.declared.moments.Moment.{Moment}
 use Rattle.fs_witness.specs.declared.moments.Moment.TheVariants.{Event, Checkpoint}
 
 -- of the calls that began since the last checkpoint the seats, in order: a call's number is its place among them;
--- of all commits whose seats' calls they are, and whether another call's step was it; of all returns the seats, and the replies
+-- of all begins the seats, and how many calls had returned then; of all commits whose seats' calls they are, and whether another call's step was it;
+-- of all waits the seat, and how many calls had returned then; of all returns the seats, and the replies
 pub record Lived : Type 0 where
   pub owners : List ℕ
+  pub begin_seats : List ℕ
+  pub returned_before : List ℕ
+  pub waits : List (ℕ × ℕ)
   pub commit_seats : List ℕ
   pub helped : List Bool
   pub reply_seats : List ℕ
@@ -19,17 +23,21 @@ pub record Lived : Type 0 where
 
 -- before the first moment
 abbrev pub unlived : Lived
-unlived = record { owners = []; commit_seats = []; helped = []; reply_seats = []; replies = [] }
+unlived = record { owners = []; begin_seats = []; returned_before = []; waits = []; commit_seats = []; helped = []; reply_seats = []; replies = [] }
 
 -- behind a commit of the call on a seat
 abbrev pub with_commit : Lived → ℕ → Bool → Lived
 with_commit l seat helped = record l { commit_seats = l.commit_seats ++ seat ∷ []; helped = l.helped ++ helped ∷ [] }
 
+-- behind a begin on a seat
+abbrev pub with_begin : Lived → ℕ → Lived
+with_begin l seat = record l { owners = l.owners ++ seat ∷ []; begin_seats = l.begin_seats ++ seat ∷ []; returned_before = l.returned_before ++ length l.replies ∷ [] }
+
 -- behind a step of the call on a seat
 abbrev pub with_step : Lived → ℕ → Stepped → Lived
 with_step l seat step.Idle = l
 with_step l seat (step.Took n) = l
-with_step l seat (step.Busy n c) = l
+with_step l seat (step.Busy n c) = record l { waits = l.waits ++ (seat, length l.replies) ∷ [] }
 with_step l seat (step.LetGo n) = l
 with_step l seat (step.Helped c) = with_commit l (slice_index l.owners (c - 1)) true
 with_step l seat step.Committed = with_commit l seat false
@@ -39,7 +47,7 @@ with_step l seat (step.Returned r) = record l { reply_seats = l.reply_seats ++ s
 -- behind an event of the thread on a seat
 abbrev pub with_answer : Lived → ℕ → Answer → Lived
 with_answer l seat Spent = l
-with_answer l seat (Begun c) = record l { owners = l.owners ++ seat ∷ [] }
+with_answer l seat (Begun c) = with_begin l seat
 with_answer l seat (StepOf s) = with_step l seat s
 
 -- behind a moment: at a checkpoint the numbers of calls begin again

@@ -89,9 +89,17 @@ abbrev pub helped_of : List Word → Result Condition WhatFault
 helped_of (call ∷ []) = call_of call >>= λ c. Ok (condition.Helped c)
 helped_of words = Err BadWords
 
+abbrev pub waits_of : List Word → Result Condition WhatFault
+waits_of (call ∷ []) = call_of call >>= λ c. Ok (condition.Waits c)
+waits_of words = Err BadWords
+
 abbrev pub before_of : List Word → Result Condition WhatFault
 before_of (call ∷ other ∷ []) = call_of call >>= λ c. call_of other >>= λ d. Ok (condition.Before c d)
 before_of words = Err BadWords
+
+abbrev pub overlap_of : List Word → Result Condition WhatFault
+overlap_of (call ∷ other ∷ []) = call_of call >>= λ c. call_of other >>= λ d. Ok (condition.Overlap c d)
+overlap_of words = Err BadWords
 
 -- a condition
 unfoldable pub condition_of : List Word → Result Condition WhatFault
@@ -100,8 +108,10 @@ condition_of (first ∷ more) =
     if bytes_eq first (codes "reply") then reply_words_of more
     else (if bytes_eq first (codes "tree") then line_of more
     else (if bytes_eq first (codes "helped") then helped_of more
+    else (if bytes_eq first (codes "waits") then waits_of more
     else (if bytes_eq first (codes "before") then before_of more
-    else Err BadWords)))
+    else (if bytes_eq first (codes "overlap") then overlap_of more
+    else Err BadWords)))))
 
 abbrev pub clause_with : Bool → List Word → Result Clause WhatFault
 clause_with negated words = condition_of words >>= λ c. Ok (record { negated = negated; condition = c })

@@ -1,5 +1,5 @@
 -- What a run may have.
-use Rattle.std.specs.Prelude.{ℕ, ◌≡◌, Bool, true, false, not, ◌&&◌, nat_lt, nat_le, List, [], length, All, Any, Option, Some, None, slice_get, get_or, option_and_then, unwrap_or, if◌then◌else◌}
+use Rattle.std.specs.Prelude.{ℕ, ◌≡◌, ◌==◌, Bool, true, false, not, ◌&&◌, nat_lt, nat_le, List, [], length, All, Any, Option, Some, None, slice_get, get_or, option_and_then, unwrap_or, if◌then◌else◌}
 use Rattle.std.specs.List.{list_any, list_all}
 use Rattle.std.specs.Str.{bytes_eq}
 use Rattle.fs_calls.specs.Replies.{same_reply}
@@ -14,7 +14,7 @@ use Rattle.fs_script.specs.declared.script.Script.{Script}
 use Rattle.fs_find.specs.Lives.{Lived, nth_from}
 use Rattle.fs_find.specs.declared.what.CallName.{CallName}
 use Rattle.fs_find.specs.declared.what.Condition.{Condition}
-use Rattle.fs_find.specs.declared.what.Condition.TheVariants.{Reply as IsReply, Fails, Line, Helped, Before}
+use Rattle.fs_find.specs.declared.what.Condition.TheVariants.{Reply as IsReply, Fails, Line, Helped, Waits, Before, Overlap}
 use Rattle.fs_find.specs.declared.what.Clause.{Clause}
 
 -- the index at which a call's commit, or its return, stands among those with these seats: the N-th of a thread is that of its N-th call
@@ -44,6 +44,40 @@ is_failure (Some (reply.Failed errno)) = true
 abbrev pub was_helped : List (List ℕ) → Lived → CallName → Bool
 was_helped names l call = unwrap_or (option_and_then (slice_get l.helped) (index_of names l.commit_seats call)) false
 
+-- how many calls had returned when a call began, and its own place among the returns
+abbrev pub began : List (List ℕ) → Lived → CallName → Option ℕ
+began names l call = option_and_then (slice_get l.returned_before) (index_of names l.begin_seats call)
+
+abbrev pub returned : List (List ℕ) → Lived → CallName → Option ℕ
+returned names l call = index_of names l.reply_seats call
+
+-- a call with this place among the returns had not returned yet when so many had
+abbrev pub is_left : Option ℕ → ℕ → Bool
+is_left None n = true
+is_left (Some i) n = nat_le n i
+
+-- a wait, by its seat and how many calls had returned then, is one of the call on a seat that began and returned so
+abbrev pub is_wait_of : ℕ → ℕ → Option ℕ → ℕ × ℕ → Bool
+is_wait_of seat began returned wait = wait.0 == seat && (nat_le began wait.1 && is_left returned wait.1)
+
+abbrev pub has_wait : List (ℕ × ℕ) → Option ℕ → Option ℕ → Option ℕ → Bool
+has_wait waits (Some seat) (Some began) returned = list_any (is_wait_of seat began returned) waits
+has_wait waits (Some seat) None returned = false
+has_wait waits None began returned = false
+
+-- a call waited for a node that another call held
+abbrev pub has_waited : List (List ℕ) → Lived → CallName → Bool
+has_waited names l call = has_wait l.waits (seat_named names call.thread) (began names l call) (returned names l call)
+
+-- two calls that began and returned so were under way together: neither had returned when the other began
+abbrev pub is_together : Option ℕ → Option ℕ → Option ℕ → Option ℕ → Bool
+is_together (Some began) returned (Some other) over = is_left returned other && is_left over began
+is_together (Some began) returned None over = false
+is_together None returned other over = false
+
+abbrev pub do_overlap : List (List ℕ) → Lived → CallName → CallName → Bool
+do_overlap names l call other = is_together (began names l call) (returned names l call) (began names l other) (returned names l other)
+
 -- both are there, and the first is before the second
 abbrev pub is_before : Option ℕ → Option ℕ → Bool
 is_before (Some i) (Some j) = nat_lt i j
@@ -60,6 +94,8 @@ Answers names l graph (IsReply call r) b = b ≡ is_reply r (reply_of names l ca
 Answers names l graph (Fails call) b = b ≡ is_failure (reply_of names l call)
 Answers names l graph (Line line) b = IsTreeLine graph line b
 Answers names l graph (Helped call) b = b ≡ was_helped names l call
+Answers names l graph (Waits call) b = b ≡ has_waited names l call
+Answers names l graph (Overlap call other) b = b ≡ do_overlap names l call other
 Answers names l graph (Before call other) b = b ≡ is_before (index_of names l.commit_seats call) (index_of names l.commit_seats other)
 
 -- the same of a clause, which may stand behind `not`
@@ -88,7 +124,9 @@ has_calls script (IsReply call r) = is_there script call
 has_calls script (Fails call) = is_there script call
 has_calls script (Line line) = true
 has_calls script (Helped call) = is_there script call
+has_calls script (Waits call) = is_there script call
 has_calls script (Before call other) = is_there script call && is_there script other
+has_calls script (Overlap call other) = is_there script call && is_there script other
 
 -- and those of all clauses
 abbrev pub names_calls : Script → List Clause → Bool

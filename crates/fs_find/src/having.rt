@@ -6,7 +6,7 @@ ghost use Rattle.std.specs.Str.{bytes_eq};
 ghost use Rattle.fs_nodes.specs.Stores.{graph_of};
 ghost use Rattle.fs_words.specs.Lines.{lines_of};
 ghost use Rattle.fs_find.specs.Lives.{nth_from};
-ghost use Rattle.fs_find.specs.What.{index_of, reply_of, is_reply, is_failure, was_helped, is_before, IsTreeLine, Answers, IsClause, Has};
+ghost use Rattle.fs_find.specs.What.{index_of, reply_of, is_reply, is_failure, was_helped, began, returned, is_left, is_wait_of, has_wait, has_waited, is_together, do_overlap, is_before, IsTreeLine, Answers, IsClause, Has};
 
 use crate::lives::Lives;
 use crate::what::{CallName, Clause, Condition};
@@ -77,6 +77,91 @@ fn was_helped(names: &ThreadNames, lives: &Lives, call: &CallName) -> bool
     }
 }
 
+/// How many calls had returned when a call began.
+fn began(names: &ThreadNames, lives: &Lives, call: &CallName) -> Option<usize>
+    ensures { result ≡ began names.now lives.now call.now }
+{
+    let at = index_of(names, lives.begin_seats(), call)?;
+    lives.returned_before().get(at).copied()
+}
+
+/// The place of a call among the returns.
+fn returned(names: &ThreadNames, lives: &Lives, call: &CallName) -> Option<usize>
+    ensures { result ≡ returned names.now lives.now call.now }
+{
+    index_of(names, lives.reply_seats(), call)
+}
+
+fn is_left(returned: Option<usize>, number: usize) -> bool
+    ensures { result ≡ is_left returned number }
+{
+    match returned {
+        Some(at) => number <= at,
+        None => true,
+    }
+}
+
+fn is_wait_of(seat: usize, began: usize, returned: Option<usize>, wait: (usize, usize)) -> bool
+    ensures { result ≡ is_wait_of seat began returned wait }
+{
+    wait.0 == seat && began <= wait.1 && is_left(returned, wait.1)
+}
+
+fn any_wait(waits: &[(usize, usize)], seat: usize, began: usize, returned: Option<usize>) -> bool
+    ensures { result ≡ list_any (is_wait_of seat began returned) waits.now }
+{
+    waits
+        .iter()
+        .any(|wait| is_wait_of(seat, began, returned, *wait))
+}
+
+fn has_wait(
+    waits: &[(usize, usize)],
+    seat: Option<usize>,
+    began: Option<usize>,
+    returned: Option<usize>,
+) -> bool
+    ensures { result ≡ has_wait waits.now seat began returned }
+{
+    match (seat, began) {
+        (Some(seat), Some(began)) => any_wait(waits, seat, began, returned),
+        _ => false,
+    }
+}
+
+fn has_waited(names: &ThreadNames, lives: &Lives, call: &CallName) -> bool
+    ensures { result ≡ has_waited names.now lives.now call.now }
+{
+    let seat = names.seat(call.thread.as_slice());
+    let began = began(names, lives, call);
+    has_wait(lives.waits(), seat, began, returned(names, lives, call))
+}
+
+fn is_together(
+    began: Option<usize>,
+    returned: Option<usize>,
+    other: Option<usize>,
+    over: Option<usize>,
+) -> bool
+    ensures { result ≡ is_together began returned other over }
+{
+    match (began, other) {
+        (Some(began), Some(other)) => is_left(returned, other) && is_left(over, began),
+        _ => false,
+    }
+}
+
+fn do_overlap(names: &ThreadNames, lives: &Lives, call: &CallName, other: &CallName) -> bool
+    ensures { result ≡ do_overlap names.now lives.now call.now other.now }
+{
+    is_together(
+        began(names, lives, call),
+        returned(names, lives, call),
+        began(names, lives, other),
+        returned(names, lives, other),
+    )
+}
+
 fn is_before(first: Option<usize>, second: Option<usize>) -> bool
     ensures { result ≡ is_before first second }
 {
@@ -125,6 +210,8 @@ fn answer(
         Condition::Fails(call) => Ok(is_failure(reply_of(names, lives, call))),
         Condition::Line(line) => tree_has_line(alloc, store, line.as_slice()),
         Condition::Helped(call) => Ok(was_helped(names, lives, call)),
+        Condition::Waits(call) => Ok(has_waited(names, lives, call)),
+        Condition::Overlap(call, other) => Ok(do_overlap(names, lives, call, other)),
         Condition::Before(call, other) => {
             let first = index_of(names, commits, call);
             Ok(is_before(first, index_of(names, commits, other)))

@@ -1,7 +1,7 @@
 //! What a run tells of its threads' calls.
 
 ghost use Rattle.std.specs.Prelude.{◌≡◌, ◌-◌, OnOk, slice_index};
-ghost use Rattle.fs_find.specs.Lives.{unlived, with_commit, with_step, with_answer, with_moment, lived};
+ghost use Rattle.fs_find.specs.Lives.{unlived, with_begin, with_commit, with_step, with_answer, with_moment, lived};
 
 use fs_calls::Reply;
 use fs_core::{Core, Stepped};
@@ -14,6 +14,9 @@ use std::marker::Model;
 #[derive(Drop)]
 pub(crate) struct Lives {
     owners: Vec<usize>,
+    begin_seats: Vec<usize>,
+    returned_before: Vec<usize>,
+    waits: Vec<(usize, usize)>,
     commit_seats: Vec<usize>,
     helped: Vec<bool>,
     reply_seats: Vec<usize>,
@@ -25,7 +28,7 @@ impl Model for Lives {
 
     ghost Value = { Lived };
 
-    ghost view = { λ l. record { owners = l.owners.items; commit_seats = l.commit_seats.items; helped = l.helped.items; reply_seats = l.reply_seats.items; replies = l.replies.items } };
+    ghost view = { λ l. record { owners = l.owners.items; begin_seats = l.begin_seats.items; returned_before = l.returned_before.items; waits = l.waits.items; commit_seats = l.commit_seats.items; helped = l.helped.items; reply_seats = l.reply_seats.items; replies = l.replies.items } };
 }
 
 impl Lives {
@@ -35,11 +38,35 @@ impl Lives {
     {
         Lives {
             owners: Vec::new(alloc),
+            begin_seats: Vec::new(alloc),
+            returned_before: Vec::new(alloc),
+            waits: Vec::new(alloc),
             commit_seats: Vec::new(alloc),
             helped: Vec::new(alloc),
             reply_seats: Vec::new(alloc),
             replies: Vec::new(alloc),
         }
+    }
+
+    /// The seats of the calls that began, in order.
+    pub(crate) fn begin_seats(&self) -> &[usize]
+        ensures { result.now ≡ self.now.begin_seats }
+    {
+        self.begin_seats.as_slice()
+    }
+
+    /// How many calls had returned when each of these began.
+    pub(crate) fn returned_before(&self) -> &[usize]
+        ensures { result.now ≡ self.now.returned_before }
+    {
+        self.returned_before.as_slice()
+    }
+
+    /// The seats of calls that waited, and how many calls had returned then.
+    pub(crate) fn waits(&self) -> &[(usize, usize)]
+        ensures { result.now ≡ self.now.waits }
+    {
+        self.waits.as_slice()
     }
 
     /// The seats of the calls that committed, in order.
@@ -70,6 +97,15 @@ impl Lives {
         self.replies.as_slice()
     }
 
+    fn begin(&mut self, seat: usize) -> Result<(), AllocError>
+        ensures { OnOk result (self.new ≡ with_begin self.old seat) }
+    {
+        self.owners.push(seat)?;
+        self.begin_seats.push(seat)?;
+        self.returned_before.push(self.replies.len())?;
+        Ok(())
+    }
+
     fn commit(&mut self, seat: usize, helped: bool) -> Result<(), AllocError>
         ensures { OnOk result (self.new ≡ with_commit self.old seat helped) }
     {
@@ -94,6 +130,10 @@ impl Lives {
         ensures { OnOk result (self.new ≡ with_step self.old seat stepped) }
     {
         match stepped {
+            Stepped::Busy(_, _) => {
+                self.waits.push((seat, self.replies.len()))?;
+                Ok(())
+            }
             Stepped::Committed => self.commit(seat, false),
             Stepped::Helped(call) => {
                 let owner = self.owner(call);
@@ -114,10 +154,7 @@ impl Lives {
         let Told { seat, answer } = told;
         match answer {
             Answer::Spent => Ok(()),
-            Answer::Begun(_) => {
-                self.owners.push(seat)?;
-                Ok(())
-            }
+            Answer::Begun(_) => self.begin(seat),
             Answer::Stepped(stepped) => self.step(seat, stepped),
         }
     }

@@ -2,7 +2,7 @@
 
 ghost use Rattle.std.specs.Prelude.{◌≡◌, ◌<◌, ◌≤◌, ◌+◌, take, drop, length, ◌++◌, ◌∷◌, [], List, map, position, codes, OnOk, IfOk, IfErr, Ok};
 ghost use Rattle.std.specs.List.{flat_map, list_any, position_or_len};
-ghost use Rattle.fs_find.specs.Reading.{is_hash, is_memory, joined, entries_behind, said_of, call_of, numbered, return_text, only_reply, reply_of, is_failed, returned_of, reply_words_of, is_path, is_node, line_of, helped_of, before_of, condition_of, clause_with, clause_of, is_and, clauses_of, what_of};
+ghost use Rattle.fs_find.specs.Reading.{is_hash, is_memory, joined, entries_behind, said_of, call_of, numbered, return_text, only_reply, reply_of, is_failed, returned_of, reply_words_of, is_path, is_node, line_of, helped_of, waits_of, before_of, overlap_of, condition_of, clause_with, clause_of, is_and, clauses_of, what_of};
 ghost use Rattle.fs_words.specs.Lines.{is_line_feed};
 ghost use Rattle.fs_words.specs.Reading.{words_of};
 ghost use Rattle.fs_words.specs.code.Answers.{GivesText};
@@ -28,7 +28,7 @@ pub enum WhatFault {
     #[error("out of memory")]
     OutOfMemory,
     /// They are no conditions with `and` between them.
-    #[error("write `reply CALL REPLY`, `tree LINE`, `helped CALL` or `before CALL CALL`, each also behind `not`, with `and` between two")]
+    #[error("write `reply CALL REPLY`, `tree LINE`, `helped CALL`, `waits CALL`, `before CALL CALL` or `overlap CALL CALL`, each also behind `not`, with `and` between two")]
     BadWords,
     /// A word is no call.
     #[error("a CALL is the name of a thread, `#` and a number from 1")]
@@ -252,6 +252,15 @@ fn helped_of(alloc: Global, words: &[&[u8]]) -> Result<Condition, WhatFault>
     }
 }
 
+fn waits_of(alloc: Global, words: &[&[u8]]) -> Result<Condition, WhatFault>
+    ensures { Says (λ condition. condition) result (waits_of (map (λ w. w.now) words.now)) }
+{
+    match words {
+        [call] => Ok(Condition::Waits(call_of(alloc, call)?)),
+        _ => Err(WhatFault::BadWords),
+    }
+}
+
 fn before_of(alloc: Global, words: &[&[u8]]) -> Result<Condition, WhatFault>
     ensures { Says (λ condition. condition) result (before_of (map (λ w. w.now) words.now)) }
 {
@@ -259,6 +268,18 @@ fn before_of(alloc: Global, words: &[&[u8]]) -> Result<Condition, WhatFault>
         [call, other] => {
             let call = call_of(alloc, call)?;
             Ok(Condition::Before(call, call_of(alloc, other)?))
+        }
+        _ => Err(WhatFault::BadWords),
+    }
+}
+
+fn overlap_of(alloc: Global, words: &[&[u8]]) -> Result<Condition, WhatFault>
+    ensures { Says (λ condition. condition) result (overlap_of (map (λ w. w.now) words.now)) }
+{
+    match words {
+        [call, other] => {
+            let call = call_of(alloc, call)?;
+            Ok(Condition::Overlap(call, call_of(alloc, other)?))
         }
         _ => Err(WhatFault::BadWords),
     }
@@ -281,8 +302,14 @@ fn condition_of(alloc: Global, words: &[&[u8]]) -> Result<Condition, WhatFault>
     if is_word(first, b"helped") {
         return helped_of(alloc, more);
     }
+    if is_word(first, b"waits") {
+        return waits_of(alloc, more);
+    }
     if is_word(first, b"before") {
         return before_of(alloc, more);
+    }
+    if is_word(first, b"overlap") {
+        return overlap_of(alloc, more);
     }
     Err(WhatFault::BadWords)
 }

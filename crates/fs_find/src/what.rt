@@ -28,8 +28,12 @@ pub enum Condition {
     Line(Bytes),
     /// The step of another call committed this one.
     Helped(CallName),
+    /// The call waited for a node that another one held.
+    Waits(CallName),
     /// The first call committed, and the second behind it.
     Before(CallName, CallName),
+    /// Both calls began, and neither had returned when the other began.
+    Overlap(CallName, CallName),
 }
 
 /// A condition, or its contrary.
@@ -54,10 +58,13 @@ fn has_calls(script: &Script, condition: &Condition) -> bool
 {
     match condition {
         Condition::Line(_) => true,
-        Condition::Reply(call, _) | Condition::Fails(call) | Condition::Helped(call) => {
-            is_there(script, call)
+        Condition::Reply(call, _)
+        | Condition::Fails(call)
+        | Condition::Helped(call)
+        | Condition::Waits(call) => is_there(script, call),
+        Condition::Before(call, other) | Condition::Overlap(call, other) => {
+            is_there(script, call) && is_there(script, other)
         }
-        Condition::Before(call, other) => is_there(script, call) && is_there(script, other),
     }
 }
 

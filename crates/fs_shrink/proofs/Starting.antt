@@ -12,7 +12,7 @@ use Rattle.fs_find.specs.Finds.{RunHas}
 use Rattle.fs_find.specs.What.{is_place, is_there, has_calls, names_calls}
 use Rattle.fs_find.specs.declared.what.CallName.{CallName}
 use Rattle.fs_find.specs.declared.what.Condition.{Condition}
-use Rattle.fs_find.specs.declared.what.Condition.TheVariants.{Reply, Fails, Line, Helped, Before}
+use Rattle.fs_find.specs.declared.what.Condition.TheVariants.{Reply, Fails, Line, Helped, Waits, Before, Overlap}
 use Rattle.fs_find.specs.declared.what.Clause.{Clause}
 use Rattle.fs_shrink.specs.Kept.{picked, kept_lists, kept_script, items_in}
 use Rattle.fs_shrink.specs.Moves.{kept_count, calls_before, place_at, moved_call, moved_condition, moved}
@@ -69,9 +69,13 @@ condition_whole script n (Reply call r) h there = ap (λ x. Reply x r) (call_who
 condition_whole script n (Fails call) h there = ap Fails (call_whole script n call h there)
 condition_whole script n (Line line) h there = refl
 condition_whole script n (Helped call) h there = ap Helped (call_whole script n call h there)
+condition_whole script n (Waits call) h there = ap Waits (call_whole script n call h there)
 condition_whole script n (Before call other) h there =
     let both = and_parts (is_there script call) (is_there script other) there in
     ap (λ x. Before x (moved_call (replicate n true) script other)) (call_whole script n call h both.0) ∙ ap (Before call) (call_whole script n other h both.1)
+condition_whole script n (Overlap call other) h there =
+    let both = and_parts (is_there script call) (is_there script other) there in
+    ap (λ x. Overlap x (moved_call (replicate n true) script other)) (call_whole script n call h both.0) ∙ ap (Overlap call) (call_whole script n other h both.1)
 
 moved_whole : (script : Script) (n : ℕ) (what : List Clause) → calls_in script.lists ≤ n → names_calls script what ≡ true → moved (replicate n true) script what ≡ what
 moved_whole script n [] h there = refl

@@ -7,7 +7,7 @@ use Rattle.fs_script.specs.Script.{seat_named}
 use Rattle.fs_script.specs.declared.script.Script.{Script}
 use Rattle.fs_find.specs.declared.what.CallName.{CallName}
 use Rattle.fs_find.specs.declared.what.Condition.{Condition}
-use Rattle.fs_find.specs.declared.what.Condition.TheVariants.{Reply, Fails, Line, Helped, Before}
+use Rattle.fs_find.specs.declared.what.Condition.TheVariants.{Reply, Fails, Line, Helped, Waits, Before, Overlap}
 use Rattle.fs_find.specs.declared.what.Clause.{Clause}
 
 -- how many of the first so many flags are true
@@ -35,7 +35,9 @@ moved_condition kept script (Reply call r) = Reply (moved_call kept script call)
 moved_condition kept script (Fails call) = Fails (moved_call kept script call)
 moved_condition kept script (Line line) = Line line
 moved_condition kept script (Helped call) = Helped (moved_call kept script call)
+moved_condition kept script (Waits call) = Waits (moved_call kept script call)
 moved_condition kept script (Before call other) = Before (moved_call kept script call) (moved_call kept script other)
+moved_condition kept script (Overlap call other) = Overlap (moved_call kept script call) (moved_call kept script other)
 
 abbrev pub moved_clause : List Bool → Script → Clause → Clause
 moved_clause kept script clause = record clause { condition = moved_condition kept script clause.condition }
@@ -65,7 +67,9 @@ is_named_by script at (Reply call r) = is_call script at call
 is_named_by script at (Fails call) = is_call script at call
 is_named_by script at (Line line) = false
 is_named_by script at (Helped call) = is_call script at call
+is_named_by script at (Waits call) = is_call script at call
 is_named_by script at (Before call other) = is_call script at call || is_call script at other
+is_named_by script at (Overlap call other) = is_call script at call || is_call script at other
 
 -- of one that is named
 abbrev pub is_named : Script → List Clause → ℕ → Bool

@@ -4,7 +4,7 @@ use Rattle.std.specs.List.{flat_map, join_with_byte}
 use Rattle.fs_text.specs.Journal.{reply_words}
 use Rattle.fs_find.specs.declared.what.CallName.{CallName}
 use Rattle.fs_find.specs.declared.what.Condition.{Condition}
-use Rattle.fs_find.specs.declared.what.Condition.TheVariants.{Reply, Fails, Line, Helped, Before}
+use Rattle.fs_find.specs.declared.what.Condition.TheVariants.{Reply, Fails, Line, Helped, Waits, Before, Overlap}
 use Rattle.fs_find.specs.declared.what.Clause.{Clause}
 
 -- the name of its thread, and its place
@@ -16,7 +16,9 @@ condition_text (Reply call r) = codes "reply " ++ (call_text call ++ (codes " " 
 condition_text (Fails call) = codes "reply " ++ (call_text call ++ codes " failed")
 condition_text (Line line) = codes "tree " ++ line
 condition_text (Helped call) = codes "helped " ++ call_text call
+condition_text (Waits call) = codes "waits " ++ call_text call
 condition_text (Before call other) = codes "before " ++ (call_text call ++ (codes " " ++ call_text other))
+condition_text (Overlap call other) = codes "overlap " ++ (call_text call ++ (codes " " ++ call_text other))
 
 abbrev pub clause_text : Clause → List ℕ
 clause_text clause = (if clause.negated then codes "not " else []) ++ condition_text clause.condition

@@ -85,10 +85,16 @@ fn moved_condition(
         Condition::Fails(call) => Ok(Condition::Fails(moved_call(alloc, kept, script, call)?)),
         Condition::Line(line) => Ok(Condition::Line(line.copy()?)),
         Condition::Helped(call) => Ok(Condition::Helped(moved_call(alloc, kept, script, call)?)),
+        Condition::Waits(call) => Ok(Condition::Waits(moved_call(alloc, kept, script, call)?)),
         Condition::Before(call, other) => {
             let call = moved_call(alloc, kept, script, call)?;
             let other = moved_call(alloc, kept, script, other)?;
             Ok(Condition::Before(call, other))
+        }
+        Condition::Overlap(call, other) => {
+            let call = moved_call(alloc, kept, script, call)?;
+            let other = moved_call(alloc, kept, script, other)?;
+            Ok(Condition::Overlap(call, other))
         }
     }
 }
@@ -155,10 +161,13 @@ fn is_named_by(script: &Script, at: usize, condition: &Condition) -> bool
 {
     match condition {
         Condition::Line(_) => false,
-        Condition::Reply(call, _) | Condition::Fails(call) | Condition::Helped(call) => {
-            is_call(script, at, call)
+        Condition::Reply(call, _)
+        | Condition::Fails(call)
+        | Condition::Helped(call)
+        | Condition::Waits(call) => is_call(script, at, call),
+        Condition::Before(call, other) | Condition::Overlap(call, other) => {
+            is_call(script, at, call) || is_call(script, at, other)
         }
-        Condition::Before(call, other) => is_call(script, at, call) || is_call(script, at, other),
     }
 }
 

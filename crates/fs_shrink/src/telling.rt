@@ -60,8 +60,13 @@ fn push_condition(
             text.push(line.as_slice())
         }
         Condition::Helped(call) => push_word(b"helped ", call, text),
+        Condition::Waits(call) => push_word(b"waits ", call, text),
         Condition::Before(call, other) => {
             push_word(b"before ", call, text)?;
+            push_word(b" ", other, text)
+        }
+        Condition::Overlap(call, other) => {
+            push_word(b"overlap ", call, text)?;
             push_word(b" ", other, text)
         }
     }
