@@ -192,8 +192,8 @@ enum {
 enum {
     ATOMFS_TELL_LINE = 0,  /**< its line */
     ATOMFS_TELL_FRONT = 1, /**< instead of the line `none` a journal up to that return, as with --front */
-    /** Its line, and after `none` and `fault` what the entry is, in words. After `none` also some of the replies that
-       the call could have had. */
+    /** Its line, and after `none` and `fault` what the entry is, in words. After `none` also up to ten of the replies
+       that the call could have had; and an earlier entry, if the replies of later lines exclude it. */
     ATOMFS_TELL_WORDS = 2
 };
 

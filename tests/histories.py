@@ -2,8 +2,8 @@
 
 Of drawn histories of two to six calls, some from a start tree, some with calls that never return or replies that are left open, half with a changed reply,
 each answer is what all orders say: a journal that is lawful by `atomfs check` and is the history without its commits, or the first return up to
-which there is no order, while there is one up to the entry before it; and the replies that the call could have had there are those that some order
-gives it. Journals of runs come back lawful without their commits.
+which there is no order, while there is one up to the entry before it; the replies that the call could have had there are those that some order
+gives it; and the entry that is named beside it is the first up to which there is none with the replies that are recorded later. Journals of runs come back lawful without their commits.
 """
 import copy
 import random
@@ -122,44 +122,58 @@ def fits(told, reply):
     )
 
 
-def trees(start, entries, whole):
-    """The trees behind entries by each order of commits that explains them, where calls under way get replies that fit in the whole history."""
+def orders(start, entries, whole):
+    """The tree and the replies behind entries, by each order of commits that explains them and gives calls the replies that the whole history records of them."""
     told = {entry[1]: entry[2] for entry in whole if entry[0] == "return"}
     calls = {entry[1]: entry[3] for entry in entries if entry[0] == "begin"}
 
-    def goes_on(place, tree, under_way, done):
+    def goes_on(place, tree, under_way, replies):
         if place == len(entries):
-            yield tree
+            yield tree, replies
         else:
             kind, number, *_ = entries[place]
             if kind == "begin":
-                yield from goes_on(place + 1, tree, under_way | {number}, done)
-            elif number in done:
-                yield from goes_on(place + 1, tree, under_way - {number}, done)
-        for other in under_way - done:
+                yield from goes_on(place + 1, tree, under_way | {number}, replies)
+            elif number in replies:
+                yield from goes_on(place + 1, tree, under_way - {number}, replies)
+        for other in under_way - replies.keys():
             later = copy.deepcopy(tree)
             reply = later.apply(calls[other])
             if other not in told or fits(told[other], reply):
-                yield from goes_on(place, later, under_way, done | {other})
+                yield from goes_on(place, later, under_way, {**replies, other: reply})
 
-    return goes_on(0, model.started(list(start))[0], frozenset(), frozenset())
+    return goes_on(0, model.started(list(start))[0], frozenset(), {})
 
 
 def has_order(start, entries, whole):
     """Whether some order of commits explains entries: every order is tried."""
-    return any(True for _ in trees(start, entries, whole))
+    return any(True for _ in orders(start, entries, whole))
 
 
-def replied(message):
-    """In how many ways all before a return is explained, as a message tells, how many of them give each reply that is told, and whether all are told."""
-    ways, told, rest = re.fullmatch(
-        r"atomfs: (\d+) ways? explains? all before it, and the call could have replied: (.*?)(, \.\.)?\n", message
-    ).groups()
-    return (
-        int(ways),
-        {reply: int(count) for reply, count in re.findall(r"(?:^|, )(.+?) \((\d+) ways?\)", told)},
-        not rest,
+def first_without(start, entries, whole):
+    """The first place, counted from 1, up to which no order explains entries; `whole` says which replies of those up to there count."""
+    return next(
+        place for place in range(1, len(entries) + 1) if not has_order(start, entries[:place], whole(entries[:place]))
     )
+
+
+def could_reply(start, before, number):
+    """What the call of a number can reply behind entries, in each order that explains them."""
+    words = next(entry[3] for entry in before if entry[:2] == ("begin", number))
+    return {replies.get(number) or copy.deepcopy(tree).apply(words) for tree, replies in orders(start, before, before)}
+
+
+def named(start, entries, place):
+    """The entry of a place, as a message names it."""
+    _, number, *_ = entries[place - 1]
+    _, _, seat, words = next(entry for entry in entries if entry[:2] == ("begin", number))
+    return (
+        f"line {len(start) + place}: {line_of(entries[place - 1])}; call {number} is {' '.join(words)} on seat {seat}"
+    )
+
+
+COULD = "the call could have replied: "
+LATER = "with the replies of later lines nothing explains "
 
 
 def without_commits(text):
@@ -170,21 +184,18 @@ def refused(text, line, status=1, message=b""):
     return text_of(text), Outcome(status, line, message)
 
 
-def unexplained(text, place, line, call, could):
+def unexplained(text, place, line, call, *told):
     """No order explains the return in a line, of which the call is told, and what it could have replied."""
     number = text[line - 1].split(" ")[1]
-    told = f"atomfs: line {line}: {text[line - 1]}; call {number} is {call}\natomfs: {could}\n"
-    return refused(text, f"none {place} {number}\n".encode(), 1, told.encode())
+    lines = f"line {line}: {text[line - 1]}; call {number} is {call}", *told
+    return refused(
+        text, f"none {place} {number}\n".encode(), 1, "".join(f"atomfs: {said}\n" for said in lines).encode()
+    )
 
 
-def one_way(reply):
-    """What is told where one way explains all before a return."""
-    return f"1 way explains all before it, and the call could have replied: {reply} (1 way)"
-
-
-def ways(count, *replies):
-    """The same of several ways."""
-    return f"{count} ways explain all before it, and the call could have replied: {', '.join(replies)}"
+def could(*replies):
+    """What is told of the replies that a call could have had."""
+    return COULD + ", ".join(replies)
 
 
 HEADER = "atomfs-journal 1"
@@ -216,50 +227,54 @@ ROWS = {
         3,
         4,
         "stat /a on seat 1",
-        ways(2, "failed ENOENT (1 way)", "stat dir 0 (1 way)"),
+        could("failed ENOENT", "stat dir 0"),
     ),
-    "a later reply is held to": unexplained(
-        (*BEGUN, "return 1 failed EEXIST", "return 2 stat dir 0"), 3, 4, "mkdir /a on seat 0", one_way("ok")
+    "a later reply does not count": unexplained(
+        (*BEGUN, "return 2 stat dir 0", "return 1 failed EEXIST"),
+        4,
+        5,
+        "mkdir /a on seat 0",
+        could("ok"),
+        f"{LATER}line 4: return 2 stat dir 0; call 2 is stat /a on seat 1",
+    ),
+    "two creates that both fail": unexplained(
+        (HEADER, "begin 1 0 mkdir /b", "begin 2 1 mkdir /b", "return 1 failed EEXIST", "return 2 failed EEXIST"),
+        4,
+        5,
+        "mkdir /b on seat 1",
+        could("ok"),
+        f"{LATER}line 4: return 1 failed EEXIST; call 1 is mkdir /b on seat 0",
+    ),
+    "its own reply does not count": unexplained(
+        (HEADER, "begin 1 0 stat /a", "begin 2 1 mkdir /a", "return 2 ok", "return 1 ok"),
+        4,
+        5,
+        "stat /a on seat 0",
+        could("failed ENOENT", "stat dir 0"),
+    ),
+    "the first of two returns": unexplained(
+        (*BEGUN, "return 1 failed EEXIST", "return 2 stat dir 0"), 3, 4, "mkdir /a on seat 0", could("ok")
     ),
     "an open reply that nothing explains": unexplained(
         (HEADER, "begin 7 0 rmdir /", "", "# none", "return 7 failed ?", "begin 8 0 stat /", "return 8 failed ?"),
         4,
         7,
         "stat / on seat 0",
-        one_way("stat dir 0"),
+        could("stat dir 0"),
     ),
-    "ways that give one reply": unexplained(
+    "three replies": unexplained(
         (*BEGUN, "begin 3 2 mkdir /a/b", "return 2 stat dir 7"),
         4,
         5,
         "stat /a on seat 1",
-        ways(5, "failed ENOENT (2 ways)", "stat dir 0 (2 ways)", "stat dir 1 (1 way)"),
+        could("failed ENOENT", "stat dir 0", "stat dir 1"),
     ),
-    "calls that do not meet it make no ways": unexplained(
+    "calls that do not meet it make no replies": unexplained(
         (*BEGUN, "begin 3 2 mkdir /b", "return 2 stat dir 1"),
         4,
         5,
         "stat /a on seat 1",
-        ways(2, "failed ENOENT (1 way)", "stat dir 0 (1 way)"),
-    ),
-    "more replies than are told": unexplained(
-        (
-            HEADER,
-            *(f"begin {at} {at} mkdir /{name}" for at, name in enumerate("abcd")),
-            "begin 9 9 readdir /",
-            "return 9 ok",
-        ),
-        6,
-        7,
-        "readdir / on seat 9",
-        ways(
-            16,
-            *(
-                f"names{''.join(' ' + name for name in names)} (1 way)"
-                for names in ("", *"abcd", "ab", "ac", "ad", "bc", "bd")
-            ),
-            "..",
-        ),
+        could("failed ENOENT", "stat dir 0"),
     ),
     "a reply that is cut": unexplained(
         (
@@ -274,13 +289,13 @@ ROWS = {
         2,
         7,
         "read /f 0 200 on seat 0",
-        one_way(f"bytes {'07' * 117}.."),
+        could(f"bytes {'07' * 117}.."),
     ),
     "a call that is cut": refused(
         (HEADER, f"begin 1 0 write /a 0 {'00' * 200}", f"return 1 names {'x' * 30} {'y' * 30}"),
         b"none 2 1\n",
         1,
-        f"atomfs: line 3: return 1 names {'x' * 30} {'y' * 30}; call 1 is write /a 0 {'0' * 229}.. on seat 0\natomfs: {one_way('failed ENOENT')}\n".encode(),
+        f"atomfs: line 3: return 1 names {'x' * 30} {'y' * 30}; call 1 is write /a 0 {'0' * 229}.. on seat 0\natomfs: {could('failed ENOENT')}\n".encode(),
     ),
     "a number twice": refused(
         (*BEGUN, "begin 1 2 stat /"),
@@ -495,13 +510,33 @@ class Histories(harness.Case):
         if has_order(start, entries, entries):
             self.explained(given, came)
             return
-        first = next(place for place in range(1, len(entries) + 1) if not has_order(start, entries[:place], entries))
+        first = first_without(start, entries, lambda front: front)
+        held = first_without(start, entries, lambda front: entries)
         number = entries[first - 1][1]
         self.same(given, (came.status, came.output), (1, f"none {first} {number}\n".encode()))
-        of, told, whole = replied(came.message.decode().splitlines(keepends=True)[-1])
-        words = next(entry[3] for entry in entries if entry[:2] == ("begin", number))
-        could = {copy.deepcopy(tree).apply(words) for tree in trees(start, entries[: first - 1], entries)}
-        self.same(given, (set(told), sum(told.values()), whole), (could, of, True))
+        entry, replies, *later = (line.removeprefix("atomfs: ") for line in came.message.decode().splitlines())
+        self.same(given, entry, named(start, entries, first))
+        told = replies.removeprefix(COULD).split(", ")
+        self.same(given, (set(told), len(told)), (of := could_reply(start, entries[: first - 1], number), len(of)))
+        self.same(given, later, [LATER + named(start, entries, held)] if held < first else [])
+
+    def test_more_replies(self):
+        """Of more than ten replies ten are named, and two points say that there are more."""
+        given = text_of(
+            (
+                HEADER,
+                *(f"begin {at} {at} mkdir /{name}" for at, name in enumerate("abcd")),
+                "begin 9 9 readdir /",
+                "return 9 ok",
+            )
+        )
+        of = {
+            "names" + "".join(f" {name}" for at, name in enumerate("abcd") if chosen >> at & 1) for chosen in range(16)
+        }
+        came = run(given, "linearize")
+        *told, rest = came.message.decode().splitlines()[1].removeprefix(f"atomfs: {COULD}").split(", ")
+        self.same(given, came[:2], (1, b"none 6 9\n"))
+        self.same(given, (rest, len(told), len({*told} & of)), ("..", 10, 10))
 
     def test_every_order(self):
         harness.asks_of_answers()

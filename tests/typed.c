@@ -605,8 +605,7 @@ static void histories(void) {
     size_t length = count;
     IS(atomfs_linearize(PATH(none), most, ATOMFS_TELL_WORDS, out, length, &count, &found), ATOMFS_OK);
     SAYS(out, count,
-         "none 2 1\nline 3: return 1 failed ?; call 1 is mkdir /a on seat 0\n1 way explains all before it, and the "
-         "call could have replied: ok (1 way)\n");
+         "none 2 1\nline 3: return 1 failed ?; call 1 is mkdir /a on seat 0\nthe call could have replied: ok\n");
     IS(atomfs_linearize(PATH(lawful), most, ATOMFS_TELL_LINE, NULL, 0, &count, &found), ATOMFS_TOO_SMALL);
     IS(count, sizeof journal - 1);
     IS(found, ATOMFS_FOUND_LAWFUL);

@@ -83,25 +83,25 @@ class Linearize(unittest.TestCase):
 
     def test_words(self):
         """What the entry says, which call it is, and what that could have replied; the rest of a long one is left out, and what is no text stands for itself."""
-        could = "1 way explains all before it, and the call could have replied:"
+        could = "the call could have replied:"
         for text, wanted in (
             (
                 BEGUN + "return 2 stat dir 1\n",
-                "line 4: return 2 stat dir 1; call 2 is stat /a on seat 1\n2 ways explain all before it, and the call could have replied: failed ENOENT (1 way), stat dir 0 (1 way)",
+                "line 4: return 2 stat dir 1; call 2 is stat /a on seat 1\nthe call could have replied: failed ENOENT, stat dir 0",
             ),
             (BEGUN + "begin 3 1 stat /\n", "line 4: begin 3 1 stat /; call 3 is stat / on seat 1"),
             (HEADER + "return 7 ok\n", "line 2: return 7 ok; no call 7 has begun"),
             (
                 HEADER + "begin 1 0 stat /\nreturn 1 failed ?\n" + "# \n" * 50_000,
-                f"line 3: return 1 failed ?; call 1 is stat / on seat 0\n{could} stat dir 0 (1 way)",
+                f"line 3: return 1 failed ?; call 1 is stat / on seat 0\n{could} stat dir 0",
             ),
             (
                 HEADER + f"begin 1 0 {LONG}\nreturn 1 ok\n",
-                f"line 3: return 1 ok; call 1 is {LONG[:240]}.. on seat 0\n{could} failed ENOENT (1 way)",
+                f"line 3: return 1 ok; call 1 is {LONG[:240]}.. on seat 0\n{could} failed ENOENT",
             ),
             (
                 HEADER.encode() + b"begin 1 0 stat /\xff\nreturn 1 ok\n",
-                f"line 3: return 1 ok; call 1 is stat /\ufffd on seat 0\n{could} failed ENOENT (1 way)",
+                f"line 3: return 1 ok; call 1 is stat /\ufffd on seat 0\n{could} failed ENOENT",
             ),
         ):
             with self.subTest(wanted):

@@ -20,8 +20,8 @@ pub enum Linearized {
         place: u64,
         /// The number of the call that returns there.
         call: u64,
-        /// What this entry says, with its line, and which call it is; and in a second line what the call could have
-        /// replied.
+        /// What this entry says, with its line, and which call it is; in a second line what the call could have
+        /// replied; and in a third, if the replies of later lines exclude an earlier entry, that entry.
         words: String,
     },
     /// The entry at this place is the first that cannot come next.
@@ -52,7 +52,7 @@ impl fmt::Display for Linearized {
 }
 
 /// An order in which the calls of a history took effect, or the first return up to which no order explains the
-/// entries, together with the replies that calls under way there return later.
+/// entries.
 ///
 /// A history is a journal without its lines `commit`, in which `return 3 failed ?` fits any error of call 3, and
 /// `return 3 stat dir ?` any number of entries. The search makes at most `limit` configurations, 1 to 1,000,000,000, or

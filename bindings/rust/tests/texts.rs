@@ -77,8 +77,7 @@ fn histories() {
         place: 3,
         call: 2,
         words: "line 4: return 2 stat dir 1; call 2 is stat /a on seat 1\n\
-                2 ways explain all before it, and the call could have replied: failed ENOENT (1 way), \
-                stat dir 0 (1 way)"
+                the call could have replied: failed ENOENT, stat dir 0"
             .to_owned(),
     };
     assert_eq!(linearize(&history, Some(1_000_000_000)).unwrap(), wanted);

@@ -16,7 +16,7 @@ use Rattle.fs_timeline.specs.Timeline.{call_of, commits}
 use Rattle.fs_timeline.specs.declared.entry.Entry.{Entry}
 use Rattle.fs_histories.specs.declared.heard.Heard.{Heard}
 use Rattle.fs_histories.specs.declared.heard.Pattern.{Pattern}
-use Rattle.fs_histories.specs.declared.heard.Pattern.TheVariants.{Exactly, AnyError, AnyDirectory}
+use Rattle.fs_histories.specs.declared.heard.Pattern.TheVariants.{Exactly, AnyError, AnyDirectory, Except}
 use Rattle.fs_histories.specs.Heard.{Matches, is_error}
 use Rattle.fs_histories.specs.Histories.{recorded, ExplainsFront}
 use Rattle.fs_histories.specs.Configurations.{Configuration, is_in, committed}
@@ -58,6 +58,7 @@ told_error : (p : Pattern) (r : Reply) → tells_error p ≡ true → Matches p 
 told_error (Exactly s) r tells is = ap is_error is ∙ tells
 told_error AnyError r tells is = is
 told_error AnyDirectory r tells is = absurd (cc)
+told_error (Except replies) r tells is = absurd (cc)
 
 failed_stays : (limits : Limits) (t : Tree) (call : Call) (p : Pattern) → tells_error p ≡ true → Matches p (reply limits t call) → after limits t call ≡ t
 failed_stays limits t call p tells is =

@@ -8,5 +8,6 @@ pub mod CommutingLemmas
 pub mod Bringing
 pub mod Reaching
 pub mod PathLemmas
+pub mod PrefixLemmas
 pub mod FaultLemmas
 pub mod LinearizableLemmas

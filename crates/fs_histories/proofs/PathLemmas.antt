@@ -26,7 +26,7 @@ use Rattle.fs_histories.proofs.Following.{is_in-placed, without_was, without_oth
 
 -- ---- what the history says of the next entry
 
-next_at : (before : List Entry) (h : List Heard) (n : ℕ) (x : Heard) → AreNextHeard before h → slice_get h n ≡ Some x → IsNextHeard (before ++ entries (take n h)) x
+pub next_at : (before : List Entry) (h : List Heard) (n : ℕ) (x : Heard) → AreNextHeard before h → slice_get h n ≡ Some x → IsNextHeard (before ++ entries (take n h)) x
 next_at before [] n x k is = absurd (cc)
 next_at before (y ∷ h) zero x k is =
     let same : y ≡ x = some_is y x is in
@@ -71,10 +71,10 @@ is_busy-blank s es = ap (λ o. is_open o (blanks es)) (last_on-blank s es) ∙ i
 pub has_begun-blank : (c : ℕ) (es : List Entry) → has_begun c (blanks es) ≡ has_begun c es
 has_begun-blank c es = sym (is_some-call_of c (blanks es)) ∙ ap is_some (call_of-blank c es) ∙ is_some-call_of c es
 
-passed_begun : (start : Start) (h : List Heard) (es : List Entry) (n c : ℕ) → ExplainsFront start h es → n ≡ length (history es) → has_begun c (entries (take n h)) ≡ has_begun c es
+pub passed_begun : (start : Start) (h : List Heard) (es : List Entry) (n c : ℕ) → ExplainsFront start h es → n ≡ length (history es) → has_begun c (entries (take n h)) ≡ has_begun c es
 passed_begun start h es n c x at = ap (has_begun c) (passed_front start h es n x at) ∙ has_begun-blank c (history es) ∙ has_begun-history c es
 
-passed_busy : (start : Start) (h : List Heard) (es : List Entry) (n s : ℕ) → ExplainsFront start h es → n ≡ length (history es) → is_busy s (entries (take n h)) ≡ is_busy s es
+pub passed_busy : (start : Start) (h : List Heard) (es : List Entry) (n s : ℕ) → ExplainsFront start h es → n ≡ length (history es) → is_busy s (entries (take n h)) ≡ is_busy s es
 passed_busy start h es n s x at = ap (is_busy s) (passed_front start h es n x at) ∙ is_busy-blank s (history es) ∙ is_busy-history s es
 
 -- ---- steps

@@ -1,6 +1,7 @@
 -- What is heard of a timeline: begins and returns, and of a reply perhaps not all.
-use Rattle.std.specs.Prelude.{◌≡◌, Bool, true, false, List, [], ◌∷◌, map}
+use Rattle.std.specs.Prelude.{◌≡◌, Bool, true, false, ◌||◌, List, [], ◌∷◌, map}
 use Rattle.fs_names.specs.declared.kind.Kind.TheVariants as kinds
+use Rattle.fs_calls.specs.Replies.{same_reply}
 use Rattle.fs_calls.specs.declared.reply.Reply.{Reply}
 use Rattle.fs_calls.specs.declared.reply.Reply.TheVariants as answer
 use Rattle.fs_timeline.specs.declared.entry.Entry.{Entry}
@@ -8,7 +9,7 @@ use Rattle.fs_timeline.specs.declared.entry.Entry.TheVariants.{Begin, Commit, Re
 use Rattle.fs_histories.specs.declared.heard.Heard.{Heard}
 use Rattle.fs_histories.specs.declared.heard.Heard.TheVariants as heard
 use Rattle.fs_histories.specs.declared.heard.Pattern.{Pattern}
-use Rattle.fs_histories.specs.declared.heard.Pattern.TheVariants.{Exactly, AnyError, AnyDirectory}
+use Rattle.fs_histories.specs.declared.heard.Pattern.TheVariants.{Exactly, AnyError, AnyDirectory, Except}
 
 abbrev pub is_error : Reply → Bool
 is_error (answer.Failed e) = true
@@ -18,11 +19,17 @@ abbrev pub is_directory : Reply → Bool
 is_directory (answer.Stat kinds.Dir size) = true
 is_directory r = false
 
+-- a reply is among replies
+abbrev pub is_among : Reply → List Reply → Bool
+is_among r [] = false
+is_among r (s ∷ replies) = same_reply s r || is_among r replies
+
 -- a reply matches what is known of it
 abbrev pub Matches : Pattern → Reply → Type 0
 Matches (Exactly r) s = s ≡ r
 Matches AnyError s = is_error s ≡ true
 Matches AnyDirectory s = is_directory s ≡ true
+Matches (Except replies) s = is_among s replies.items ≡ false
 
 -- an entry of a timeline is heard as this one
 abbrev pub IsHeardAs : Entry → Heard → Type 0

@@ -1,5 +1,5 @@
 -- Histories, and which timelines explain one.
-use Rattle.std.specs.Prelude.{◌≡◌, ◌<◌, ◌+◌, ℕ, true, false, List, [], ◌∷◌, ◌++◌, map, length, ◌==◌, if◌then◌else◌, Option, Some, None}
+use Rattle.std.specs.Prelude.{◌≡◌, ◌<◌, ◌≤◌, ◌+◌, ◌-◌, ℕ, true, false, List, [], ◌∷◌, ◌++◌, map, length, take, ◌==◌, if◌then◌else◌, Option, Some, None}
 use Rattle.fs_names.specs.Failures.{first_failure}
 use Rattle.fs_calls.specs.Starts.{Start}
 use Rattle.fs_calls.specs.declared.reply.Reply.{Reply}
@@ -11,6 +11,7 @@ use Rattle.fs_histories.specs.Heard.{Matches, AreHeardIn, entry_of}
 use Rattle.fs_histories.specs.declared.heard.Heard.{Heard}
 use Rattle.fs_histories.specs.declared.heard.Heard.TheVariants as heard
 use Rattle.fs_histories.specs.declared.heard.Pattern.{Pattern}
+use Rattle.fs_histories.specs.declared.heard.Pattern.TheVariants.{Exactly}
 
 -- the entry may come next in a history: a call begins once, on a seat whose last call has returned, and returns once, after its Begin
 abbrev pub IsNextHeard : List Entry → Heard → Type 0
@@ -50,8 +51,19 @@ pub record ExplainsFront (start : Start) (h : List Heard) (es : List Entry) : Ty
   pub heard_as : AreHeardIn (history es) h
   pub held_to : (c : ℕ) (r : Reply) → has_committed c es ≡ true → due start c es ≡ Some r → FitsIn h c r
 
--- no timeline explains the history, nor its front up to the entry of this place, and one explains the front before it
+-- no timeline explains the history, nor its entries up to this place, and one explains those before it
 pub record HasNoOrder (start : Start) (h : List Heard) (place : ℕ) : Type 0 where
+  pub whole : (es : List Entry) → Explains start h es → ⊥
+  pub front : (es : List Entry) → Explains start (take place h) es → ⊥
+  pub before : (es : List Entry) × Explains start (take (place - 1) h) es
+
+-- where each call gets the very reply that the history records of it, even later, no timeline explains the front up to the entry of this place, and one explains the front before it
+pub record HasNoFront (start : Start) (h : List Heard) (place : ℕ) : Type 0 where
+  pub within : place ≤ length h
   pub whole : (es : List Entry) → Explains start h es → ⊥
   pub front : (es : List Entry) → ExplainsFront start h es → length (history es) < place
   pub before : (es : List Entry) × ExplainsFront start h es × (length (history es) + 1 ≡ place)
+
+-- behind these entries the call could return this reply: some timeline explains them with that return
+abbrev pub CouldReply : Start → List Heard → ℕ → Reply → Type 0
+CouldReply start before c r = (es : List Entry) × Explains start (before ++ heard.Return c (Exactly r) ∷ []) es

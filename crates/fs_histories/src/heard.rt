@@ -1,7 +1,7 @@
 //! What is heard of calls from outside of a tree.
 
 ghost use Rattle.std.specs.Prelude.{◌≡◌, ◌↔◌, true};
-ghost use Rattle.fs_histories.specs.Heard.{Matches, is_error, is_directory};
+ghost use Rattle.fs_histories.specs.Heard.{Matches, is_error, is_directory, is_among};
 
 use fs_calls::{Call, Reply};
 use fs_names::{CallNo, Kind, SeatNo};
@@ -15,6 +15,8 @@ pub enum Pattern {
     AnyError,
     /// It is that of the stat of a directory, of which the size is not known.
     AnyDirectory,
+    /// It is none of these.
+    Except(Vec<Reply>),
 }
 
 /// Whether a reply is an error.
@@ -31,6 +33,18 @@ fn is_directory(reply: &Reply) -> bool
     matches!(reply, Reply::Stat(Kind::Dir, _))
 }
 
+/// Whether a reply is among replies.
+fn is_among(replies: &[Reply], reply: &Reply) -> bool
+    ensures { result ≡ is_among reply.now replies.now }
+{
+    for other in replies {
+        if other.same(reply) {
+            return true;
+        }
+    }
+    false
+}
+
 impl Pattern {
     /// Whether a reply may be the one of which this is known.
     pub fn matches(&self, reply: &Reply) -> bool
@@ -40,6 +54,7 @@ impl Pattern {
             Pattern::Exactly(known) => reply.same(known),
             Pattern::AnyError => is_error(reply),
             Pattern::AnyDirectory => is_directory(reply),
+            Pattern::Except(others) => !is_among(others, reply),
         }
     }
 }

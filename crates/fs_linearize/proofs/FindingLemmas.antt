@@ -10,13 +10,13 @@ use Rattle.fs_timeline.specs.declared.entry.Entry.{Entry}
 use Rattle.fs_linearizable.specs.Linearizable.{history}
 use Rattle.fs_histories.specs.declared.heard.Heard.{Heard}
 use Rattle.fs_histories.specs.declared.heard.Heard.TheVariants.{Begin, Return}
-use Rattle.fs_histories.specs.Histories.{Explains, ExplainsFront, HasNoOrder}
+use Rattle.fs_histories.specs.Histories.{Explains, ExplainsFront, HasNoFront}
 use Rattle.fs_histories.specs.Configurations.{Configuration, at_start, passed, returned, committed, FollowedBy, IsFollowed}
 use Rattle.fs_histories.specs.Early.{SettlesIn}
 use Rattle.fs_histories.specs.Paths.{LeadsTo}
 use Rattle.fs_histories.specs.Laws.{IsClosed}
 use Rattle.fs_histories.proofs.Reaching.{closed_set_reaches, closed_set_refutes}
-use Rattle.fs_linearize.specs.Results.{WasLimited}
+use Rattle.fs_linearize.specs.Limited.{WasLimited}
 use Rattle.fs_linearize.specs.code.Calls.{AreEach, AreUnderWay}
 use Rattle.fs_linearize.specs.code.Ways.{GoesBy, GoesBack, IsLed, AllLed, configurations}
 use Rattle.fs_linearize.specs.code.Searching.{AllAt, IsReady, WidensFor, HasPassed, PassesAll, IsFirst}
@@ -215,7 +215,7 @@ was_limited start h limit place e us links mid layer wide most gone s w =
     }
 
 pub no_order : (start : Start) (h : List Heard) (limit place : ℕ) (e : Heard) (us : List UnderWay) (links mid new : List Link) (layer wide behind : List Reached) (most : ℕ) (gone : List Configuration)
-    → slice_get h place ≡ Some e → Stands start h limit place us links layer most gone → WidensFor h e place us links mid layer wide true most → PassesAll h e place mid new wide behind → behind ≡ [] → HasNoOrder start h (place + 1)
+    → slice_get h place ≡ Some e → Stands start h limit place us links layer most gone → WidensFor h e place us links mid layer wide true most → PassesAll h e place mid new wide behind → behind ≡ [] → HasNoFront start h (place + 1)
 no_order start h limit place e us links mid new layer wide behind most gone here s w p none =
     let k = closes start h limit place e us links mid new layer wide behind most gone here s w p in
     let set = gone ++ configurations wide in
@@ -226,6 +226,7 @@ no_order start h limit place e us links mid new layer wide behind most gone here
     } in
     let short = slice_get_within h place e here in
     record {
+      within = omega (arith, short);
       whole = closed_set_refutes start h set closed (λ x there. let at = k.before x there in omega (arith, at, short));
       front = λ es x. let found = closed_set_reaches start h es set closed x in let at = k.before found.0 found.1 in omega (arith, at, found.2);
       before = before_place start h limit place us links layer most gone s;

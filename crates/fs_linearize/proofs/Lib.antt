@@ -5,9 +5,11 @@ mod NearLemmas
 mod WayLemmas
 mod SearchLemmas
 mod FindingLemmas
-mod ReplyLemmas
-mod PossibleLemmas
+mod StoppingLemmas
 mod TellingLemmas
+mod PlayingLemmas
+mod PlaceLemmas
+mod PossibleLemmas
 mod HeardLemmas
 mod KnownLemmas
 mod LinearizableLemmas

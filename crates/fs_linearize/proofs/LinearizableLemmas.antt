@@ -20,12 +20,12 @@ fault_refuses start h fault is g =
 -- what was searched says so
 abbrev pub TellsOf : Start → List Heard → Searched → Type 0
 TellsOf start h (Ends steps) = IsHeardLinearizable start h
-TellsOf start h (NoOrder place call possible) = IsHeardLinearizable start h → ⊥
+TellsOf start h (NoOrder place call) = IsHeardLinearizable start h → ⊥
 TellsOf start h (Limited place) = Unit {0}
 
 search_tells : (start : Start) (h : List Heard) (limit : ℕ) (found : Searched) → IsSearched start h limit found → TellsOf start h found
 search_tells start h limit (Ends steps) x = (explained_are_linearizable start h).0 (x.0, x.1)
-search_tells start h limit (NoOrder place call possible) x = λ g. let way = (explained_are_linearizable start h).1 g in x.0.whole way.0 way.1
+search_tells start h limit (NoOrder place call) x = λ g. let way = (explained_are_linearizable start h).1 g in x.0.whole way.0 way.1
 search_tells start h limit (Limited place) x = tt
 
 pub searched_tells : (start : Start) (h k : List Heard) (limit : ℕ) (found answer : Searched) → k ≡ h → IsSearched start k limit found → found ≡ answer → TellsOf start h answer

@@ -1,187 +1,178 @@
--- What a call could have replied in the configurations of a layer, where it returns and has committed in none.
-use Rattle.std.proofs.Common.{◌≡◌, ℕ, suc, ◌+◌, ◌-◌, ◌<◌, Bool, true, false, not, ◌&&◌, ◌==◌, cond, List, [], ◌∷◌, length, map, take, slice_get, Some, refl, sym, ap, ◌∙◌, subst, ⊎_elim, arith}
-use Rattle.std.specs.List.{Contains}
-use Rattle.std.proofs.lemmas.Bool.{both_ways, or_parts, or_cases, eq-eqb, eqb-true}
-use Rattle.std.proofs.lemmas.List.Elements.{Contains-append_left, Contains-append_cases, Contains-push_cases}
+-- What a call could have replied.
+use Rattle.std.proofs.Common.{Vec, Global, ◌≡◌, ℕ, ◌+◌, ◌-◌, ◌<◌, Bool, true, false, ◌||◌, List, [], ◌∷◌, ◌++◌, length, take, get_or, Option, Some, refl, sym, ap, ◌∙◌, subst, ⊎_elim, inl, inr, arith}
+use Rattle.std.proofs.lemmas.Bool.{or_cases, or_parts, both_ways, cases_Bool, false_from_ne_true}
+use Rattle.std.proofs.lemmas.List.{length-append}
+use Rattle.std.proofs.lemmas.Option.{slice_get_within, get_or_from_slice_get}
 use Rattle.fs_calls.specs.Starts.{Start}
-use Rattle.fs_calls.specs.Outcomes.{reply_at}
-use Rattle.fs_calls.specs.declared.call.Call.{Call}
+use Rattle.fs_calls.specs.Replies.{same_reply}
 use Rattle.fs_calls.specs.declared.reply.Reply.{Reply}
-use Rattle.fs_timeline.specs.Timeline.{has_returned, call_of}
+use Rattle.fs_timeline.specs.Timeline.{has_committed, due}
 use Rattle.fs_timeline.specs.declared.entry.Entry.{Entry}
-use Rattle.fs_timeline.proofs.AppendLemmas.{is_some-call_of}
+use Rattle.fs_timeline.proofs.AppendLemmas.{committed_first}
+use Rattle.fs_timeline.proofs.ReplyLemmas.{same_reply_exact, same_reply_refl}
 use Rattle.fs_histories.specs.declared.heard.Heard.{Heard}
-use Rattle.fs_histories.specs.declared.heard.Heard.TheVariants.{Begin, Return}
+use Rattle.fs_histories.specs.declared.heard.Heard.TheVariants.{Return}
 use Rattle.fs_histories.specs.declared.heard.Pattern.{Pattern}
-use Rattle.fs_histories.specs.Heard.{entries}
-use Rattle.fs_histories.specs.Histories.{IsHistory, HasNoOrder}
-use Rattle.fs_histories.specs.Configurations.{Configuration, is_in}
-use Rattle.fs_histories.specs.Early.{SettlesIn}
-use Rattle.fs_histories.proofs.HistoryLemmas.{some_from, passed_return}
-use Rattle.fs_linearize.specs.Possible.{IsWay, reply_behind, AreTold, ArePossible}
-use Rattle.fs_linearize.specs.code.Calls.{AreUnderWay}
-use Rattle.fs_linearize.specs.code.Replies.{replies_in, is_held, Returns, CanPass}
-use Rattle.fs_linearize.specs.code.Replies as replies
-use Rattle.fs_linearize.specs.code.Searching.{WidensFor, HasPassed, PassesAll}
-use Rattle.fs_linearize.specs.code.Ways.{IsLed, configurations}
-use Rattle.fs_linearize.specs.declared.reached.Reached.{Reached}
+use Rattle.fs_histories.specs.declared.heard.Pattern.TheVariants.{Exactly, Except}
+use Rattle.fs_histories.specs.Heard.{Matches, is_among}
+use Rattle.fs_histories.specs.Histories.{IsHistory, Explains, CouldReply}
+use Rattle.fs_histories.proofs.HistoryLemmas.{take_step}
+use Rattle.fs_histories.proofs.PrefixLemmas.{history_take, returned_otherwise, answers_last, answers_due}
+use Rattle.fs_linearize.specs.Possible.{AreDifferent, ArePossible}
+use Rattle.fs_linearize.specs.Results.{IsReturnAt}
+use Rattle.fs_linearize.specs.code.Ways.{GoesBy}
+use Rattle.fs_linearize.specs.code.Searching.{IsSearched}
+use Rattle.fs_linearize.specs.code.Replies.{IsAnother}
+use Rattle.fs_linearize.specs.declared.search.Searched.{Searched}
+use Rattle.fs_linearize.specs.declared.search.Searched.TheVariants.{Ends}
+use Rattle.fs_linearize.specs.declared.steps.Step.{Step}
+use Rattle.fs_linearize.specs.declared.replies.Another.{Another}
 use Rattle.fs_linearize.specs.declared.replies.Possible.{Possible}
-use Rattle.fs_linearize.specs.declared.steps.Link.{Link}
-use Rattle.fs_linearize.specs.declared.under_way.UnderWay.{UnderWay}
-use Rattle.fs_linearize.proofs.CallLemmas.{next_in}
-use Rattle.fs_linearize.proofs.FindingLemmas.{Stands, no_order}
-use Rattle.fs_linearize.proofs.SearchLemmas.{none_there}
-use Rattle.fs_linearize.proofs.WayLemmas.{keeps_same, contains_way}
+use Rattle.fs_linearize.specs.declared.replies.TheConstants.{MOST_REPLIES}
+use Rattle.fs_linearize.specs.declared.replies.Another.TheVariants.{Is, No, Limited}
 
--- ---- whether a call has committed in a configuration
+-- ---- one reply
 
-not_held_at : (c : ℕ) (layer : List Reached) (r : Reached) → Contains layer r → is_held c layer ≡ false → is_in c r.configuration.held ≡ false
-not_held_at c [] r there none = absurd (let small = there.1 in omega (arith, small))
-not_held_at c (s ∷ layer) r there none =
-    let parts = or_parts (is_in c s.configuration.held) (is_held c layer) none in
+-- what was searched, by what came of it
+pub ends_by : (start : Start) (h : List Heard) (limit : ℕ) (found : Searched) (steps : Vec Step Global) → IsSearched start h limit found → found ≡ Ends steps → (es : List Entry) × Explains start h es × GoesBy h steps.items es
+ends_by start h limit found steps x is = subst (IsSearched start h limit) is x
+
+-- the reply that is due on a way is another
+pub is_another : (start : Start) (asked g : List Heard) (c : ℕ) (p : Pattern) (limit : ℕ) (es : List Entry) (reply : Option Reply) (r : Reply) → IsHistory asked → Explains start asked es → (has_committed c es ≡ true → reply ≡ due start c es) → reply ≡ Some r
+    → asked ≡ g ++ Return c p ∷ [] → IsAnother start g c p limit (Is r)
+is_another start asked g c p limit es reply r known x told some is =
+    let y : Explains start (g ++ Return c p ∷ []) es = subst (λ (xs : List Heard). Explains start xs es) is x in
+    let last = answers_last start g c p es y in
+    let done : has_committed c es ≡ true = committed_first es x.lawful.well_formed c last.returned in
+    let both : Some r ≡ Some last.reply = sym some ∙ told done ∙ answers_due start g c p es (subst IsHistory is known) y in
+    let same : last.reply ≡ r = cc in
+    subst (λ (s : Reply). IsAnother start g c p limit (Is s)) same (last.matches, (es, last.otherwise (Exactly last.reply) refl))
+
+-- a reply is due there
+pub some_due : (start : Start) (asked g : List Heard) (c : ℕ) (p : Pattern) (es : List Entry) (reply : Option Reply) → IsHistory asked → Explains start asked es → (has_committed c es ≡ true → reply ≡ due start c es) → asked ≡ g ++ Return c p ∷ []
+    → (r : Reply) × (reply ≡ Some r)
+some_due start asked g c p es reply known x told is =
+    let y : Explains start (g ++ Return c p ∷ []) es = subst (λ (xs : List Heard). Explains start xs es) is x in
+    let last = answers_last start g c p es y in
+    let done : has_committed c es ≡ true = committed_first es x.lawful.well_formed c last.returned in
+    (last.reply, told done ∙ answers_due start g c p es (subst IsHistory is known) y)
+
+-- ---- replies
+
+same_either_way : (r s : Reply) → same_reply r s ≡ false → same_reply s r ≡ false
+same_either_way r s apart = false_from_ne_true (same_reply s r) (λ same. both_ways (same_reply r s) apart (subst (λ (t : Reply). same_reply r t ≡ true) (sym (same_reply_exact s r same)) (same_reply_refl r)))
+
+among_push : (r s : Reply) (replies : List Reply) → is_among r (replies ++ s ∷ []) ≡ (is_among r replies || same_reply s r)
+among_push r s [] = or_nothing (same_reply s r)
+  where
+    or_nothing : (b : Bool) → (b || false) ≡ b
+    or_nothing true = refl
+    or_nothing false = refl
+among_push r s (t ∷ replies) = ap (λ b. same_reply t r || b) (among_push r s replies) ∙ assoc (same_reply t r) (is_among r replies) (same_reply s r)
+  where
+    assoc : (a b c : Bool) → (a || (b || c)) ≡ ((a || b) || c)
+    assoc true b c = refl
+    assoc false b c = refl
+
+different_push : (replies : List Reply) (r : Reply) → is_among r replies ≡ false → AreDifferent replies → AreDifferent (replies ++ r ∷ [])
+different_push [] r none so = (refl, tt)
+different_push (s ∷ replies) r none so =
+    let parts = or_parts (same_reply s r) (is_among r replies) none in
+    let later : is_among s (replies ++ r ∷ []) ≡ false = among_push s r replies ∙ ap (λ b. b || same_reply r s) so.0 ∙ same_either_way s r parts.0 in
+    (later, different_push replies r parts.1 so.1)
+
+-- these are replies that the call could have, each once
+pub record AreSome (start : Start) (before : List Heard) (c : ℕ) (replies : List Reply) : Type 0 where
+  pub each : (r : Reply) → is_among r replies ≡ true → CouldReply start before c r
+  pub once : AreDifferent replies
+
+pub some_none : (start : Start) (before : List Heard) (c : ℕ) → AreSome start before c []
+some_none start before c = record { each = λ r there. absurd (cc); once = tt }
+
+pub some_push : (start : Start) (before : List Heard) (c : ℕ) (replies : List Reply) (r : Reply) → is_among r replies ≡ false → CouldReply start before c r → AreSome start before c replies → AreSome start before c (replies ++ r ∷ [])
+some_push start before c replies r none could so = record {
+  each = λ s there. ⊎_elim
+      (λ was. so.each s was)
+      (λ same. subst (λ (t : Reply). CouldReply start before c t) (same_reply_exact r s same) could)
+      (or_cases (is_among s replies) (same_reply r s) (sym (among_push s r replies) ∙ there));
+  once = different_push replies r none so.once;
+}
+
+-- where no other is possible these are all
+pub all_among : (start : Start) (before : List Heard) (c limit : ℕ) (p : Pattern) (replies : List Reply) → ((s : Reply) → is_among s replies ≡ false → Matches p s) → IsAnother start before c p limit No → (r : Reply) → CouldReply start before c r → is_among r replies ≡ true
+all_among start before c limit p replies others none r could =
     ⊎_elim
-    (λ first. subst (λ (z : Reached). is_in c z.configuration.held ≡ false) (only s r first) parts.0)
-    (λ later. not_held_at c layer r later parts.1)
-    (Contains-append_cases (s ∷ []) layer r there)
-  where
-    only : (a b : Reached) → Contains (a ∷ []) b → a ≡ b
-    only a b one = ⊎_elim (λ none_here. none_there b none_here) (λ same. same) (Contains-push_cases [] a b one)
+    (λ there. there)
+    (λ apart.
+    let last = answers_last start before c (Exactly r) could.0 could.1 in
+    let same : r ≡ last.reply = sym last.matches in
+    absurd (none could.0 (last.otherwise p (subst (Matches p) same (others r apart)))))
+    (cases_Bool (is_among r replies))
 
-held_at : (c : ℕ) (layer : List Reached) → is_held c layer ≡ true → (r : Reached) × Contains layer r × (is_in c r.configuration.held ≡ true)
-held_at c [] some = absurd (cc)
-held_at c (s ∷ layer) some = ⊎_elim
-    (λ here. (s, (0, omega arith, refl), here))
-    (λ later. let found = held_at c layer later in (found.0, (suc found.1.0, (let small = found.1.1 in omega (arith, small)), found.1.2), found.2))
-    (or_cases (is_in c s.configuration.held) (is_held c layer) some)
+-- ---- where the asking ends
 
--- ---- ways
-
-record WaysOf (start : Start) (h : List Heard) (place c : ℕ) (call : Call) (layer : List Reached) : Type 0 where
-  pub ways : List (List Entry)
-  pub each : (es : List Entry) → Contains ways es → IsWay start h place c es
-  pub same : map (reply_behind start call) ways ≡ replies_in call layer
-
-ways_of : (start : Start) (h : List Heard) (place c : ℕ) (call : Call) (layer : List Reached)
-    → ((r : Reached) → Contains layer r → (es : List Entry) × IsWay start h place c es × (reply_behind start call es ≡ reply_at r.configuration.now call)) → WaysOf start h place c call layer
-ways_of start h place c call [] way = record { ways = []; each = λ es there. absurd (let small = there.1 in omega (arith, small)); same = refl }
-ways_of start h place c call (r ∷ layer) way =
-    let rest = ways_of start h place c call layer (λ s there. way s (suc there.0, (let small = there.1 in omega (arith, small)), there.2)) in
-    let mine = way r (0, omega arith, refl) in
+pub ends_all : (start : Start) (before entries : List Heard) (limit c : ℕ) (known : Pattern) (found : Another) (replies : List Reply) (p : Possible) → entries ≡ before → AreSome start before c replies → known ≡ Except p.replies → replies ≡ p.replies.items
+    → IsAnother start entries c known limit found → found ≡ No → p.all ≡ true → ArePossible start before limit c p
+ends_all start before entries limit c known found replies p same so asked are is end all =
+    let some : AreSome start before c p.replies.items = subst (AreSome start before c) are so in
+    let none : IsAnother start before c (Except p.replies) limit No = subst (λ (xs : List Heard). IsAnother start xs c (Except p.replies) limit No) same (subst (λ (k : Pattern). IsAnother start entries c k limit No) asked (subst (IsAnother start entries c known limit) end is)) in
     record {
-      ways = mine.0 ∷ rest.ways;
-      each = λ es there. ⊎_elim
-          (λ first. subst (λ (xs : List Entry). IsWay start h place c xs) (only mine.0 es first) mine.1)
-          (λ later. rest.each es later)
-          (Contains-append_cases (mine.0 ∷ []) rest.ways es there);
-      same = ap (λ (x : Reply). x ∷ map (reply_behind start call) rest.ways) mine.2 ∙ ap (λ (xs : List Reply). reply_at r.configuration.now call ∷ xs) rest.same;
+      each = some.each;
+      once = some.once;
+      all = λ yes. all_among start before c limit (Except p.replies) p.replies.items (λ s apart. apart) none;
+      more = λ not_all. absurd (both_ways p.all not_all all);
     }
-  where
-    only : (a b : List Entry) → Contains (a ∷ []) b → a ≡ b
-    only a b one = ⊎_elim (λ none. absurd (let small = none.1 in omega (arith, small))) (λ same. same) (Contains-push_cases [] a b one)
 
-not_committed : (a b : Bool) → b ≡ false → (a && not b) ≡ false → a ≡ false
-not_committed true true back held = absurd (cc)
-not_committed true false back held = absurd (cc)
-not_committed false b back held = refl
+pub ends_limited : (start : Start) (before entries : List Heard) (limit c : ℕ) (known : Pattern) (found : Another) (replies : List Reply) (p : Possible) → entries ≡ before → AreSome start before c replies → known ≡ Except p.replies → replies ≡ p.replies.items
+    → IsAnother start entries c known limit found → found ≡ Limited → p.all ≡ false → ArePossible start before limit c p
+ends_limited start before entries limit c known found replies p same so asked are is limited all =
+    let some : AreSome start before c p.replies.items = subst (AreSome start before c) are so in
+    let cut : IsAnother start before c (Except p.replies) limit Limited = subst (λ (xs : List Heard). IsAnother start xs c (Except p.replies) limit Limited) same (subst (λ (k : Pattern). IsAnother start entries c k limit Limited) asked (subst (IsAnother start entries c known limit) limited is)) in
+    record { each = some.each; once = some.once; all = λ yes. absurd (both_ways p.all all yes); more = λ not_all. inr cut }
 
--- where a call returns next, what leads to a configuration in which it has not committed is a way
-way_here : (start : Start) (h : List Heard) (place c : ℕ) (p : Pattern) (call : Call) (links : List Link) (r : Reached) → IsHistory h → slice_get h place ≡ Some (Return c p) → r.configuration.at ≡ place → is_in c r.configuration.held ≡ false → IsLed start h links r
-    → (es : List Entry) × IsWay start h (place + 1) c es × (reply_behind start call es ≡ reply_at r.configuration.now call)
-way_here start h place c p call links r history here at not_held l =
-    let next = next_in [] h place (Return c p) history here in
-    let open_still : has_returned c l.es ≡ false = sym (passed_return start h l.es place c l.leads.explains (sym at ∙ l.leads.place)) ∙ next.1 in (
-      l.es,
-      record {
-        explains = l.leads.explains;
-        before = ap (λ n. n + 1) (sym l.leads.place ∙ at);
-        not_yet = not_committed _ _ open_still (sym (l.leads.held c) ∙ not_held);
-      },
-      ap (λ t. reply_at t call) (sym l.leads.tree),
+pub ends_more : (start : Start) (before entries : List Heard) (limit c : ℕ) (known : Pattern) (found : Another) (replies : List Reply) (r : Reply) (p : Possible) → entries ≡ before → AreSome start before c replies → known ≡ Except p.replies → replies ≡ p.replies.items
+    → IsAnother start entries c known limit found → found ≡ Is r → p.all ≡ false → length replies ≡ MOST_REPLIES → ArePossible start before limit c p
+ends_more start before entries limit c known found replies r p same so asked are is one all long =
+    let some : AreSome start before c p.replies.items = subst (AreSome start before c) are so in
+    let other : IsAnother start before c (Except p.replies) limit (Is r) = subst (λ (xs : List Heard). IsAnother start xs c (Except p.replies) limit (Is r)) same (subst (λ (k : Pattern). IsAnother start entries c k limit (Is r)) asked (subst (IsAnother start entries c known limit) one is)) in
+    record { each = some.each; once = some.once; all = λ yes. absurd (both_ways p.all all yes); more = λ not_all. inl (sym (ap length are) ∙ long, (r, other.1, other.0)) }
+
+pub goes_on : (start : Start) (before entries : List Heard) (limit c : ℕ) (known : Pattern) (found : Another) (replies : List Reply) (r : Reply) → entries ≡ before → AreSome start before c replies → ((s : Reply) → Matches known s → is_among s replies ≡ false)
+    → IsAnother start entries c known limit found → found ≡ Is r → AreSome start before c (replies ++ r ∷ [])
+goes_on start before entries limit c known found replies r same so others is one =
+    let other : IsAnother start before c known limit (Is r) = subst (λ (xs : List Heard). IsAnother start xs c known limit (Is r)) same (subst (IsAnother start entries c known limit) one is) in
+    some_push start before c replies r (others r other.0) other.1 so
+
+pub goes_on_by : (start : Start) (before entries : List Heard) (limit c n : ℕ) (known : Pattern) (found : Another) (old mid new : List Reply) (r : Reply) → entries ≡ before → AreSome start before c old → ((s : Reply) → Matches known s → is_among s old ≡ false)
+    → IsAnother start entries c known limit found → found ≡ Is r → mid ≡ old → new ≡ mid ++ r ∷ [] → length old ≡ n → AreSome start before c new × (length new ≡ n + 1)
+goes_on_by start before entries limit c n known found old mid new r same so others is one kept pushed long =
+    let whole : new ≡ old ++ r ∷ [] = pushed ∙ ap (λ xs. xs ++ r ∷ []) kept in
+    let more = ap length whole ∙ length-append old (r ∷ []) in
+    (subst (AreSome start before c) (sym whole) (goes_on start before entries limit c known found old r same so others is one), omega (arith, more, long))
+
+-- ---- the history that is asked
+
+take_front : (g k : List Heard) → take (length g) (g ++ k) ≡ g
+take_front [] k = refl
+take_front (y ∷ g) k = ap (λ ys. y ∷ ys) (take_front g k)
+
+get_end : (g : List Heard) (x d : Heard) → get_or (g ++ x ∷ []) (length g) d ≡ x
+get_end [] x d = refl
+get_end (y ∷ g) x d = get_end g x d
+
+-- the last entry leaves
+pub popped : (ys g rest : List Heard) (x : Heard) (n : ℕ) (last : Option Heard) → ys ≡ g ++ x ∷ [] → n ≡ length ys → rest ≡ take (n - 1) ys → ((d : Heard) → 0 < n → last ≡ Some (get_or ys (n - 1) d)) → (rest ≡ g) × (last ≡ Some x)
+popped ys g rest x n last is many left value =
+    let one : n ≡ length g + 1 = many ∙ ap length is ∙ length-append g (x ∷ []) in
+    let front : n - 1 ≡ length g = omega (arith, one) in
+    let some : 0 < n = omega (arith, one) in (
+      left ∙ ap (λ k. take k ys) front ∙ ap (take (length g)) is ∙ take_front g (x ∷ []),
+      value x some ∙ ap (λ k. Some (get_or ys k x)) front ∙ ap (λ (zs : List Heard). Some (get_or zs (length g) x)) is ∙ ap Some (get_end g x x),
     )
 
--- ---- where the search ends
-
-only_call : (a b : UnderWay) → Contains (a ∷ []) b → a ≡ b
-only_call a b one = ⊎_elim (λ none. absurd (let small = none.1 in omega (arith, small))) (λ same. same) (Contains-push_cases [] a b one)
-
-numbered : (c : ℕ) (us : List UnderWay) (u : UnderWay) → Contains us u → u.number ≡ c → (call : Call) × (replies.call_of c us ≡ Some call)
-numbered c [] u there is = absurd (let small = there.1 in omega (arith, small))
-numbered c (v ∷ us) u there is = ⊎_elim
-    (λ first. let mine : (c == v.number) ≡ true = eq-eqb c v.number (sym is ∙ ap (λ (w : UnderWay). w.number) (sym (only_call v u first))) in (v.call.now, rw mine refl))
-    (λ later. either (c == v.number) (numbered c us u later is))
-    (Contains-append_cases (v ∷ []) us u there)
-  where
-    either : (b : Bool) → ((call : Call) × (replies.call_of c us ≡ Some call)) → (call : Call) × (cond b (Some v.call.now) (replies.call_of c us) ≡ Some call)
-    either true rest = (v.call.now, refl)
-    either false rest = rest
-
--- the call that returns next is under way
-pub is_under_way : (h : List Heard) (place c : ℕ) (e : Heard) (us : List UnderWay) → IsHistory h → slice_get h place ≡ Some e → Returns e c → AreUnderWay h place us → (call : Call) × (replies.call_of c us ≡ Some call)
-is_under_way h place c e us history here returns calls =
-    let next = next_in [] h place (Return c returns.0) history (here ∙ ap Some returns.1) in
-    let found = some_from (call_of c (entries (take place h))) (is_some-call_of c (entries (take place h)) ∙ next.0) in
-    let u = calls.all c found.0 found.1 next.1 in
-    numbered c us u.0 u.1 u.2
-
-pub called_now : (n c : ℕ) (vs us : List UnderWay) (call : Call) → n ≡ c → vs ≡ us → replies.call_of c us ≡ Some call → replies.call_of n vs ≡ Some call
-called_now n c vs us call number same is = ap (λ m. replies.call_of m vs) number ∙ ap (replies.call_of c) same ∙ is
-
--- a call of a number is one of those under way
-call_found : (c : ℕ) (us : List UnderWay) (call : Call) → replies.call_of c us ≡ Some call → (u : UnderWay) × Contains us u × (u.number ≡ c) × (u.call.now ≡ call)
-call_found c [] call is = absurd (cc)
-call_found c (v ∷ us) call is = either (c == v.number) refl (call_found c us call) is
-  where
-    some_call : (a b : Call) → Some a ≡ Some b → a ≡ b
-    some_call a b same = cc
-
-    either : (b : Bool) → (c == v.number) ≡ b → (replies.call_of c us ≡ Some call → (u : UnderWay) × Contains us u × (u.number ≡ c) × (u.call.now ≡ call)) → cond b (Some v.call.now) (replies.call_of c us) ≡ Some call
-        → (u : UnderWay) × Contains (v ∷ us) u × (u.number ≡ c) × (u.call.now ≡ call)
-    either true same rest here = (v, (0, omega arith, refl), sym (eqb-true c v.number same), some_call v.call.now call here)
-    either false apart rest later = let found = rest later in (found.0, (suc found.1.0, (let small = found.1.1 in omega (arith, small)), found.1.2), found.2, found.3)
-
-pub are_possible : (start : Start) (h : List Heard) (limit place c : ℕ) (e : Heard) (us : List UnderWay) (links mid : List Link) (layer wide : List Reached) (most : ℕ) (gone : List Configuration) (p : Possible)
-    → IsHistory h → slice_get h place ≡ Some e → Returns e c → is_held c wide ≡ false → Stands start h limit place us links layer most gone → WidensFor h e place us links mid layer wide true most
-    → ((call : Call) → replies.call_of c us ≡ Some call → AreTold (replies_in call wide) p) → ArePossible start h (place + 1) c p
-are_possible start h limit place c e us links mid layer wide most gone p history here returns none s w told =
-    let is_there = is_under_way h place c e us history here returns s.calls in
-    let call = is_there.0 in
-    let found = call_found c us call is_there.1 in
-    let begun = (s.calls.each found.0 found.1).begun in
-    let is = here ∙ ap Some returns.1 in
-    let led = w.widens.led start s.led in
-    let all = ways_of start h (place + 1) c call wide (λ r there. way_here start h place c returns.0 call mid r history is (w.widens.there r there) (not_held_at c wide r there none) (led r there)) in
-    let front : place + 1 - 1 ≡ place = omega arith in
-    record {
-      call = call;
-      begun = ap (λ n. call_of c (entries (take n h))) front ∙ subst (λ n. call_of n (entries (take place h)) ≡ Some found.0.call.now) found.2 begun ∙ ap Some found.3;
-      ways = all.ways;
-      each = all.each;
-      told = subst (λ (rs : List Reply). AreTold rs p) (sym all.same) (told call is_there.1);
-    }
-
-pub no_order_here : (start : Start) (h : List Heard) (limit place c : ℕ) (e : Heard) (us : List UnderWay) (links mid : List Link) (layer wide : List Reached) (most : ℕ) (gone : List Configuration)
-    → slice_get h place ≡ Some e → Returns e c → is_held c wide ≡ false → Stands start h limit place us links layer most gone → WidensFor h e place us links mid layer wide true most → HasNoOrder start h (place + 1)
-no_order_here start h limit place c e us links mid layer wide most gone here returns none s w =
-    let passes : PassesAll h e place mid mid wide [] = record {
-      there = λ r k. absurd (let small = k.1 in omega (arith, small));
-      keeps = keeps_same mid;
-      led = λ first all r k. absurd (let small = k.1 in omega (arith, small));
-      passed = λ r there. subst (λ (x : Heard). HasPassed h x r.configuration []) (sym returns.1) (λ held. absurd (both_ways _ (not_held_at c wide r there none) held));
-    } in
-    no_order start h limit place e us links mid mid layer wide [] most gone here s w passes refl
-
--- ---- where it goes on
-
-settled_some : (h : List Heard) (behind : List Reached) (x : Configuration) → SettlesIn h (configurations behind) x → 0 < length behind
-settled_some h behind x settles = let way = contains_way behind settles.0 settles.3 in let small = way.1.1 in omega (arith, small)
-
--- behind an entry that passes some configuration there is one
-pub passes_some : (start : Start) (h : List Heard) (limit place : ℕ) (e : Heard) (us : List UnderWay) (links mid new : List Link) (layer wide behind : List Reached) (most : ℕ) (gone : List Configuration)
-    → CanPass e wide → Stands start h limit place us links layer most gone → WidensFor h e place us links mid layer wide true most → PassesAll h e place mid new wide behind → 0 < length behind
-passes_some start h limit place (Begin c seat call) us links mid new layer wide behind most gone can s w p =
-    let r = s.some.0 in
-    let there : Contains wide r = subst (λ (rs : List Reached). Contains rs r) (sym w.widens.is) (Contains-append_left layer w.widens.more r s.some.1) in
-    settled_some h behind _ (p.passed r there)
-passes_some start h limit place (Return c pattern) us links mid new layer wide behind most gone can s w p =
-    let found = held_at c wide can in
-    settled_some h behind _ (p.passed found.0 found.1 found.2)
+pub asked_history : (h : List Heard) (place c : ℕ) → 0 < place → IsHistory h → IsReturnAt h place c → (p : Pattern) → IsHistory (take (place - 1) h ++ Return c p ∷ [])
+asked_history h place c some known returns p =
+    let n = place - 1 in
+    let x = Return c returns.0 in
+    let more : take (n + 1) h ≡ take n h ++ x ∷ [] = take_step h n x (slice_get_within h n x returns.1) (sym (get_or_from_slice_get h n x x returns.1)) in
+    returned_otherwise [] (take n h) c returns.0 p (subst IsHistory more (history_take h (n + 1) known))

@@ -63,7 +63,7 @@ plays_commit c d before old new reply replied grown mine others start well so =
 pub played_none : (start : Start) (c : ℕ) (p : Played) → p.tree ≡ start → IsPlayed start c [] p
 played_none start c p is = record { tree = is; due_to = λ done. absurd (cc) }
 
-each_front : (P : List Entry → Entry → Type 0) (before xs ys : List Entry) → Each P before (xs ++ ys) → Each P before xs
+pub each_front : (P : List Entry → Entry → Type 0) (before xs ys : List Entry) → Each P before (xs ++ ys) → Each P before xs
 each_front P before [] ys k = tt
 each_front P before (x ∷ xs) ys k = (k.0, each_front P (before ++ x ∷ []) xs ys k.1)
 

@@ -1,3 +1,4 @@
+pub mod Limited
 pub mod Possible
 pub mod Results
 pub mod code

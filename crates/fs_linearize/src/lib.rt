@@ -7,8 +7,9 @@
 //! The search goes by layers: all configurations before an entry, then those behind it. A configuration is how many entries
 //! have passed, the tree, and which calls have committed and not returned. A call that changes no tree commits as soon as its
 //! reply fits, any other at the return of a call that has not committed, where it meets that call, or one that meets it, and so
-//! on. Where the call that returns has committed in no configuration of a layer the answer is `NoOrder`, with what it could have
-//! replied in each. Of what went by nothing is kept but the commits, in one list that all ways share. What a history is, which
+//! on. Where the call that returns has committed in no configuration of a layer no timeline explains the history. Then the
+//! entries up to there, and further on, are searched by themselves, for the first return up to which none explains them, and for
+//! each reply that its call could have had. Of what went by nothing is kept but the commits, in one list that all ways share. What a history is, which
 //! timelines explain it, when calls meet, and the laws of the search are in `fs_histories`; `specs/Results.antt` has what an
 //! answer says, `specs/Possible.antt` what could have been replied.
 #![tactic(auto)]
@@ -16,6 +17,7 @@
 mod committing;
 mod configuration;
 mod faults;
+mod first_return;
 mod heard;
 mod layer;
 pub mod linearizing;
@@ -23,15 +25,17 @@ mod meeting;
 mod numbers;
 mod passing;
 mod places;
+mod playing;
 pub mod progress;
 mod reached;
 pub mod replies;
 mod search;
 mod steps;
+mod stopping;
 mod telling;
 mod under_way;
 mod ways;
 
 pub use linearizing::{Found, linearize};
 pub use progress::{Progress, Untold};
-pub use replies::{MOST_REPLIES, Possible, PossibleReply};
+pub use replies::{MOST_REPLIES, Possible};

@@ -1,129 +1,151 @@
 //! The replies that a call could have had, where it returns one that nothing explains.
 
-ghost use Rattle.std.specs.Prelude.{◌≡◌, ◌+◌, ◌-◌, ◌<◌, ◌^◌, ◌++◌, ◌∷◌, [], true, false, List, length, slice_get, Some, option_copied, IfOk, OnOk, IfSome, IfNone};
-ghost use Rattle.fs_calls.specs.declared.call.Call.{Call as Shape};
-ghost use Rattle.fs_calls.specs.declared.reply.Reply.{Reply as Value};
-ghost use Rattle.fs_linearize.specs.Possible.{is_told, AreTold};
-ghost use Rattle.fs_linearize.specs.code.Replies.{replies_in, call_of, is_held, Returns, CanPass};
+ghost use Rattle.std.specs.Prelude.{◌≡◌, ◌++◌, ◌∷◌, [], ℕ, Some, IfOk};
+ghost use Rattle.fs_histories.specs.Histories.{IsHistory};
+ghost use Rattle.fs_histories.specs.declared.heard.Heard.TheVariants as heard;
+ghost use Rattle.fs_histories.specs.declared.heard.Pattern.{Pattern as Known};
+ghost use Rattle.fs_histories.specs.declared.heard.Pattern.TheVariants.{Except};
+ghost use Rattle.fs_linearize.specs.Possible.{ArePossible};
+ghost use Rattle.fs_linearize.specs.code.Replies.{IsAnother};
 
-use crate::reached::Reached;
-use crate::under_way::UnderWay;
-use fs_calls::{Call, Reply};
-use fs_histories::Heard;
+use crate::playing::reply_on;
+use crate::progress::Progress;
+use crate::search::{Searched, find_way};
+use fs_calls::Reply;
+use fs_histories::{Heard, Pattern};
 use fs_names::CallNo;
+use fs_seq::SeqTree;
 use std::alloc::{AllocError, Global};
 
-/// The most replies that are told.
+/// The most replies that are named.
 pub const MOST_REPLIES: usize = 10;
-
-/// A reply, and how many of the ways give it.
-#[derive(Drop)]
-pub struct PossibleReply {
-    pub reply: Reply,
-    pub ways: usize,
-}
 
 /// What was possible in the place of a reply that nothing explains.
 #[derive(Drop)]
 pub struct Possible {
-    /// How many ways explain all before it, by calls that meet it. Orders that leave one tree, with the same calls committed, are one way.
-    pub ways: usize,
-    /// The replies that the call gets behind them, each once, in the order in which they were met; no more than the most.
-    pub replies: Vec<PossibleReply>,
+    /// Replies that the call could have had, each once; no more than the most.
+    pub replies: Vec<Reply>,
+    /// Whether these are all.
+    pub all: bool,
 }
 
-/// The place of a reply among those that are told.
-fn place_of(told: &[PossibleReply], reply: &Reply) -> Option<usize>
-    ensures some { IfSome result (λ place. (one : _) × (slice_get told.now place ≡ Some one) × (one.reply ≡ reply.now)) }
-    ensures none { IfNone result (is_told reply.now told.now ≡ false) }
-{
-    for (place, one) in told.iter().enumerate() {
-        if one.reply.same(reply) {
-            return Some(place);
-        }
-    }
-    None
+/// A reply that is none of those that were known.
+#[derive(Drop)]
+enum Another {
+    Is(Reply),
+    /// There is none.
+    No,
+    /// The limit was reached.
+    Limited,
 }
 
-/// Counts a reply.
-fn count(possible: &mut Possible, reply: Reply) -> Result<(), AllocError>
-    requires { (replies : List Value) × AreTold replies possible.old × (length replies < 2 ^ 64 - 1) }
-    ensures { OnOk result ((replies : List Value) → AreTold replies possible.old → AreTold (replies ++ reply ∷ []) possible.new) }
-{
-    possible.ways += 1;
-    if let Some(place) = place_of(&possible.replies, &reply) {
-        possible.replies[place].ways += 1;
-        return Ok(());
-    }
-    if possible.replies.len() < MOST_REPLIES {
-        possible.replies.push(PossibleReply { reply, ways: 1 })?;
-    }
-    Ok(())
-}
-
-/// What a call could have been replied in the configurations of a layer.
-fn possible_in(alloc: Global, layer: &[Reached], call: &Call) -> Result<Possible, AllocError>
-    ensures { IfOk result (AreTold (replies_in call.now layer.now)) }
-{
-    let mut possible = Possible {
-        ways: 0,
-        replies: Vec::new(alloc),
-    };
-    for reached in layer {
-        let reply = reached.configuration.tree.reply(alloc, call)?;
-        count(&mut possible, reply)?;
-    }
-    Ok(possible)
-}
-
-/// The call under way of a number.
-fn call_of<'a>(calls: &[UnderWay<'a>], number: u64) -> Option<&'a Call>
-    ensures { option_copied result ≡ call_of number calls.now }
-{
-    for call in calls {
-        if number == call.number {
-            return Some(call.call);
-        }
-    }
-    None
-}
-
-/// What the call of a number could have been replied.
-pub(crate) fn possible_replies(
+/// The reply that the call of a number could have had at the end of entries, of which the last is its return.
+fn one_more<P: Progress>(
     alloc: Global,
-    calls: &[UnderWay],
-    layer: &[Reached],
+    start: &SeqTree,
+    asked: &[Heard],
     number: u64,
-) -> Result<Possible, AllocError>
-    requires { (call : Shape) × (call_of number calls.now ≡ Some call) }
-    ensures { IfOk result (λ p. (call : Shape) → call_of number calls.now ≡ Some call → AreTold (replies_in call layer.now) p) }
+    limit: usize,
+    progress: &mut P,
+) -> Result<Another, AllocError>
+    requires history { IsHistory asked.now }
+    requires last { (g : _) × (p : Known) × (asked.now ≡ g ++ heard.Return number p ∷ []) }
+    ensures { IfOk result (λ found. (g : _) (p : Known) → asked.now ≡ g ++ heard.Return number p ∷ [] → IsAnother start.now g number p limit found) }
 {
-    match call_of(calls, number) {
-        Some(call) => Ok(possible_in(alloc, layer, call)?),
-        None => unreachable!(),
+    match find_way(alloc, start, asked, limit, progress)? {
+        Searched::Ends(steps) => match reply_on(alloc, start, asked, &steps, number)? {
+            Some(reply) => Ok(Another::Is(reply)),
+            None => unreachable!(),
+        },
+        Searched::NoOrder(_, _) => Ok(Another::No),
+        Searched::Limited(_) => Ok(Another::Limited),
     }
 }
 
-/// Whether the call of a number has committed in a configuration of a layer.
-fn is_held(layer: &[Reached], number: u64) -> bool
-    ensures { result ≡ is_held number layer.now }
-{
-    for reached in layer {
-        if reached.configuration.holds(number) {
-            return true;
-        }
-    }
-    false
+/// Entries, the replies that a call could have behind them, and one more.
+#[derive(Drop)]
+struct Asked {
+    before: Vec<Heard>,
+    replies: Vec<Reply>,
+    another: Another,
 }
 
-/// The call that returns next, if it has committed in no configuration of a layer.
-pub(crate) fn unheld(layer: &[Reached], entry: &Heard) -> Option<CallNo>
-    ensures some { IfSome result (λ c. Returns entry.now c × (is_held c layer.now ≡ false)) }
-    ensures none { IfNone result (CanPass entry.now layer.now) }
+/// The replies that a return is known not to have.
+fn excepted(alloc: Global, entry: Option<Heard>) -> Vec<Reply>
+    ensures { (c : ℕ) (replies : _) → entry ≡ Some (heard.Return c (Except replies)) → result ≡ replies }
 {
     match entry {
-        Heard::Begin(_, _, _) => None,
-        Heard::Return(number, _) if is_held(layer, number.get()) => None,
-        Heard::Return(number, _) => Some(*number),
+        Some(Heard::Return(_, Pattern::Except(replies))) => replies,
+        _ => Vec::new(alloc),
+    }
+}
+
+/// Asks for a reply that the call of a number could have behind entries, other than those that are known.
+fn ask<P: Progress>(
+    alloc: Global,
+    start: &SeqTree,
+    before: Vec<Heard>,
+    number: CallNo,
+    replies: Vec<Reply>,
+    limit: usize,
+    progress: &mut P,
+) -> Result<Asked, AllocError>
+    requires { IsHistory (before.items ++ heard.Return number (Except replies) ∷ []) }
+    ensures before { IfOk result (λ asked. asked.before.items ≡ before.items) }
+    ensures replies { IfOk result (λ asked. asked.replies ≡ replies) }
+    ensures another { IfOk result (λ asked. IsAnother start.now before.items number (Except replies) limit asked.another) }
+{
+    let mut asked = before;
+    asked.push(Heard::Return(number, Pattern::Except(replies)))?;
+    let another = one_more(alloc, start, &asked, number.get(), limit, progress)?;
+    let replies = excepted(alloc, asked.pop());
+    Ok(Asked {
+        before: asked,
+        replies,
+        another,
+    })
+}
+
+/// The replies that the call of a number could have behind entries.
+pub(crate) fn possible_replies<P: Progress>(
+    alloc: Global,
+    start: &SeqTree,
+    before: Vec<Heard>,
+    number: CallNo,
+    limit: usize,
+    progress: &mut P,
+) -> Result<Possible, AllocError>
+    requires { (p : Known) → IsHistory (before.items ++ heard.Return number p ∷ []) }
+    ensures { IfOk result (ArePossible start.now before.items limit number) }
+{
+    let mut entries = before;
+    let mut replies = Vec::new(alloc);
+    for _turn in 0..MOST_REPLIES {
+        let asked = ask(alloc, start, entries, number, replies, limit, progress)?;
+        entries = asked.before;
+        replies = asked.replies;
+        match asked.another {
+            Another::Is(reply) => replies.push(reply)?,
+            Another::No => return Ok(Possible { replies, all: true }),
+            Another::Limited => return Ok(Possible {
+                replies,
+                all: false,
+            }),
+        }
+    }
+    let asked = ask(alloc, start, entries, number, replies, limit, progress)?;
+    match asked.another {
+        Another::Is(_) => Ok(Possible {
+            replies: asked.replies,
+            all: false,
+        }),
+        Another::Limited => Ok(Possible {
+            replies: asked.replies,
+            all: false,
+        }),
+        Another::No => Ok(Possible {
+            replies: asked.replies,
+            all: true,
+        }),
     }
 }

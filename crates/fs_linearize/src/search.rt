@@ -9,8 +9,8 @@ use crate::layer::widen;
 use crate::passing::pass;
 use crate::progress::Progress;
 use crate::reached::Reached;
-use crate::replies::{Possible, possible_replies, unheld};
 use crate::steps::{Link, Step};
+use crate::stopping::unheld;
 use crate::under_way;
 use crate::ways::steps_to;
 use fs_histories::Heard;
@@ -23,9 +23,9 @@ use std::alloc::{AllocError, Global};
 pub(crate) enum Searched {
     /// The steps to the end of the history.
     Ends(Vec<Step>),
-    /// No timeline explains the front up to the entry of this place, counted from 1, the return of this call, which could have
-    /// replied this.
-    NoOrder(usize, CallNo, Possible),
+    /// No timeline in which each call gets the very reply that the history records of it, even later, explains the front up to
+    /// the entry of this place, counted from 1, the return of this call.
+    NoOrder(usize, CallNo),
     /// The limit was reached, and the search had come to the entry of this place, counted from 1.
     Limited(usize),
 }
@@ -64,8 +64,7 @@ pub(crate) fn find_way<P: Progress>(
         }
         most -= layer.len();
         if let Some(number) = unheld(&layer, entry) {
-            let possible = possible_replies(alloc, &calls, &layer, number.get())?;
-            return Ok(Searched::NoOrder(place + 1, number, possible));
+            return Ok(Searched::NoOrder(place + 1, number));
         }
         calls = under_way::after(alloc, calls, entry, &history[place..])?;
         layer = pass(alloc, &calls, &mut links, layer, entry, place + 1)?;

@@ -4,6 +4,7 @@ ghost use Rattle.std.specs.Prelude.{◌≡◌, ◌++◌, ◌∷◌, true, false,
 ghost use Rattle.fs_calls.specs.Outcomes.{next_start};
 ghost use Rattle.fs_timeline.specs.Timeline.{begun_as, call_of, with_call, reply_after, has_committed, due, IsWellFormed, IsLawful};
 ghost use Rattle.fs_timeline.specs.declared.entry.Entry.{Entry};
+ghost use Rattle.fs_histories.specs.declared.heard.Pattern.{Pattern as Known};
 ghost use Rattle.fs_linearize.specs.code.Ways.{GoesBy};
 ghost use Rattle.fs_linearize.specs.code.Tellings.{PlaysOn, IsFilledIn, IsEntryFor, TellsOn};
 
@@ -38,6 +39,21 @@ fn call_of(journal: &[Entry], number: u64) -> Option<&Call>
     None
 }
 
+/// Plays a call, if there is one.
+pub(crate) fn play_call(
+    alloc: Global,
+    tree: &mut SeqTree,
+    call: Option<&Call>,
+) -> Result<Option<Reply>, AllocError>
+    ensures reply { IfOk result (λ r. r ≡ reply_after tree.old [] (option_copied call.entry)) }
+    ensures tree { OnOk result (tree.new ≡ next_start tree.old (with_call (option_copied call.entry) [])) }
+{
+    match call {
+        Some(call) => Ok(Some(tree.apply(alloc, call)?)),
+        None => Ok(None),
+    }
+}
+
 /// Plays a call that has begun in a journal.
 fn play(
     alloc: Global,
@@ -48,21 +64,18 @@ fn play(
     ensures reply { IfOk result (λ r. r ≡ reply_after tree.old [] (call_of number before.now)) }
     ensures tree { OnOk result (tree.new ≡ next_start tree.old (with_call (call_of number before.now) [])) }
 {
-    match call_of(before, number) {
-        Some(call) => Ok(Some(tree.apply(alloc, call)?)),
-        None => Ok(None),
-    }
+    Ok(play_call(alloc, tree, call_of(before, number))?)
 }
 
 /// What is played of a journal, and the reply that is due to one call.
 #[derive(Drop)]
-struct Played {
-    tree: SeqTree,
-    due: Option<Reply>,
+pub(crate) struct Played {
+    pub tree: SeqTree,
+    pub due: Option<Reply>,
 }
 
 /// The one reply or the other.
-fn chosen(one: bool, reply: Option<Reply>, other: Option<Reply>) -> Option<Reply>
+pub(crate) fn chosen(one: bool, reply: Option<Reply>, other: Option<Reply>) -> Option<Reply>
     ensures one { one ≡ true → result ≡ reply }
     ensures other { one ≡ false → result ≡ other }
 {
@@ -110,6 +123,21 @@ fn due(
     Ok(played.due)
 }
 
+/// The reply that is due to a call that has committed in a journal, whatever is known of it.
+fn filled_in(
+    alloc: Global,
+    start: &SeqTree,
+    journal: &[Entry],
+    number: CallNo,
+) -> Result<Reply, AllocError>
+    ensures { IfOk result (λ r. (p : Known) → IsFilledIn start.now journal.now number p r) }
+{
+    match due(alloc, start, journal, number.get())? {
+        Some(reply) => Ok(reply),
+        None => Ok(Reply::Done),
+    }
+}
+
 /// The reply of which this is known.
 fn reply_of(
     alloc: Global,
@@ -122,11 +150,8 @@ fn reply_of(
 {
     match pattern {
         Pattern::Exactly(reply) => Ok(reply),
-        Pattern::AnyError | Pattern::AnyDirectory => {
-            match due(alloc, start, journal, number.get())? {
-                Some(reply) => Ok(reply),
-                None => Ok(Reply::Done),
-            }
+        Pattern::AnyError | Pattern::AnyDirectory | Pattern::Except(_) => {
+            Ok(filled_in(alloc, start, journal, number)?)
         }
     }
 }

@@ -5,16 +5,14 @@ use Rattle.std.proofs.lemmas.List.{length-take-le, get_or-take}
 use Rattle.std.proofs.lemmas.Option.{slice_get_within, get_or_from_slice_get}
 use Rattle.fs_calls.specs.Starts.{Start}
 use Rattle.fs_timeline.specs.declared.entry.Entry.{Entry}
-use Rattle.fs_linearizable.specs.Linearizable.{history}
 use Rattle.fs_histories.specs.declared.heard.Heard.{Heard}
 use Rattle.fs_histories.specs.declared.heard.Heard.TheVariants.{Return}
 use Rattle.fs_histories.specs.declared.heard.Pattern.{Pattern}
-use Rattle.fs_histories.specs.Heard.{AreHeardIn}
 use Rattle.fs_histories.specs.Histories.{Explains, HasNoOrder}
 use Rattle.fs_histories.specs.Faults.{history_fault}
 use Rattle.fs_histories.proofs.FaultLemmas.{explained_are_histories, faults_are_first}
-use Rattle.fs_linearize.specs.Results.{IsAnswerFor, IsReturnAt, WasLimited, fault_in}
-use Rattle.fs_linearize.specs.Possible.{ArePossible}
+use Rattle.fs_linearize.specs.Limited.{WasLimited}
+use Rattle.fs_linearize.specs.Results.{IsAnswerFor, IsReturnAt, IsRefusedAt, fault_in}
 use Rattle.fs_linearize.specs.declared.linearizing.Found.{Found}
 use Rattle.fs_linearize.specs.declared.replies.Possible.{Possible}
 use Rattle.fs_linearize.specs.declared.linearizing.Found.TheVariants as found
@@ -46,29 +44,17 @@ cut_made h ys before place n last front many rest value x some is =
 
 -- ---- what explains the entries before a return that nothing explains
 
-heard_take : (es : List Entry) (h : List Heard) → AreHeardIn es h → AreHeardIn es (take (length es) h) × (length es ≡ length (take (length es) h))
-heard_take [] h k = (tt, refl)
-heard_take (e ∷ es) [] k = absurd k
-heard_take (e ∷ es) (x ∷ h) k = let rest = heard_take es h k.1 in ((k.0, rest.0), ap suc rest.1)
-
-explained : (start : Start) (h : List Heard) (place : ℕ) (refuted : HasNoOrder start h place) → Explains start (take (place - 1) h) refuted.before.0
-explained start h place refuted =
-    let es : List Entry = refuted.before.0 in
-    let front = refuted.before.1 in
-    let many : place - 1 ≡ length (history es) = omega (arith, refuted.before.2) in
-    let heard = heard_take (history es) h front.heard_as in
-    record { lawful = front.lawful; heard_as = rw many heard.0; whole = rw many heard.1 }
-
-limited : (start : Start) (h : List Heard) (limit place : ℕ) (f : Found) → HasNoOrder start h place → outcome_of f ≢ Lawful → IsAnswerFor start (take (place - 1) h) limit f → fault_in f ≡ history_fault (take (place - 1) h) → (at : ℕ) × WasLimited start (take (place - 1) h) limit at
+limited : (start : Start) (h : List Heard) (limit place : ℕ) (f : Found) → HasNoOrder start h place → outcome_of f ≢ Lawful → IsAnswerFor start (take (place - 1) h) limit f → fault_in f ≡ history_fault (take (place - 1) h) → (end at : ℕ) × WasLimited start (take end (take (place - 1) h)) limit at
 limited start h limit place (found.Lawful j) refuted other answer fault = absurd (other refl)
-limited start h limit place (found.NoOrder p c q) refuted other answer fault = absurd (answer.0.whole refuted.before.0 (explained start h place refuted))
+limited start h limit place (found.NoOrder p c q held) refuted other answer fault = absurd (answer.order.whole refuted.before.0 refuted.before.1)
 limited start h limit place (found.Fault p k) refuted other answer fault =
-    let none : history_fault (take (place - 1) h) ≡ None = (faults_are_first.none (take (place - 1) h)).1 (explained_are_histories start (take (place - 1) h) refuted.before.0 (explained start h place refuted)) in
+    let none : history_fault (take (place - 1) h) ≡ None = (faults_are_first.none (take (place - 1) h)).1 (explained_are_histories start (take (place - 1) h) refuted.before.0 refuted.before.1) in
     absurd (cc)
-limited start h limit place (found.Unknown at) refuted other answer fault = (at, answer)
+limited start h limit place (found.Unknown at) refuted other answer fault = (answer.0, at, answer.1)
 
 some_place : (start : Start) (h : List Heard) (place : ℕ) → HasNoOrder start h place → 0 < place
-some_place start h place refuted = omega (arith, refuted.before.2)
+some_place start h zero refuted = absurd (refuted.front refuted.before.0 refuted.before.1)
+some_place start h (suc n) refuted = omega arith
 
 pub front_some : (h : Start × List Heard) (limit place call : ℕ) (before : List Heard) (last : Option Heard) (text : List ℕ) → HasNoOrder h.0 h.1 place → IsReturnAt h.1 place call → IsCutAt h.1 place before last → IsFrontBehind h.0 before last text → IsFrontText h place call text
 front_some h limit place call before last text refuted at cut front =
@@ -102,49 +88,49 @@ no_return start before last limit refuted c p is = absurd (refuted c p is)
 pub told_plain : (h : Start × List Heard) (limit : ℕ) (front : Bool) (f : Found) (text : List ℕ) → front ≡ false → IsFoundOf h limit false f text → IsFoundOf h limit front f text
 told_plain h limit front f text is x = rw is x
 
-pub told_other : (h : Start × List Heard) (limit : ℕ) (front : Bool) (f : Found) (text : List ℕ) → ((place call : ℕ) (p : Possible) → f ≡ found.NoOrder place call p → ⊥) → IsFoundOf h limit false f text → IsFoundOf h limit front f text
+pub told_other : (h : Start × List Heard) (limit : ℕ) (front : Bool) (f : Found) (text : List ℕ) → ((place call : ℕ) (p : Possible) (held : ℕ) → f ≡ found.NoOrder place call p held → ⊥) → IsFoundOf h limit false f text → IsFoundOf h limit front f text
 told_other h limit front f text refuted x = record {
   answer = x.answer;
   fault = x.fault;
-  text_is = record { plain = λ is. x.text_is.plain refl; other = λ is. x.text_is.plain refl; front_is = λ is place call p same. absurd (refuted place call p same) };
+  text_is = record { plain = λ is. x.text_is.plain refl; other = λ is. x.text_is.plain refl; front_is = λ is place call p held same. absurd (refuted place call p held same) };
 }
 
-front_same : (h : Start × List Heard) (p c place call : ℕ) (some other : Possible) (text : List ℕ) → found.NoOrder place call some ≡ found.NoOrder p c other → IsFrontText h place call text → IsFrontText h p c text
-front_same h p c place call some other text same front = let one : place ≡ p = cc in let two : call ≡ c = cc in subst (λ (n : ℕ). IsFrontText h n c text) one (subst (λ (n : ℕ). IsFrontText h place n text) two front)
+front_same : (h : Start × List Heard) (p c place call m n : ℕ) (some other : Possible) (text : List ℕ) → found.NoOrder place call some m ≡ found.NoOrder p c other n → IsFrontText h place call text → IsFrontText h p c text
+front_same h p c place call m n some other text same front = let one : place ≡ p = cc in let two : call ≡ c = cc in subst (λ (k : ℕ). IsFrontText h k c text) one (subst (λ (k : ℕ). IsFrontText h place k text) two front)
 
-limited_same : (h : Start × List Heard) (limit p place call c : ℕ) (some other : Possible) → found.NoOrder place call some ≡ found.NoOrder p c other → IsFrontLimited h limit place → IsFrontLimited h limit p
-limited_same h limit p place call c some other same front = let one : place ≡ p = cc in subst (λ (n : ℕ). IsFrontLimited h limit n) one front
+limited_same : (h : Start × List Heard) (limit p place call c m n : ℕ) (some other : Possible) → found.NoOrder place call some m ≡ found.NoOrder p c other n → IsFrontLimited h limit place → IsFrontLimited h limit p
+limited_same h limit p place call c m n some other same front = let one : place ≡ p = cc in subst (λ (k : ℕ). IsFrontLimited h limit k) one front
 
-pub told_front : (h : Start × List Heard) (limit : ℕ) (place call : ℕ) (some : Possible) (f : Found) (old new : List ℕ) → f ≡ found.NoOrder place call some → IsFrontText h place call new → IsFoundOf h limit false f old → IsFoundOf h limit true f new
-told_front h limit place call some f old new is front x = record {
+pub told_front : (h : Start × List Heard) (limit place call held : ℕ) (some : Possible) (f : Found) (old new : List ℕ) → f ≡ found.NoOrder place call some held → IsFrontText h place call new → IsFoundOf h limit false f old → IsFoundOf h limit true f new
+told_front h limit place call held some f old new is front x = record {
   answer = x.answer;
   fault = x.fault;
   text_is = record {
     plain = λ refuted. absurd (cc);
     other = λ refuted. absurd (refuted (ap outcome_of is));
-    front_is = λ asked p c other same. let told : found.NoOrder place call some ≡ found.NoOrder p c other = sym is ∙ same in inl (front_same h p c place call some other new told front);
+    front_is = λ asked p c other n same. let told : found.NoOrder place call some held ≡ found.NoOrder p c other n = sym is ∙ same in inl (front_same h p c place call held n some other new told front);
   };
 }
 
-pub told_limited : (h : Start × List Heard) (limit : ℕ) (place call : ℕ) (some : Possible) (f : Found) (text : List ℕ) → f ≡ found.NoOrder place call some → IsFrontLimited h limit place → IsFoundOf h limit false f text → IsFoundOf h limit true f text
-told_limited h limit place call some f text is front x = record {
+pub told_limited : (h : Start × List Heard) (limit place call held : ℕ) (some : Possible) (f : Found) (text : List ℕ) → f ≡ found.NoOrder place call some held → IsFrontLimited h limit place → IsFoundOf h limit false f text → IsFoundOf h limit true f text
+told_limited h limit place call held some f text is front x = record {
   answer = x.answer;
   fault = x.fault;
   text_is = record {
     plain = λ refuted. absurd (cc);
     other = λ refuted. x.text_is.plain refl;
-    front_is = λ asked p c other same. let told : found.NoOrder place call some ≡ found.NoOrder p c other = sym is ∙ same in inr (limited_same h limit p place call c some other told front, x.text_is.plain refl);
+    front_is = λ asked p c other n same. let told : found.NoOrder place call some held ≡ found.NoOrder p c other n = sym is ∙ same in inr (limited_same h limit p place call c held n some other told front, x.text_is.plain refl);
   };
 }
 
 pub front_or_plain : (h : Start × List Heard) (limit place call : ℕ) (plain : List ℕ) → IsFrontLimited h limit place → IsFrontOr h limit place call plain plain
 front_or_plain h limit place call plain x = inr (x, refl)
 
-pub front_told : (h : Start × List Heard) (limit place call : ℕ) (some : Possible) (front : Bool) (f : Found) (plain new : List ℕ) → front ≡ true → f ≡ found.NoOrder place call some → IsFrontOr h limit place call plain new → IsFoundOf h limit false f plain → IsFoundOf h limit front f new
-front_told h limit place call some front f plain new asked is either x =
+pub front_told : (h : Start × List Heard) (limit place call held : ℕ) (some : Possible) (front : Bool) (f : Found) (plain new : List ℕ) → front ≡ true → f ≡ found.NoOrder place call some held → IsFrontOr h limit place call plain new → IsFoundOf h limit false f plain → IsFoundOf h limit front f new
+front_told h limit place call held some front f plain new asked is either x =
     subst (λ (b : Bool). IsFoundOf h limit b f new) (sym asked)
-    (⊎_elim (λ told. told_front h limit place call some f plain new is told x)
-    (λ limited. subst (λ (t : List ℕ). IsFoundOf h limit true f t) (sym limited.1) (told_limited h limit place call some f plain is limited.0 x)) either)
+    (⊎_elim (λ told. told_front h limit place call held some f plain new is told x)
+    (λ limited. subst (λ (t : List ℕ). IsFoundOf h limit true f t) (sym limited.1) (told_limited h limit place call held some f plain is limited.0 x)) either)
 
 -- ---- of what is answered
 
@@ -152,13 +138,13 @@ if_ok : {T E : Type 0} (r : Result T E) (A B : T → Type 0) → ((t : T) → A 
 if_ok (Ok t) A B goes x = goes t x
 if_ok (Err e) A B goes x = tt
 
-pub told_front_or : {T E : Type 0} (items : T → List ℕ) (r : Result T E) (h : Start × List Heard) (limit place call : ℕ) (some : Possible) (front : Bool) (f : Found) (plain : List ℕ) → front ≡ true → f ≡ found.NoOrder place call some
+pub told_front_or : {T E : Type 0} (items : T → List ℕ) (r : Result T E) (h : Start × List Heard) (limit place call held : ℕ) (some : Possible) (front : Bool) (f : Found) (plain : List ℕ) → front ≡ true → f ≡ found.NoOrder place call some held
     → ((c : ℕ) → HasNoOrder h.0 h.1 place → IsReturnAt h.1 place c → IfOk r (λ told. IsFrontOr h limit place c plain (items told)))
     → IsFoundOf h limit false f plain → IfOk r (λ told. IsFoundOf h limit front f (items told))
-told_front_or items r h limit place call some front f plain asked is gives x =
-    let both : HasNoOrder h.0 h.1 place × IsReturnAt h.1 place call × ArePossible h.0 h.1 place call some = subst (λ (g : Found). IsAnswerFor h.0 h.1 limit g) is x.answer in
+told_front_or items r h limit place call held some front f plain asked is gives x =
+    let both : IsRefusedAt h.0 h.1 limit place call some held = subst (λ (g : Found). IsAnswerFor h.0 h.1 limit g) is x.answer in
     if_ok r (λ told. IsFrontOr h limit place call plain (items told)) (λ told. IsFoundOf h limit front f (items told))
-    (λ told either. front_told h limit place call some front f plain (items told) asked is either x) (gives call both.0 both.1)
+    (λ told either. front_told h limit place call held some front f plain (items told) asked is either x) (gives call both.order both.returns)
 
 if_none : {T : Type 0} (told : Option T) (A B : Type 0) → (A → B) → IfNone told A → IfNone told B
 if_none None A B goes x = goes x

@@ -4,11 +4,11 @@ use Rattle.fs_names.specs.declared.kind.Kind.TheVariants.{Dir}
 use Rattle.fs_calls.specs.Starts.{Start}
 use Rattle.fs_calls.specs.declared.errno.Errno.TheVariants.{Enoent}
 use Rattle.fs_calls.specs.declared.reply.Reply.{Reply}
-use Rattle.fs_calls.specs.declared.reply.Reply.TheVariants.{Stat, Failed}
+use Rattle.fs_calls.specs.declared.reply.Reply.TheVariants.{Done, Stat, Failed}
 use Rattle.fs_timeline.specs.declared.entry.Entry.{Entry}
 use Rattle.fs_timeline.specs.declared.entry.Entry.TheVariants.{Return}
 use Rattle.fs_histories.specs.declared.heard.Pattern.{Pattern}
-use Rattle.fs_histories.specs.declared.heard.Pattern.TheVariants.{Exactly, AnyError, AnyDirectory}
+use Rattle.fs_histories.specs.declared.heard.Pattern.TheVariants.{Exactly, AnyError, AnyDirectory, Except}
 use Rattle.fs_histories.specs.declared.fault.HistoryFault.{HistoryFault}
 use Rattle.fs_histories.specs.declared.fault.HistoryFault.TheVariants.{BeginTwice, SeatBusy, ReturnUnbegun, ReturnTwice}
 use Rattle.fs_linearize.specs.declared.linearizing.Found.{Found}
@@ -37,15 +37,16 @@ unknown_line place = codes "unknown " ++ (decimal place ++ codes "\n")
 -- the journal that explains a history from its start tree, or that line
 abbrev pub found_text : Start → Found → List ℕ
 found_text start (found.Lawful journal) = journal_text start journal.items
-found_text start (found.NoOrder place call possible) = none_line place call
+found_text start (found.NoOrder place call possible held) = none_line place call
 found_text start (found.Fault place kind) = fault_line place kind
 found_text start (found.Unknown place) = unknown_line place
 
--- a reply of which this is known; where it is left open, one that fits
+-- a reply of which this is known; where it is left open, one that fits (no text says which a reply is not)
 abbrev pub shown : Pattern → Reply
 shown (Exactly r) = r
 shown AnyError = Failed Enoent
 shown AnyDirectory = Stat Dir 0
+shown (Except replies) = Done
 
 -- the journal of entries from a start tree, and behind them the return that nothing explains
 abbrev pub front_text : Start → List Entry → ℕ → Pattern → List ℕ
@@ -53,6 +54,6 @@ front_text start journal c p = journal_text start (journal ++ Return c (shown p)
 
 abbrev pub outcome_of : Found → Outcome
 outcome_of (found.Lawful journal) = Lawful
-outcome_of (found.NoOrder place call possible) = NoOrder
+outcome_of (found.NoOrder place call possible held) = NoOrder
 outcome_of (found.Fault place kind) = Fault
 outcome_of (found.Unknown place) = Unknown

@@ -7,7 +7,8 @@ use Rattle.fs_histories.specs.declared.heard.Heard.TheVariants.{Return}
 use Rattle.fs_histories.specs.declared.heard.Pattern.{Pattern}
 use Rattle.fs_histories.specs.Histories.{Explains}
 use Rattle.fs_histories.specs.Faults.{history_fault}
-use Rattle.fs_linearize.specs.Results.{IsAnswerFor, WasLimited, fault_in}
+use Rattle.fs_linearize.specs.Limited.{WasLimited}
+use Rattle.fs_linearize.specs.Results.{IsAnswerFor, fault_in}
 use Rattle.fs_linearize.specs.declared.linearizing.Found.{Found}
 use Rattle.fs_linearize.specs.declared.replies.Possible.{Possible}
 use Rattle.fs_linearize.specs.declared.linearizing.Found.TheVariants as found
@@ -20,13 +21,13 @@ IsFrontText h place call text = (j : List Entry) × (p : Pattern) × (slice_get 
 
 -- the limit was reached in the search for such a journal
 abbrev pub IsFrontLimited : Start × List Heard → ℕ → ℕ → Type 0
-IsFrontLimited h limit place = (at : ℕ) × WasLimited h.0 (take (place - 1) h.1) limit at
+IsFrontLimited h limit place = (end at : ℕ) × WasLimited h.0 (take end (take (place - 1) h.1)) limit at
 
 -- what is written of what is found; if the front is asked for, that in the place of `none`
 pub record IsTextOf (h : Start × List Heard) (limit : ℕ) (front : Bool) (f : Found) (text : List ℕ) : Type 0 where
   pub plain : front ≡ false → text ≡ found_text h.0 f
   pub other : outcome_of f ≢ NoOrder → text ≡ found_text h.0 f
-  pub front_is : front ≡ true → (place call : ℕ) (possible : Possible) → f ≡ found.NoOrder place call possible → IsFrontText h place call text ⊎ (IsFrontLimited h limit place × (text ≡ found_text h.0 f))
+  pub front_is : front ≡ true → (place call : ℕ) (possible : Possible) (held : ℕ) → f ≡ found.NoOrder place call possible held → IsFrontText h place call text ⊎ (IsFrontLimited h limit place × (text ≡ found_text h.0 f))
 
 -- what is found of a history is true of it, its faults come first, and this is its text
 pub record IsFoundOf (h : Start × List Heard) (limit : ℕ) (front : Bool) (f : Found) (text : List ℕ) : Type 0 where

@@ -58,7 +58,7 @@ histories_of text = if is_too_long text then Err (fault_at 1 kind.TooLarge) else
 -- the line of a history: `lawful` and how many calls it has, or why no journal explains it
 abbrev pub found_line : Found → List ℕ
 found_line (found.Lawful journal) = codes "lawful " ++ (decimal (begins journal.items) ++ codes "\n")
-found_line (found.NoOrder place call possible) = none_line place call
+found_line (found.NoOrder place call possible held) = none_line place call
 found_line (found.Fault place kind) = fault_line place kind
 found_line (found.Unknown place) = unknown_line place
 

@@ -10,7 +10,7 @@ ghost use Rattle.fs_recorded.specs.Many.{found_line};
 ghost use Rattle.fs_recorded.specs.code.Makes.{IsAnswered};
 
 use crate::possible::with_possible;
-use crate::reason::reason_of;
+use crate::reason::{reason_of, with_held};
 use fs_histories::HistoryFault;
 use fs_linearize::Found;
 use fs_names::CallNo;
@@ -38,8 +38,8 @@ pub enum Outcome {
 pub struct Linearized {
     /// What came of it.
     pub outcome: Outcome,
-    /// Of `NoOrder` and `Fault` the entry with its line, and its call, in words, and of `NoOrder` in a second line what the call
-    /// could have replied; else no bytes.
+    /// Of `NoOrder` and `Fault` the entry with its line, and its call, in words; of `NoOrder` in a second line what the call could
+    /// have replied, and in a third, where the replies of later lines exclude an earlier entry, that entry; else no bytes.
     pub reason: Vec<u8>,
 }
 
@@ -67,8 +67,12 @@ pub(crate) fn answer_of(
         Found::NoOrder {
             place,
             possible,
+            held,
             ..
-        } => with_possible(alloc, reason_of(alloc, lines, *place)?, possible)?,
+        } => {
+            let told = with_possible(alloc, reason_of(alloc, lines, *place)?, possible)?;
+            with_held(alloc, told, lines, *held, *place)?
+        }
         Found::Fault(place, _) => reason_of(alloc, lines, *place)?,
         Found::Lawful(_) | Found::Unknown(_) => Vec::new(alloc),
     };

@@ -22,7 +22,7 @@ use fs_timeline::Entry;
 use fs_verdict::RunFault;
 use std::alloc::{AllocError, Global};
 
-/// A reply of which this is known.
+/// A reply of which this is known. No text says which a reply is not.
 fn shown(pattern: Pattern) -> Reply
     ensures { result ≡ shown pattern }
 {
@@ -30,6 +30,7 @@ fn shown(pattern: Pattern) -> Reply
         Pattern::Exactly(reply) => reply,
         Pattern::AnyError => Reply::Failed(Errno::Enoent),
         Pattern::AnyDirectory => Reply::Stat(Kind::Dir, 0),
+        Pattern::Except(_) => Reply::Done,
     }
 }
 

@@ -102,6 +102,23 @@ fn push_call(
     told.push(seat)
 }
 
+/// Adds what the entry of this place says, counted from 1, with the number of its line, and which call it is.
+fn push_entry(
+    alloc: Global,
+    lines: &[&[u8]],
+    place: usize,
+    told: &mut Addition,
+) -> Result<(), AllocError> {
+    let mut words = Vec::new(alloc);
+    let (number, line) = take_entry(lines, place, &mut words)?;
+    told.push_with_number(b"line ", number)?;
+    told.push(b": ")?;
+    push_cut(line, told)?;
+    let call = second(&words);
+    take_begin(lines, call, &mut words)?;
+    push_call(alloc, call, &words, told)
+}
+
 /// What the entry of this place says, counted from 1, with its line, and which call it is.
 pub(crate) fn reason_of(
     alloc: Global,
@@ -109,13 +126,23 @@ pub(crate) fn reason_of(
     place: usize,
 ) -> Result<Vec<u8>, AllocError> {
     let mut told = Addition::new(Vec::new(alloc));
-    let mut words = Vec::new(alloc);
-    let (number, line) = take_entry(lines, place, &mut words)?;
-    told.push_with_number(b"line ", number)?;
-    told.push(b": ")?;
-    push_cut(line, &mut told)?;
-    let call = second(&words);
-    take_begin(lines, call, &mut words)?;
-    push_call(alloc, call, &words, &mut told)?;
+    push_entry(alloc, lines, place, &mut told)?;
+    Ok(told.kept())
+}
+
+/// Adds a line with the entry up to which nothing explains the history with the replies of later lines, where that is before the
+/// entry of this place.
+pub(crate) fn with_held(
+    alloc: Global,
+    reason: Vec<u8>,
+    lines: &[&[u8]],
+    held: usize,
+    place: usize,
+) -> Result<Vec<u8>, AllocError> {
+    let mut told = Addition::new(reason);
+    if held < place {
+        told.push(b"\nwith the replies of later lines nothing explains ")?;
+        push_entry(alloc, lines, held, &mut told)?;
+    }
     Ok(told.kept())
 }

@@ -39,7 +39,8 @@ class NoOrder:
 
     place: int
     call: int
-    #: What this entry says, with its line, and which call it is; and in a second line what the call could have replied.
+    #: What this entry says, with its line, and which call it is; in a second line what the call could have replied; and in a third, if
+    #: the replies of later lines exclude an earlier entry, that entry.
     words: str = dataclasses.field(default="", compare=False)
 
     @property
@@ -82,8 +83,7 @@ Linearized = Union[Lawful, NoOrder, NoHistory, Unknown]
 def linearize(
     history: Union[str, bytes], limit: Optional[int] = None, *, progress: Optional[Progress] = None
 ) -> Linearized:
-    """An order in which the calls of a history took effect, or the first return up to which no order explains the entries, together with
-    the replies that calls under way there return later.
+    """An order in which the calls of a history took effect, or the first return up to which no order explains the entries.
 
     A history is a journal without its lines `commit`, in which `return 3 failed ?` fits any error of call 3, and `return 3 stat dir ?`
     any number of entries; `History` records one. The search makes at most `limit` configurations, 1 to 1,000,000,000, or else

@@ -1,22 +1,17 @@
--- The replies of a call in the configurations of a layer.
-use Rattle.std.specs.Prelude.{◌≡◌, ℕ, Bool, true, false, ◌||◌, ◌==◌, if◌then◌else◌, List, [], ◌∷◌, map, Option, Some, None}
-use Rattle.fs_calls.specs.Outcomes.{reply_at}
-use Rattle.fs_calls.specs.declared.call.Call.{Call}
-use Rattle.fs_calls.specs.declared.reply.Reply.{Reply}
+-- Whether an entry passes a layer, and what is found of the replies of a call.
+use Rattle.std.specs.Prelude.{◌≡◌, ℕ, Bool, true, false, ◌||◌, List, [], ◌∷◌, ◌++◌}
+use Rattle.fs_calls.specs.Starts.{Start}
+use Rattle.fs_timeline.specs.declared.entry.Entry.{Entry}
 use Rattle.fs_histories.specs.declared.heard.Heard.{Heard}
 use Rattle.fs_histories.specs.declared.heard.Heard.TheVariants.{Begin, Return}
 use Rattle.fs_histories.specs.declared.heard.Pattern.{Pattern}
+use Rattle.fs_histories.specs.Heard.{Matches}
+use Rattle.fs_histories.specs.Histories.{Explains, CouldReply}
 use Rattle.fs_histories.specs.Configurations.{is_in}
+use Rattle.fs_linearize.specs.Limited.{WasLimited}
 use Rattle.fs_linearize.specs.declared.reached.Reached.{Reached}
-use Rattle.fs_linearize.specs.declared.under_way.UnderWay.{UnderWay}
-
-abbrev pub replies_in : Call → List Reached → List Reply
-replies_in call layer = map (λ (r : Reached). reply_at r.configuration.now call) layer
-
--- the call under way of a number
-abbrev pub call_of : ℕ → List UnderWay → Option Call
-call_of c [] = None
-call_of c (u ∷ us) = if c == u.number then Some u.call.now else call_of c us
+use Rattle.fs_linearize.specs.declared.replies.Another.{Another}
+use Rattle.fs_linearize.specs.declared.replies.Another.TheVariants.{Is, No, Limited}
 
 -- whether a call has committed in a configuration of a layer
 abbrev pub is_held : ℕ → List Reached → Bool
@@ -31,3 +26,9 @@ Returns e c = (p : Pattern) × (e ≡ Return c p)
 abbrev pub CanPass : Heard → List Reached → Type 0
 CanPass (Begin c seat call) layer = Unit {0}
 CanPass (Return c p) layer = is_held c layer ≡ true
+
+-- a call could have a reply behind entries of which this is known; or it has none; or the limit was reached
+abbrev pub IsAnother : Start → List Heard → ℕ → Pattern → ℕ → Another → Type 0
+IsAnother start before c p limit (Is r) = Matches p r × CouldReply start before c r
+IsAnother start before c p limit No = (es : List Entry) → Explains start (before ++ Return c p ∷ []) es → ⊥
+IsAnother start before c p limit Limited = (place : ℕ) × WasLimited start (before ++ Return c p ∷ []) limit place

@@ -5,13 +5,16 @@ use Rattle.fs_calls.specs.Outcomes.{next_start}
 use Rattle.fs_calls.specs.declared.reply.Reply.{Reply}
 use Rattle.fs_timeline.specs.Timeline.{has_committed, commits, due, IsWellFormed, IsLawful}
 use Rattle.fs_timeline.specs.declared.entry.Entry.{Entry}
+use Rattle.fs_timeline.specs.declared.entry.Entry.TheVariants.{Commit}
 use Rattle.fs_histories.specs.declared.heard.Heard.{Heard}
 use Rattle.fs_histories.specs.declared.heard.Pattern.{Pattern}
 use Rattle.fs_histories.specs.Heard.{IsHeardAs, Matches}
+use Rattle.fs_histories.specs.Histories.{Explains}
 use Rattle.fs_linearize.specs.code.Ways.{GoesBy}
 use Rattle.fs_linearize.specs.declared.telling.Played.{Played}
 use Rattle.fs_linearize.specs.declared.telling.Telling.{Telling}
 use Rattle.fs_linearize.specs.declared.steps.Step.{Step}
+use Rattle.fs_linearize.specs.declared.steps.Step.TheVariants.{Passes, Commits}
 
 -- what is played is a journal, and the reply is the one that is due, once the call has committed
 pub record IsPlayed (start : Start) (c : ℕ) (es : List Entry) (p : Played) : Type 0 where
@@ -36,3 +39,12 @@ IsTold start steps es t = (later : List Entry) × (es ≡ t.journal.items ++ lat
 
 abbrev pub TellsOn : Start → Telling → Step → Telling → Type 0
 TellsOn start old step new = (steps : List Step) (es : List Entry) → IsLawful start es → IsTold start (step ∷ steps) es old → IsTold start steps es new
+
+-- an entry is one of such a step
+abbrev pub IsOfStep : Step → Entry → Type 0
+IsOfStep Passes e = (d : ℕ) → e ≡ Commit d → ⊥
+IsOfStep (Commits d) e = e ≡ Commit d
+
+-- one step more is played of a timeline that explains a history
+abbrev pub PlaysStep : ℕ → List Heard → Step → Played → Played → Type 0
+PlaysStep c h step old new = (start : Start) (before later : List Entry) (e : Entry) → Explains start h (before ++ e ∷ later) → IsOfStep step e → IsPlayed start c before old → IsPlayed start c (before ++ e ∷ []) new

@@ -1,15 +1,13 @@
 use Rattle.std.proofs.Common.{◌≡◌, ◌≤◌, ◌+◌, ◌-◌, ◌++◌, true, false, List, [], length, slice_get, Some, None, option_copied, refl, sym, ap, subst, ◌∙◌, arith}
 use Rattle.std.specs.List.{Contains}
-use Rattle.fs_calls.specs.declared.call.Call.{Call}
-use Rattle.fs_linearize.specs.Possible.{AreTold}
 use Rattle.fs_linearize.specs.code.Calls.{AreEach}
-use Rattle.fs_linearize.specs.code.Replies.{replies_in, call_of, is_held, Returns, CanPass}
+use Rattle.fs_linearize.specs.code.Replies.{is_held, Returns, CanPass}
 use Rattle.fs_linearize.specs.code.Ways.{GoesBack, configurations}
 use Rattle.fs_linearize.specs.declared.reached.Reached.{Reached}
 use Rattle.fs_linearize.specs.declared.steps.Link.{Link}
 use Rattle.fs_linearize.specs.declared.under_way.UnderWay.{UnderWay}
 use Rattle.fs_linearize.proofs.FindingLemmas.{stands_first, stands_on, widened, here_at, rest_at, never_none, was_limited, explains_at_end}
-use Rattle.fs_linearize.proofs.PossibleLemmas.{is_under_way, called_now, are_possible, no_order_here, passes_some}
+use Rattle.fs_linearize.proofs.StoppingLemmas.{no_order_here, passes_some}
 use Rattle.fs_linearize.proofs.SearchLemmas.{contains_got}
 use Rattle.fs_linearize.proofs.search.find_way.Goals as goal
 
@@ -36,16 +34,6 @@ returns-then-not-branch g c =
 pub overflow_sub-most : goal.overflow_sub-most
 overflow_sub-most g c = let room = c.in_ok-widen.ensures.room c.if-not-branch.false in omega (arith, room, c.len.ensures, c.widen.new.layer.ok.0)
 
-pub possible_replies-requires : goal.possible_replies-requires
-possible_replies-requires g c =
-    let h = c.args.history.now in
-    let place = c.loop-place.place in
-    let e = c.index-history-place.result in
-    let us = c.loop-place.calls.items in
-    let here = here_at h place e c.loop-place-test.true c.index-history-place.is in
-    let found = is_under_way h place c.in-Some.number e us c.requires here c.in-Some.ensures.some.0 c.loop-place.invariant.1.calls in
-    (found.0, called_now c.get.result c.in-Some.number c.deref-in-Some.result.now us found.0 c.get.ensures c.deref-in-Some.ensures.value found.1)
-
 pub returns-in-Some : goal.returns-in-Some
 returns-in-Some g c =
     let start = c.args.start.now in
@@ -65,13 +53,9 @@ returns-in-Some g c =
     let number = c.in-Some.number in
     let returns : Returns e number = c.in-Some.ensures.some.0 in
     let none : is_held number wide ≡ false = subst (λ (rs : List Reached). is_held number rs ≡ false) c.deref-in-loop-place.ensures.value c.in-Some.ensures.some.1 in
-    let at : place + 1 - 1 ≡ place = omega arith in
-    let told = λ (call : Call) (is : call_of number us ≡ Some call).
-    subst (λ (rs : List Reached). AreTold (replies_in call rs) c.in_ok-possible.possible) c.deref-in-Some-2.ensures.value
-    (c.in_ok-possible.ensures call (called_now c.get.result number c.deref-in-Some.result.now us call c.get.ensures c.deref-in-Some.ensures.value is)) in (
+    let at : place + 1 - 1 ≡ place = omega arith in (
       no_order_here start h c.args.limit place number e us links mid layer wide most gone here returns none s w,
       (returns.0, ap (slice_get h) at ∙ here ∙ ap Some returns.1),
-      are_possible start h c.args.limit place number e us links mid layer wide most gone c.in_ok-possible.possible c.requires here returns none s w told,
     )
 
 pub loop-place-preserved : goal.loop-place-preserved
