@@ -2,6 +2,7 @@
 
 What a run has is read from its run text, and who helped whom from its trace. So the first seed is that of a loop over `atomfs run --seed`.
 """
+import math
 import random
 import re
 import shlex
@@ -89,8 +90,10 @@ def holds(clause, run):
         case "waits":
             return call_of(words[1]) in run.waited
         case "overlap":
-            one, other = map(call_of, words[1:])
-            return run.begins[one] < run.returns[other] and run.begins[other] < run.returns[one]
+            calls = [call_of(word) for word in words[1:]]
+            if not all(call in run.begins for call in calls):
+                return False
+            return max(run.begins[call] for call in calls) < min(run.returns.get(call, math.inf) for call in calls)
         case "before":
             first, second = (run.commits.get(call_of(word)) for word in words[1:])
             return first is not None and second is not None and first < second
