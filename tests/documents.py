@@ -439,7 +439,7 @@ class Shown(Page):
         ("docs/PICTURES.md", "", 1, None),
         ("docs/PLAYER.md", "python", 1, "tests/tutorials.py"),
         ("docs/TEST-A-FILE-SYSTEM.md", "", 4, "tests/histories.py, tests/recorders.py"),
-        ("docs/ARCHITECTURE.md", "", 1, "tests/documents.py"),
+        ("docs/ARCHITECTURE.md", "", 2, "tests/documents.py"),
         ("docs/MACHINE.md", "", 2, None),
         ("examples/tour/README.md", "", 11, "tests/worked.py"),
         ("docs/RACES.md", "", 1, "bindings/python/tests/test_races.py"),
@@ -1652,22 +1652,26 @@ class Listed(Page):
         said = re.search(r"^- The statements of the kit's crates .*", (DOCS / "TRUST.md").read_text(), re.M)[0]
         self.agrees("the kit's crates", sorted(spans(said)), sorted(used))
 
-    def test_picture_of_the_crates(self):
-        """Each crate of the product is in the picture, on a line above all those on which it stands."""
-        picture = blocks(DOCS / "ARCHITECTURE.md")[0]
-        lines = {
-            crate: line
-            for line, shown in enumerate(picture.splitlines())
-            for crate in re.findall(r"\b(?:fs_|atomfs)\w*", shown)
-        }
-        self.agrees("the crates of the picture", sorted(lines), sorted(self.product()))
-        below = [
-            f"{crate} on {one}"
-            for crate, named in self.product().items()
-            for one in named
-            if lines[one] <= lines[crate]
-        ]
-        self.agrees("what stands on a crate that is not below it", [], below)
+    @staticmethod
+    def rooms():
+        """The rooms of docs/ARCHITECTURE.md from the top down, each with its crates as they come in the list."""
+        rooms = [room.splitlines() for room in blocks(DOCS / "ARCHITECTURE.md")[1].split("\n\n")]
+        return {name: [line.split()[0] for line in crates] for name, *crates in rooms}
+
+    def test_rooms(self):
+        """Each crate of the product is in a room of the drawing. In the list it comes above all that it uses, and none of these is in a room beside."""
+        drawing, _ = blocks(DOCS / "ARCHITECTURE.md")
+        rows = [{cell.strip(" +-") for cell in line.split("|")} - {""} for line in drawing.splitlines()]
+        rooms = self.rooms()
+        self.agrees("the rooms of the drawing", sorted(set().union(*rows)), sorted(rooms))
+        order = [crate for crates in rooms.values() for crate in crates]
+        self.agrees("the crates of the list", sorted(order), sorted(self.product()))
+        used = [(crate, one) for crate, named in self.product().items() for one in named]
+        above = [f"{crate} uses {one}" for crate, one in used if order.index(one) <= order.index(crate)]
+        self.agrees("what a crate uses that is not below it", [], above)
+        room_of = {crate: room for room, crates in rooms.items() for crate in crates}
+        pairs = [{room_of[crate], room_of[one]} for crate, one in used if room_of[crate] != room_of[one]]
+        self.agrees("rooms that use one beside them", [], [pair for pair in pairs for row in rows if pair <= row])
 
     def test_laws(self):
         """docs/MACHINE.md has each law of the machine and of its runs, by the name of the function that states it."""
