@@ -154,18 +154,17 @@ class Pages(unittest.TestCase):
         importlib.util.find_spec("hypothesis"), "there is no hypothesis: apt-get install python3-hypothesis"
     )
     def test_hypothesis(self):
-        """The recipes run and pass."""
-        import hypothesis
+        """The recipes run and pass, here with few examples."""
+        from hypothesis import settings
 
         given, stateful = self.blocks(self.SCHEDULES, "python")
-        few = hypothesis.settings(
-            max_examples=15, stateful_step_count=5, deadline=None, database=None, derandomize=True
-        )
+        settings.register_profile("few", max_examples=15, database=None, derandomize=True)
+        settings.load_profile("few")
+        self.addCleanup(settings.load_profile, "default")
         space = {"__name__": "page"}
         exec(given, space)
-        few(space["test_page"])()
+        space["test_page"]()
         exec(stateful, space)
-        space["TestBox"].settings = few
         result = unittest.TestResult()
         space["TestBox"]("runTest").run(result)
         self.assertEqual((result.testsRun, result.errors, result.failures), (1, [], []))
