@@ -439,6 +439,7 @@ class Shown(Page):
         ("docs/PICTURES.md", "", 1, None),
         ("docs/PLAYER.md", "python", 1, "tests/tutorials.py"),
         ("docs/TEST-A-FILE-SYSTEM.md", "", 4, "tests/histories.py, tests/recorders.py"),
+        ("docs/TEST-A-FILE-SYSTEM.md", "python", 1, "tests/tutorials.py"),
         ("docs/ARCHITECTURE.md", "", 2, "tests/documents.py"),
         ("docs/MACHINE.md", "", 2, None),
         ("examples/tour/README.md", "", 11, "tests/worked.py"),

@@ -1,4 +1,7 @@
-"""What README.md, docs/FIRST-RACE.md and docs/PLAYER.md have a reader type in Python prints and writes what stands there. The blocks of a page are run one after the other."""
+"""What README.md, docs/FIRST-RACE.md, docs/TEST-A-FILE-SYSTEM.md and docs/PLAYER.md have a reader type in Python prints and writes what they say.
+
+The blocks of a page are run one after the other.
+"""
 import json
 import os
 import pathlib
@@ -11,7 +14,7 @@ import harness
 from documents import DOCS, README, blocks
 from harness import DATA, ROOT, Case
 
-FIRST_RACE, PLAYER = DOCS / "FIRST-RACE.md", DOCS / "PLAYER.md"
+FIRST_RACE, PLAYER, HISTORIES = (DOCS / f"{name}.md" for name in ("FIRST-RACE", "PLAYER", "TEST-A-FILE-SYSTEM"))
 # Runs blocks of Python, and writes what each printed, and the script of an error of a race at which it ended.
 DRIVER = """\
 import contextlib, io, json, sys
@@ -78,6 +81,11 @@ class Tutorials(Case):
         commits = re.findall(r"^(\d+) \S+ commits", printed[2], re.M)
         self.same("where each call commits", [first or last for first, last in said], commits)
         self.same("what it makes", list(made), ["race.script", "race.svg"])
+
+    def test_histories(self):
+        """The example records calls on the disk, which an order explains."""
+        told, made = self.printed(HISTORIES)
+        self.same("docs/TEST-A-FILE-SYSTEM.md", (told, list(made)), ([["Lawful()\n", None]], []))
 
     def test_pictures(self):
         """The example writes the page that plays the worked example: with its trace and its picture."""
