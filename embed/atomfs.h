@@ -611,9 +611,10 @@ uint8_t atomfs_shared_close(atomfs_shared **shared);
 uint8_t atomfs_shared_session(atomfs_shared *shared, atomfs_session **session, uint64_t *seat);
 
 /** Ends a session, and sets *session to null. Other pointers to it stay valid until the tree is closed, and each call
- * on them returns NO_SEAT. For that, 32 bytes of it stay until then.
+ * on them returns NO_SEAT. For that, 32 bytes of it stay until then. If the wait of its call was given up
+ * (atomfs_shared_wait_most), the call still comes to its return, and no session gets the seat before that.
  *
- * Returns OK; SEAT_BUSY if its call is pending; NO_SEAT if it has ended. */
+ * Returns OK; SEAT_BUSY if a thread is in a call of it; NO_SEAT if it has ended. */
 uint8_t atomfs_shared_end(atomfs_session **session);
 
 /** Waits until no call is pending, and lends the handle to this thread. Until atomfs_shared_unlock no other call
@@ -653,9 +654,10 @@ uint8_t atomfs_shared_pauses(atomfs_shared *shared, uint64_t seed);
 
 /** Bounds how many milliseconds a thread sleeps for a node, for the handle, or for the return of the last pending call.
  * 0 is no bound, and a tree is opened with it. A function that has slept so long returns WAITS. If it is a call,
- * *number is written. If that is not 0, the call is pending, and its session returns SEAT_BUSY until
- * atomfs_shared_finish has completed it. If it is 0, and in atomfs_shared_lock and atomfs_shared_session, nothing was
- * done.
+ * *number is written. If that is not 0, the call is pending, and its session returns SEAT_BUSY until it has returned.
+ * The thread of a call that it waits for makes its steps too, without a gate, when that call goes on. So it keeps
+ * nobody waiting for ever, and atomfs_shared_finish completes it at once. If *number is 0, and in atomfs_shared_lock
+ * and atomfs_shared_session, nothing was done.
  *
  * Returns OK, CLOSED. */
 uint8_t atomfs_shared_wait_most(atomfs_shared *shared, uint32_t milliseconds);

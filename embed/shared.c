@@ -4,7 +4,8 @@
  * A call sleeps only for a node that another call holds. The step by which that one lets the node go wakes one of those that
  * sleep for it, since only one can take it. The sleep begins under the lock under which the node was found taken, so no such
  * step is missed. Of the calls under way one always goes on, as is proved of atomfs_step_any, and it sleeps for none: so each
- * call comes to its return. */
+ * call comes to its return. A call whose thread slept as long as it may sleeps on without it, and whoever wakes it makes its
+ * steps: so it keeps nobody off. */
 #define _POSIX_C_SOURCE 200809L
 #include "checks.h"
 #include <errno.h>
@@ -45,7 +46,9 @@ struct place {
     int cancel; /* whether its thread could be cancelled before its call */
     int is_busy;
     int is_asleep;
-    int knows; /* what it wants */
+    int is_left;   /* by its thread, which waits no more: whoever wakes it makes its steps */
+    int has_ended; /* its session, in the midst of that */
+    int knows;     /* what it wants */
     pthread_cond_t woken;
 };
 
@@ -69,6 +72,7 @@ struct atomfs_shared {
     atomfs fs;
     atomfs_session *sessions;
     struct place *free_places;
+    struct place *left;          /* by their threads, and woken: whoever has the lock makes their steps */
     struct queue sure[QUEUES];   /* those that sleep for a node, by its number */
     struct queue unsure[QUEUES]; /* those that sleep for a call, whichever node they want, by its number */
     struct place *busy[QUEUES];  /* those with calls under way, by their numbers */
@@ -346,6 +350,14 @@ uint8_t atomfs_shared_session(atomfs_shared *shared, atomfs_session **session, u
     return status;
 }
 
+/* Another session can have a place. */
+static void becomes_free(atomfs_shared *shared, struct place *place) {
+    place->has_ended = 0;
+    place->drawn = shared->seed + place->seat;
+    place->next = shared->free_places;
+    shared->free_places = place;
+}
+
 uint8_t atomfs_shared_end(atomfs_session **session) {
     uint8_t status;
     if (refused(status = there(session)) || refused(status = there(*session))) return status;
@@ -354,11 +366,13 @@ uint8_t atomfs_shared_end(atomfs_session **session) {
     struct place *place = (*session)->place;
     if (place == NULL)
         status = ATOMFS_NO_SEAT;
-    else if (place->is_busy)
+    else if (place->is_busy && !place->is_left)
         status = ATOMFS_SEAT_BUSY;
     else {
-        place->next = shared->free_places;
-        shared->free_places = place;
+        if (place->is_busy)
+            place->has_ended = 1;
+        else
+            becomes_free(shared, place);
         (*session)->place = NULL;
         *session = NULL;
     }
@@ -477,6 +491,7 @@ static void becomes_busy(atomfs_shared *shared, struct place *place, uint64_t ca
     place->holds = 0;
     place->holder = 0;
     place->is_busy = 1;
+    place->is_left = 0;
     place->busy_from = from;
     place->next_busy = *from;
     if (*from != NULL) (*from)->busy_from = &place->next_busy;
@@ -489,6 +504,7 @@ static void becomes_idle(atomfs_shared *shared, struct place *place) {
     *place->busy_from = place->next_busy;
     if (place->next_busy != NULL) place->next_busy->busy_from = place->busy_from;
     shared->under_way--;
+    if (place->has_ended) becomes_free(shared, place);
     tell_at_rest(shared);
 }
 
@@ -526,21 +542,36 @@ static void leave_bed(atomfs_shared *shared, struct place *place) {
     gets_up(queue, before, place);
 }
 
-/* Sleeps until the call of a number lets a node go that this one may take. Which node it wants is known, where the other holds
- * one alone. Whether it is not given up. */
-static int slept_for(atomfs_shared *shared, struct place *place, uint64_t holder) {
-    struct timespec until = deadline(shared);
+/* Lies down until the call of a number lets a node go that this one may take. Which node it wants is known, where the other
+ * holds one alone. */
+static void lies_down_for(atomfs_shared *shared, struct place *place, uint64_t holder) {
     const struct place *other = place_of_call(shared, holder);
     place->holder = holder;
     place->knows = other != NULL && other->holds == 1;
     if (place->knows) place->wants = other->held[0];
     lies_down(bed_of(shared, place), place);
+}
+
+/* Sleeps until it is woken. Whether that is not given up: then the call sleeps on, and others make its steps. */
+static int slept_for(atomfs_shared *shared, struct place *place, uint64_t holder) {
+    struct timespec until = deadline(shared);
+    lies_down_for(shared, place, holder);
     while (place->is_asleep)
         if (!slept_until(shared, &place->woken, &until) && place->is_asleep) {
-            leave_bed(shared, place);
+            place->is_left = 1;
             return 0;
         }
     return 1;
+}
+
+/* One that is up again: its thread goes on, or, if that has left it, whoever has the lock. */
+static void wakes(atomfs_shared *shared, struct place *place) {
+    if (!place->is_left)
+        pthread_cond_signal(&place->woken);
+    else if (place->is_busy) {
+        place->next_asleep = shared->left;
+        shared->left = place;
+    }
 }
 
 /* Wakes the first that sleeps for a node, which is free, since one alone can take it. */
@@ -553,7 +584,7 @@ static void wake_first(atomfs_shared *shared, uint64_t node) {
     }
     if (place == NULL) return;
     gets_up(queue, before, place);
-    pthread_cond_signal(&place->woken);
+    wakes(shared, place);
 }
 
 /* Wakes those that sleep for a call which has let a node go, and may want that one. */
@@ -564,7 +595,7 @@ static void wake_unsure(atomfs_shared *shared, uint64_t holder) {
         struct place *next = place->next_asleep;
         if (place->holder == holder) {
             gets_up(queue, before, place);
-            pthread_cond_signal(&place->woken);
+            wakes(shared, place);
         } else {
             before = place;
         }
@@ -590,6 +621,24 @@ static void note(atomfs_shared *shared, struct place *place, uint8_t did, uint64
     if (did != ATOMFS_DID_RETURN) return;
     while (place->holds > 0) lets_go(shared, place, place->held[0]);
     becomes_idle(shared, place);
+}
+
+/* Makes the steps of those that are left and were woken: up to their returns, or until they sleep again. They end, since each
+ * call makes so many steps at most. */
+static void go_on_with_left(atomfs_shared *shared) {
+    struct place *place;
+    uint64_t about;
+    uint8_t did;
+    while ((place = shared->left) != NULL) {
+        shared->left = place->next_asleep;
+        do {
+            if (refused(atomfs_step(&shared->fs, place->seat, &did, &about))) return;
+            if (did == ATOMFS_DID_WAIT)
+                lies_down_for(shared, place, about);
+            else
+                note(shared, place, did, about);
+        } while (did != ATOMFS_DID_WAIT && did != ATOMFS_DID_RETURN);
+    }
 }
 
 /* Begins a call, once those have given the handle back who asked for it before. */
@@ -628,13 +677,15 @@ static uint8_t stepped(atomfs_shared *shared, struct place *place, uint64_t numb
             return ATOMFS_WAITS;
         if (!place->is_busy || place->call != number) return ATOMFS_OK;
         if (refused(atomfs_step(&shared->fs, place->seat, &did, &about))) return ATOMFS_OK;
-        if (did != ATOMFS_DID_WAIT) note(shared, place, did, about);
+        if (did == ATOMFS_DID_WAIT) continue;
+        note(shared, place, did, about);
+        go_on_with_left(shared);
         if (did == ATOMFS_DID_RETURN) return ATOMFS_OK;
     }
 }
 
 /* Begins a call and steps it to its return. At OK it has returned, and the lock is held, under which its reply is in the
- * last entry of the journal; else there was no call, or it is under way. */
+ * journal; else there was no call, or it is under way. */
 static uint8_t returned(atomfs_session *session, const atomfs_request *request, uint64_t *number) {
     atomfs_shared *shared = session->shared;
     int cancel = taken(shared);
@@ -681,8 +732,9 @@ uint8_t atomfs_shared_finish(atomfs_shared *shared, uint64_t *count) {
         note(shared, place, did, about);
         if (place->is_asleep) {
             leave_bed(shared, place);
-            pthread_cond_signal(&place->woken);
+            wakes(shared, place);
         }
+        go_on_with_left(shared);
     }
     let_go(shared, cancel);
     return status;

@@ -563,6 +563,14 @@ static pthread_t stands_in_directory(heard *its, uint8_t *status, int ends) {
     return maker;
 }
 
+/* Whether bytes have these words in them. */
+static int has_words(const char *bytes, size_t length, const char *words) {
+    size_t of_words = strlen(words);
+    for (size_t i = 0; i + of_words <= length; i++)
+        if (memcmp(bytes + i, words, of_words) == 0) return 1;
+    return 0;
+}
+
 /* One that waits for a call that stands sleeps, and is woken once it goes on. A deadline ends the wait, the tree says who holds what,
  * and the call on which the wait was given up returns by atomfs_shared_finish, like the one that stood. */
 static void deadlines(void) {
@@ -592,7 +600,7 @@ static void deadlines(void) {
     IS(atomfs_shared_stat(other_session, PATH("/"), &stat_, &number), ATOMFS_SEAT_BUSY);
     IS(atomfs_shared_lock(shared, &fs), ATOMFS_WAITS);
     IS(fs == NULL, 1);
-    IS(atomfs_shared_end(&other_session), ATOMFS_SEAT_BUSY);
+    IS(atomfs_shared_end(&session), ATOMFS_SEAT_BUSY);
     IS(atomfs_shared_holders(shared, out, sizeof out, &count), ATOMFS_OK);
     SAYS(out, count, "call 2 on seat 0 holds 1\ncall 3 on seat 1 holds 0, waits for call 2\n");
     IS(atomfs_shared_finish(shared, &number), ATOMFS_OK);
@@ -609,6 +617,55 @@ static void deadlines(void) {
     IS(sem_post(&its.goes), 0);
     IS(pthread_join(maker, NULL), 0);
     IS(made, ATOMFS_OK);
+    is_lawful();
+    close_shared();
+}
+
+static void *looks_at_root(void *given) {
+    atomfs_session *its = NULL;
+    IS(atomfs_shared_session(shared, &its, NULL), ATOMFS_OK);
+    *(uint8_t *)given = atomfs_shared_stat(its, PATH("/"), &stat_, NULL);
+    return NULL;
+}
+
+/* A call on which the wait was given up holds the root, and one that it waits for makes its steps, once that goes on: so whoever
+ * wants the root is not kept waiting. Its session is free again then, or, if it has ended, its seat. */
+static void left_calls(int ends) {
+    heard its;
+    uint8_t made = 255, looked = 255;
+    pthread_t looker, maker = stands_in_directory(&its, &made, 0);
+    IS(atomfs_shared_wait_most(shared, 30), ATOMFS_OK);
+    IS(atomfs_shared_rename(other_session, PATH("/a/b"), PATH("/c"), &number), ATOMFS_WAITS);
+    IS(number, 3);
+    IS(atomfs_shared_wait_most(shared, 0), ATOMFS_OK);
+    atomfs_session *more = NULL, *ended = other_session;
+    if (ends) {
+        IS(atomfs_shared_end(&other_session), ATOMFS_OK);
+        IS(atomfs_shared_end(&ended), ATOMFS_NO_SEAT);
+        IS(atomfs_shared_stat(ended, PATH("/"), &stat_, NULL), ATOMFS_NO_SEAT);
+        /* Its seat has a pending call, so nobody else has it. */
+        IS(atomfs_shared_session(shared, &more, &seat), ATOMFS_OK);
+        IS(seat, 2);
+    }
+    IS(pthread_create(&looker, NULL, looks_at_root, &looked), 0);
+    do IS(atomfs_shared_holders(shared, out, sizeof out, &count), ATOMFS_OK);
+    while (!has_words(out, count, "waits for call 3"));
+    IS(sem_post(&its.goes), 0);
+    IS(pthread_join(maker, NULL) + pthread_join(looker, NULL), 0);
+    IS(made, ATOMFS_OK);
+    IS(looked, ATOMFS_OK);
+    atomfs *fs;
+    IS(atomfs_shared_lock(shared, &fs), ATOMFS_OK);
+    IS(atomfs_reply_done(fs, 3), ATOMFS_OK);
+    IS(atomfs_tree(fs, out, sizeof out, &count), ATOMFS_OK);
+    SAYS(out, count, "tree\ndir /\ndir /a\ndir /c\n");
+    IS(atomfs_shared_unlock(shared), ATOMFS_OK);
+    IS(atomfs_shared_gate(shared, NULL, NULL), ATOMFS_OK);
+    if (ends) {
+        IS(atomfs_shared_session(shared, &other_session, &seat), ATOMFS_OK);
+        IS(seat, 1);
+    }
+    IS(atomfs_shared_rmdir(other_session, PATH("/c"), NULL), ATOMFS_OK);
     is_lawful();
     close_shared();
 }
@@ -639,7 +696,7 @@ static void dawdles(void *context, uint64_t seat_, uint8_t did, uint64_t about) 
     if (did == ATOMFS_DID_LET_GO && (seat_ + about) % 5 == 0) nanosleep(&pause, NULL);
 }
 
-/* A thread whose calls may be given up: then it has all calls finished, and goes on. */
+/* A thread whose calls may be given up: then it has all calls finished, or leaves its session for another, and goes on. */
 static void *gives_up(void *given) {
     thread *self = given;
     atomfs_session *its = NULL;
@@ -651,7 +708,12 @@ static void *gives_up(void *given) {
         if (status == ATOMFS_WAITS) {
             given_up++;
             IS(its_number > 0, 1);
-            IS(atomfs_shared_finish(shared, &finished), ATOMFS_OK);
+            if (draw(self, 2) == 0) {
+                IS(atomfs_shared_finish(shared, &finished), ATOMFS_OK);
+            } else {
+                IS(atomfs_shared_end(&its), ATOMFS_OK);
+                IS(atomfs_shared_session(shared, &its, NULL), ATOMFS_OK);
+            }
         } else if (status != ATOMFS_OK && status < ATOMFS_FAILED) {
             IS(status, ATOMFS_OK);
         }
@@ -661,7 +723,7 @@ static void *gives_up(void *given) {
     return NULL;
 }
 
-/* Calls that are given up and finished while others go on: none is lost, and the journal is lawful. */
+/* Calls that are given up, and finished or left, while others go on: none is lost, and the journal is lawful. */
 static void given_up(int calls) {
     thread threads[THREADS];
     int times = 0;
@@ -896,6 +958,8 @@ int main(int argc, char **argv) {
     environment();
     gates();
     deadlines();
+    left_calls(0);
+    left_calls(1);
     dead_threads();
     left_by_lender();
     all_names(ATOMFS_V2, 64);

@@ -4,10 +4,11 @@ use std::cell::{Cell, RefCell};
 use std::collections::BTreeMap;
 use std::panic::{self, Location};
 use std::sync::{Arc, Condvar, Mutex, MutexGuard, Once, PoisonError};
+use std::thread;
 
 use crate::call::{Call, Did, Reply, Seat};
 use crate::draws::Chooser;
-use crate::error::Error;
+use crate::error::{Error, ErrorKind};
 use crate::explore::place_of;
 use crate::file::{File, OpenOptions};
 use crate::limits::Limits;
@@ -133,7 +134,8 @@ impl Baton {
     }
 
     /// Waits for the turn of a thread, which it hands on if it has it: to another one, where it yields and one can go.
-    fn turn(&self, me: usize, yields: bool) -> Held<'_> {
+    /// Where the run is over the function ends here.
+    fn turn(&self, me: usize, yields: bool) -> Result<Held<'_>, Error> {
         let mut state = self.held();
         state.has_come[me] = true;
         if state.turn == Some(me) || state.turn.is_none() {
@@ -145,9 +147,9 @@ impl Baton {
         }
         if state.is_stopped {
             drop(state);
-            panic::resume_unwind(Box::new(Stopped));
+            return Err(over());
         }
-        state
+        Ok(state)
     }
 
     /// The function of a thread has ended.
@@ -204,6 +206,9 @@ impl Baton {
 
 /// A thread's way into the tree of a run, by which [`explore`](crate::explore()) hands turns on: before each begin and
 /// each step of a call.
+///
+/// When another thread fails the run is over, and this one ends by a panic at its next call. What its values call while
+/// they are dropped is refused with `ErrorKind::NoSeat`.
 pub struct ThreadTree {
     baton: Arc<Baton>,
     /// None of what is done before.
@@ -229,10 +234,10 @@ impl ThreadTree {
         self.at = at;
     }
 
-    fn turn_to_go(&self) -> Held<'_> {
+    fn turn_to_go(&self) -> Result<Held<'_>, Error> {
         match self.me {
             Some(me) => self.baton.turn(me, false),
-            None => self.baton.held(),
+            None => Ok(self.baton.held()),
         }
     }
 
@@ -265,32 +270,36 @@ fn place(me: Option<usize>, state: &State) -> usize {
     me.unwrap_or(state.has_come.len())
 }
 
-fn over() -> ! {
-    panic::resume_unwind(Box::new(Stopped))
+/// The run is over, so the function ends by a panic. If it unwinds already, a second panic would end the process: then
+/// what its values call while they are dropped is refused.
+fn over() -> Error {
+    if !thread::panicking() {
+        panic::resume_unwind(Box::new(Stopped));
+    }
+    ErrorKind::NoSeat.into()
 }
 
 impl Calls for ThreadTree {
     fn call(&mut self, call: &Call) -> Result<Reply, Error> {
         let (me, seat, at) = (self.me, self.seat, self.at);
-        let mut state = self.turn_to_go();
+        let mut state = self.turn_to_go()?;
         let thread = place(me, &state);
         let number = match state.tree.as_mut().map(|tree| tree.begin(seat, call)) {
-            Some(Ok(number)) => number,
-            Some(Err(error)) => return Err(error),
+            Some(begun) => begun?,
             None => {
                 drop(state);
-                over()
+                return Err(over());
             }
         };
         state.events.push(Event { thread, call: number, did: None, at });
         loop {
             drop(state);
-            state = self.turn_to_go();
+            state = self.turn_to_go()?;
             let did = match state.tree.as_mut().map(|tree| tree.step(seat)) {
                 Some(did) => did?,
                 None => {
                     drop(state);
-                    over()
+                    return Err(over());
                 }
             };
             state.events.push(Event { thread, call: number, did: Some(did), at });
@@ -301,7 +310,7 @@ impl Calls for ThreadTree {
                     state.waits.fill(false);
                     return match state.tree.as_mut() {
                         Some(tree) => tree.reply(seat),
-                        None => over(),
+                        None => Err(over()),
                     };
                 }
                 _ => {}

@@ -12,12 +12,15 @@ pub struct Stat {
     pub size: u64,
 }
 
-/// A place for one call under way, of the tree that made it: another tree refuses it.
+/// A place for one call under way, of the tree that made it: another tree refuses it. When a session has ended,
+/// `ErrorKind::NoSeat` refuses its seat, though another session may have the number by then.
 #[derive(Clone, Copy, Debug, PartialEq, Eq, Hash)]
 pub struct Seat {
     /// The number of its tree, which no other tree of the process has.
     pub(crate) tree: u64,
     pub(crate) number: u64,
+    /// How many sessions that had the number have ended before.
+    pub(crate) turn: u64,
 }
 
 impl Seat {

@@ -280,6 +280,7 @@ extern "C" {
     pub fn atomfs_shared_from(shared: *mut *mut Shared, fs: *mut Handle) -> u8;
     pub fn atomfs_shared_close(shared: *mut *mut Shared) -> u8;
     pub fn atomfs_shared_session(shared: *mut Shared, session: *mut *mut Session, seat: *mut u64) -> u8;
+    pub fn atomfs_shared_end(session: *mut *mut Session) -> u8;
     pub fn atomfs_shared_lock(shared: *mut Shared, fs: *mut *mut Handle) -> u8;
     pub fn atomfs_shared_unlock(shared: *mut Shared) -> u8;
     pub fn atomfs_shared_gate(shared: *mut Shared, gate: Option<Gate>, context: *mut c_void) -> u8;

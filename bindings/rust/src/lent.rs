@@ -12,7 +12,8 @@ use crate::way::Shared;
 use crate::whole::Calls;
 
 /// A shared tree of which a thread has the handle: no call of others is under way, and none begins until this is
-/// dropped. Calls that are left half-way then come to their returns.
+/// dropped. Calls that are left half-way then come to their returns: so they do where a panic drops it, or where the
+/// future is dropped that has it.
 pub struct Lent<'t> {
     shared: &'t Shared,
 }

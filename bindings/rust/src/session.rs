@@ -16,6 +16,9 @@ use crate::whole::Calls;
 /// A session takes the lock of the tree for the begin of a call and for each of its steps, and lets it go between them.
 /// So the calls of several sessions interleave, and a rename helps the calls below what it moves.
 ///
+/// A session may be dropped after [`SharedTree::wait_most`](crate::SharedTree::wait_most) has ended the wait of its
+/// call. The call comes to its return all the same: whoever it waits for makes its steps. So it keeps nobody waiting.
+///
 /// ```
 /// use std::thread;
 ///
@@ -44,7 +47,7 @@ impl Session {
         Ok(Session { shared: Arc::clone(shared), seat: way.seat, way: Some(way) })
     }
 
-    /// Its seat. When it is dropped another session can have it.
+    /// Its seat. When the session is dropped another one can have the number, and this value is no seat any more.
     pub fn seat(&self) -> Seat {
         self.seat
     }
@@ -76,7 +79,7 @@ impl Calls for Session {
 impl Drop for Session {
     fn drop(&mut self) {
         if let Some(way) = self.way.take() {
-            self.shared.give_way_back(way);
+            self.shared.ends(way);
         }
     }
 }

@@ -94,7 +94,8 @@ impl SharedTree {
     }
 
     /// How long a call sleeps at most for another that holds a node, or for whoever has the tree locked; `None`:
-    /// without end. Then it ends with `ErrorKind::TimedOut`, and [`Error::holders`] tells who holds what. Less than a
+    /// without end. Then it ends with `ErrorKind::TimedOut`, and [`Error::holders`] tells who holds what. The call is
+    /// under way, and the thread that it waits for makes its steps, once that goes on, without the gate. Less than a
     /// millisecond counts as one.
     pub fn wait_most(&self, most: Option<Duration>) {
         let milliseconds = most.map_or(0, |most| u32::try_from(most.as_millis()).unwrap_or(u32::MAX).max(1));

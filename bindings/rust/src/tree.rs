@@ -3,6 +3,7 @@
 use std::fmt;
 use std::ptr::{self, NonNull};
 use std::sync::atomic::{AtomicU64, Ordering};
+use std::sync::Arc;
 
 use crate::call::{Call, Did, Kind, Reply, Seat, Stat};
 use crate::error::{Error, ErrorKind};
@@ -10,6 +11,7 @@ use crate::ffi::{self, Handle, OnPath, OnPaths, RawStat, OK, TOO_SMALL, UNTOLD, 
 use crate::limits::{Journal, Limits, KEEP_ALL};
 use crate::path::AsPath;
 use crate::texts::{ascii, ROOM};
+use crate::way::Turns;
 use crate::NODE_LIMIT;
 
 /// How many trees have been opened.
@@ -42,11 +44,14 @@ pub struct Tree {
     own: Option<Seat>,
     /// The last call that was begun on each seat.
     last: Vec<Last>,
+    /// Which sessions have a seat, if threads share the tree.
+    turns: Option<Arc<Turns>>,
 }
 
 /// A call that was begun on a seat.
 #[derive(Default)]
 struct Last {
+    turn: u64,
     number: u64,
     kind: Kind,
     path: Vec<u8>,
@@ -54,8 +59,9 @@ struct Last {
 }
 
 impl Last {
-    fn begins(&mut self, number: u64, call: &Call) {
+    fn begins(&mut self, seat: Seat, number: u64, call: &Call) {
         let (path, other) = call.paths();
+        self.turn = seat.turn;
         self.path.clear();
         self.path.extend_from_slice(path);
         self.other = other.map(<[u8]>::to_vec);
@@ -171,6 +177,7 @@ impl Tree {
             room: vec![0; ROOM],
             own: None,
             last: Vec::new(),
+            turns: None,
         }
     }
 
@@ -452,16 +459,20 @@ impl Tree {
         Ok(self.seat_of(number))
     }
 
-    /// The seat of a number.
+    /// The seat of a number, as whoever has it now.
     fn seat_of(&self, number: u64) -> Seat {
-        Seat { tree: self.id, number }
+        let turn = self.turns.as_ref().map_or(0, |turns| turns.of(number));
+        Seat { tree: self.id, number, turn }
     }
 
-    /// Refuses the seat of another tree.
+    /// Refuses the seat of another tree, and that of a session that has ended.
     fn own_seat(&self, seat: Seat) -> Result<(), Error> {
-        match seat.tree == self.id {
+        if seat.tree != self.id {
+            return Err(ErrorKind::ForeignSeat.into());
+        }
+        match seat == self.seat_of(seat.number) {
             true => Ok(()),
-            false => Err(ErrorKind::ForeignSeat.into()),
+            false => Err(ErrorKind::NoSeat.into()),
         }
     }
 
@@ -503,7 +514,7 @@ impl Tree {
         if at >= self.last.len() {
             self.last.resize_with(at + 1, Last::default);
         }
-        self.last[at].begins(number, call);
+        self.last[at].begins(seat, number, call);
     }
 
     /// Notes a call that has begun: the tree has forgotten those before it where its number is no greater than theirs.
@@ -523,7 +534,8 @@ impl Tree {
 
     /// The last call that was begun on a seat and stands in the journal.
     fn last(&mut self, seat: Seat) -> Option<&mut Last> {
-        self.last.get_mut(usize::try_from(seat.number).ok()?)
+        let last = self.last.get_mut(usize::try_from(seat.number).ok()?);
+        last.filter(|last| last.turn == seat.turn)
     }
 
     pub(crate) fn handle(&mut self) -> NonNull<Handle> {
@@ -535,9 +547,10 @@ impl Tree {
     }
 
     /// A shared tree has taken what is behind the handle.
-    pub(crate) fn is_given_away(&mut self) {
+    pub(crate) fn is_given_away(&mut self, turns: Arc<Turns>) {
         self.free_handle();
         self.is_shared = true;
+        self.turns = Some(turns);
     }
 
     /// A shared tree lends its handle, on which others have begun so many calls since the last time.

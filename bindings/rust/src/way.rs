@@ -1,7 +1,8 @@
 //! The tree that C's functions share, and the ways of threads into it.
 
 use std::any::Any;
-use std::cell::{RefCell, UnsafeCell};
+use std::cell::{Cell, RefCell, UnsafeCell};
+use std::collections::BTreeMap;
 use std::fmt;
 use std::os::raw::c_void;
 use std::panic::{self, AssertUnwindSafe};
@@ -25,6 +26,25 @@ struct Gated {
     tree: u64,
 }
 
+/// How many sessions have ended that had a seat, by its number: so the seat of an ended one is told from that of the
+/// next.
+#[derive(Default)]
+pub(crate) struct Turns(Mutex<BTreeMap<u64, u64>>);
+
+impl Turns {
+    pub(crate) fn of(&self, number: u64) -> u64 {
+        held(&self.0).get(&number).copied().unwrap_or(0)
+    }
+
+    /// Whoever had the seat has it no more. The turn of the next one.
+    fn ends(&self, number: u64) -> u64 {
+        let mut turns = held(&self.0);
+        let turn = turns.entry(number).or_default();
+        *turn += 1;
+        *turn
+    }
+}
+
 /// A tree of `atomfs_shared_from`.
 pub(crate) struct Shared {
     shared: NonNull<ffi::Shared>,
@@ -36,6 +56,7 @@ pub(crate) struct Shared {
     begun: AtomicU64,
     /// The ways that no session and no call has.
     free: Mutex<Vec<Way>>,
+    turns: Arc<Turns>,
     /// All gates that there were: a thread may still be in an old one.
     gates: Mutex<Vec<Arc<Gated>>>,
 }
@@ -60,7 +81,8 @@ impl Shared {
             status => return Err(Error::of(status, 0)),
         }
         let shared = NonNull::new(shared).ok_or(ErrorKind::OutOfMemory)?;
-        tree.is_given_away();
+        let turns = Arc::<Turns>::default();
+        tree.is_given_away(Arc::clone(&turns));
         Ok(Arc::new(Shared {
             shared,
             id: tree.id(),
@@ -68,6 +90,7 @@ impl Shared {
             tree: UnsafeCell::new(tree),
             begun: AtomicU64::new(0),
             free: Mutex::default(),
+            turns,
             gates: Mutex::default(),
         }))
     }
@@ -121,14 +144,27 @@ impl Shared {
             status => return Err(Error::of(status, 0)),
         }
         let session = NonNull::new(session).ok_or(ErrorKind::OutOfMemory)?;
-        Ok(Way { session, seat: Seat { tree: self.id, number: seat }, room: Vec::new(), is_busy: false })
+        let seat = Seat { tree: self.id, number: seat, turn: self.turns.of(seat) };
+        Ok(Way { session, seat, room: Vec::new(), is_left: false })
     }
 
-    /// A way is free again, unless its call was left under way.
+    /// A session has ended: its seat is no seat any more, and another one may have its number.
+    pub(crate) fn ends(&self, mut way: Way) {
+        way.seat.turn = self.turns.ends(way.seat.number);
+        self.give_way_back(way);
+    }
+
+    /// A way is free again. If its call was left under way, that comes to its return by the steps of others, and C's
+    /// functions keep the seat until then.
     pub(crate) fn give_way_back(&self, way: Way) {
-        if !way.is_busy {
+        if !way.is_left {
             held(&self.free).push(way);
+            return;
         }
+        self.turns.ends(way.seat.number);
+        let mut session = way.session.as_ptr();
+        // SAFETY: the session is this way's, which is gone behind this, and the tree is open.
+        unsafe { ffi::atomfs_shared_end(&mut session) };
     }
 
     pub(crate) fn pauses(&self, seed: u64) {
@@ -194,6 +230,8 @@ impl fmt::Debug for Shared {
 thread_local! {
     /// What a gate of this thread's call panicked with: the call goes on to its return first.
     static PANICKED: RefCell<Option<Box<dyn Any + Send>>> = const { RefCell::new(None) };
+    /// The seat of the call that this thread makes.
+    static CALLS_ON: Cell<Option<Seat>> = const { Cell::new(None) };
 }
 
 /// Goes on with the panic of a gate, once its call has returned.
@@ -209,7 +247,9 @@ extern "C" fn pass(context: *mut c_void, seat: u64, did: u8, about: u64) {
     if PANICKED.with(|panicked| panicked.borrow().is_some()) {
         return;
     }
-    let seat = Seat { tree: gated.tree, number: seat };
+    let calls_on = CALLS_ON.with(Cell::get);
+    let turn = calls_on.map_or(0, |calls_on| calls_on.turn);
+    let seat = Seat { tree: gated.tree, number: seat, turn };
     let came = panic::catch_unwind(AssertUnwindSafe(|| (gated.gate)(seat, Did::of(did, about))));
     if let Err(payload) = came {
         PANICKED.with(|panicked| *panicked.borrow_mut() = Some(payload));
@@ -221,8 +261,8 @@ pub(crate) struct Way {
     session: NonNull<ffi::Session>,
     pub(crate) seat: Seat,
     room: Vec<u8>,
-    /// Its last call is under way: the wait for it was given up.
-    is_busy: bool,
+    /// Its last call was left under way: the wait for it was given up.
+    is_left: bool,
 }
 
 // SAFETY: C's session may go from thread to thread.
@@ -240,13 +280,16 @@ impl Way {
     /// Makes a call, step by step between those of other threads. `panic_of_gate` has to follow.
     pub(crate) fn call(&mut self, shared: &Shared, call: &Call) -> Result<Reply, Error> {
         let mut number = 0;
+        // A gate may make a call on another tree meanwhile.
+        let before = CALLS_ON.with(|calls_on| calls_on.replace(Some(self.seat)));
         let (status, reply) = self.made(shared, call, &mut number);
+        CALLS_ON.with(|calls_on| calls_on.set(before));
         let has_begun = number > 0;
+        self.is_left = if has_begun { status == WAITS } else { self.is_left };
         shared.begun.fetch_add(u64::from(has_begun), Ordering::SeqCst);
         match status {
             OK => Ok(reply),
             WAITS => {
-                self.is_busy = has_begun;
                 let paths = Error::of_call(ErrorKind::TimedOut(number), call.paths());
                 Err(paths.with_holders(shared.holders()))
             }

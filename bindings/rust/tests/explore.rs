@@ -314,6 +314,72 @@ fn panics() {
     assert!(matches!(&error.fault, ScheduleFault::Check(why) if why.contains("left: 1")), "{error}");
 }
 
+/// A lock that is let go where its value is dropped, as by a panic too.
+struct Locked<'t>(&'t mut ThreadTree);
+
+impl<'t> Locked<'t> {
+    fn of(tree: &'t mut ThreadTree) -> Locked<'t> {
+        while tree.mkdir("/lock").is_err() {
+            tree.turn();
+        }
+        Locked(tree)
+    }
+}
+
+impl Drop for Locked<'_> {
+    fn drop(&mut self) {
+        // Where the run is over this is refused.
+        let _ = self.0.rmdir("/lock");
+    }
+}
+
+/// A thread panics with the lock, and lets it go. The run is over then for the others, wherever they are. Each run ends
+/// with the words of the panic.
+#[test]
+fn threads_that_die() {
+    let plan = |plan: &mut Plan<'_, ()>| {
+        for name in ["a", "b", "c"] {
+            plan.thread(name, move |tree| {
+                let locked = Locked::of(tree);
+                locked.0.write_file("/n", name).unwrap();
+                assert_ne!(name, "b", "it has the lock");
+                assert_eq!(locked.0.read_to_end("/n").unwrap(), name.as_bytes());
+            });
+        }
+        plan.check(|tree, _| tree.readdir("/").unwrap() == [b"n"]);
+    };
+    let orders = (0..60).map(|at| format!("a*{} c*{} b*{}", at % 20 + 1, at % 7 + 1, at / 4 + 1));
+    let errors = orders.map(|order| replay(&order, plan).unwrap_err());
+    for error in errors.chain([explore(3..4, plan).unwrap_err()]) {
+        match &error.fault {
+            ScheduleFault::Panicked(name, why) => {
+                assert_eq!(name, "b", "{error}");
+                assert!(why.contains("it has the lock"), "{error}");
+            }
+            other => panic!("{other:?}"),
+        }
+        assert_eq!(atomfs::check(&error.journal).unwrap(), "lawful");
+    }
+}
+
+/// A function that goes on after the run is over, as one does that catches every panic, ends at its next call again.
+#[test]
+fn a_function_that_catches_panics() {
+    let fault = fault_of(|plan| {
+        plan.thread("a", |tree| {
+            for _ in 0..40 {
+                let _ = std::panic::catch_unwind(std::panic::AssertUnwindSafe(|| tree.stat("/")));
+            }
+        });
+        plan.thread("b", |tree| {
+            tree.mkdir("/b").unwrap();
+            panic!("dies");
+        });
+        plan.check(|_, _| ());
+    });
+    assert!(fault.starts_with("thread b: dies ("), "{fault}");
+}
+
 fn fault_of<R: Send + 'static>(plan: impl FnMut(&mut Plan<'_, R>)) -> String {
     explore(1..3, plan).unwrap_err().fault.to_string()
 }

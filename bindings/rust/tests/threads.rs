@@ -1,10 +1,13 @@
 //! Threads on one tree.
 
+use std::future::Future;
 use std::io::{Read, Write};
 use std::panic;
+use std::pin::Pin;
 use std::sync::atomic::{AtomicUsize, Ordering};
 use std::sync::mpsc::{channel, Receiver, Sender};
 use std::sync::{Arc, Mutex};
+use std::task::{Context, Poll, Wake};
 use std::thread::{self, JoinHandle};
 use std::time::Duration;
 
@@ -219,19 +222,37 @@ fn a_wait_that_is_given_up() {
     assert_eq!(tree.lock().check().unwrap(), "lawful");
 }
 
-/// A thread whose gate panics makes its call to the end first, so nobody waits for ever.
+/// A thread whose gate panics at an event makes its call to the end first, so nobody waits for ever; and the thread can
+/// make more.
 #[test]
 fn a_gate_that_panics() {
-    let tree = SharedTree::new().unwrap();
-    tree.gate(Some(Box::new(|_, did| assert!(!matches!(did, Did::Took(_)), "at a node"))));
-    let came = thread::spawn({
-        let tree = tree.clone();
-        move || panic::catch_unwind(panic::AssertUnwindSafe(|| tree.mkdir("/a"))).is_err()
-    });
-    assert!(came.join().unwrap());
-    tree.gate(None);
-    assert_eq!(tree.readdir("/").unwrap(), [b"a"]);
-    assert_eq!(tree.lock().check().unwrap(), "lawful");
+    let events: [fn(&Did) -> bool; 5] = [
+        |did| matches!(did, Did::Began(_)),
+        |did| matches!(did, Did::Took(_)),
+        |did| matches!(did, Did::Committed),
+        |did| matches!(did, Did::LetGo(_)),
+        |did| matches!(did, Did::Returned),
+    ];
+    for at in events {
+        let tree = SharedTree::new().unwrap();
+        tree.gate(Some(Box::new(move |_, did| assert!(!at(&did), "at an event"))));
+        let dies = thread::spawn({
+            let mut session = tree.session().unwrap();
+            move || session.mkdir("/a")
+        });
+        assert!(dies.join().is_err());
+        let came = thread::spawn({
+            let tree = tree.clone();
+            move || {
+                let came = panic::catch_unwind(panic::AssertUnwindSafe(|| tree.mkdir("/b")));
+                tree.gate(None);
+                (came.is_err(), tree.mkdir("/c"))
+            }
+        });
+        assert_eq!(came.join().unwrap(), (true, Ok(())));
+        assert_eq!(tree.readdir("/").unwrap(), [b"a", b"b", b"c"]);
+        assert_eq!(tree.lock().check().unwrap(), "lawful");
+    }
 }
 
 /// What a gate hears of a call.
@@ -299,6 +320,109 @@ fn a_call_that_is_left_half_way() {
     assert_eq!(lent.text_of_tree().unwrap(), "tree\ndir /\ndir /b\nfile /b/f 68656c6c6f\n");
     assert_eq!(lent.forget(), Ok(6));
     assert_eq!((lent.calls_before(), lent.check().unwrap().as_str()), (6, "lawful"));
+}
+
+/// How a thread dies that has begun a call of its own on the tree.
+#[derive(Clone, Copy)]
+enum Dies {
+    ByPanic,
+    InFuture,
+    OnSeatOfSession,
+}
+
+/// Waits once, and never goes on.
+struct Never;
+
+impl Future for Never {
+    type Output = ();
+
+    fn poll(self: Pin<&mut Self>, _: &mut Context<'_>) -> Poll<()> {
+        Poll::Pending
+    }
+}
+
+struct Nobody;
+
+impl Wake for Nobody {
+    fn wake(self: Arc<Self>) {}
+}
+
+/// Begins a call on a tree that it has locked, makes a step of it, and dies.
+fn dies_with_tree(tree: &SharedTree, dies: Dies) {
+    let mut session = tree.session().unwrap();
+    let mut lent = tree.lock();
+    let seat = match dies {
+        Dies::OnSeatOfSession => session.seat(),
+        Dies::ByPanic | Dies::InFuture => lent.seat().unwrap(),
+    };
+    lent.begin(seat, &Call::mkdir("/a")).unwrap();
+    assert_eq!(lent.step(seat), Ok(Did::Took(0)));
+    match dies {
+        Dies::ByPanic => panic!("between begin and return"),
+        Dies::OnSeatOfSession => {
+            drop(lent);
+            session.mkdir("/a/b").unwrap();
+        }
+        Dies::InFuture => {
+            let mut future = Box::pin(async move {
+                Never.await;
+                lent.finish(seat).unwrap();
+            });
+            let waker = Arc::new(Nobody).into();
+            assert!(future.as_mut().poll(&mut Context::from_waker(&waker)).is_pending());
+        }
+    }
+}
+
+/// A thread that dies between the begin and the return of a call keeps nobody waiting: the call returns.
+#[test]
+fn threads_that_die_with_the_tree() {
+    for dies in [Dies::ByPanic, Dies::InFuture, Dies::OnSeatOfSession] {
+        let tree = SharedTree::new().unwrap();
+        let came = thread::spawn({
+            let tree = tree.clone();
+            move || dies_with_tree(&tree, dies)
+        });
+        assert_eq!(came.join().is_err(), matches!(dies, Dies::ByPanic));
+        assert_eq!(tree.readdir("/").unwrap(), [b"a"]);
+        assert_eq!(tree.lock().check().unwrap(), "lawful");
+    }
+}
+
+/// A call whose wait was given up holds the root. Its thread dies by the error, which drops its session, or it was none
+/// of a session. Nobody waits for it: the call returns once the one goes on that it waits for, and its seat is free.
+#[test]
+fn threads_that_die_after_a_wait() {
+    for has_session in [true, false] {
+        let (tree, standing) = held();
+        tree.wait_most(Some(Duration::from_millis(30)));
+        let its = tree.session().unwrap();
+        let seat = its.seat();
+        let came = thread::spawn({
+            let (tree, mut its) = (tree.clone(), its);
+            move || match has_session {
+                true => its.rename("/a/x", "/c").unwrap(),
+                false => tree.rename("/a/x", "/c").unwrap(),
+            }
+        });
+        assert!(came.join().is_err());
+        tree.wait_most(None);
+        let waits = thread::spawn({
+            let tree = tree.clone();
+            move || tree.stat("/").unwrap().size
+        });
+        wait_for(&tree, 2);
+        assert_eq!(standing.goes_on(), Ok(Reply::Done));
+        assert_eq!(waits.join().unwrap(), 2);
+        tree.gate(None);
+        assert_eq!(tree.readdir("/").unwrap(), [b"a", b"c"]);
+        assert_eq!(tree.lock().check().unwrap(), "lawful");
+        // The seat of the call, and no other, is had by the next session.
+        let sessions: Vec<_> = (0..4).map(|_| tree.session().unwrap()).collect();
+        assert!(sessions.iter().any(|session| session.seat().number() == seat.number()));
+        assert!(!sessions.iter().any(|session| session.seat() == seat));
+        assert_eq!(tree.lock().step(seat).unwrap_err(), ErrorKind::NoSeat);
+    }
 }
 
 /// A journal that forgets by itself while threads call: all calls are counted.
@@ -406,20 +530,38 @@ fn each_call_of_a_shared_tree() {
     assert_eq!(tree.lock().check().unwrap(), "lawful");
 }
 
-/// A session gives its seat back when it is dropped.
+/// A session gives its seat back when it is dropped. What is left of the seat says so, and nothing of the calls of the
+/// session that has it then.
 #[test]
 fn seats_of_sessions() {
     let tree = SharedTree::new().unwrap();
     let (one, other) = (tree.session().unwrap(), tree.session().unwrap());
     let (first, second) = (one.seat(), other.seat());
     assert_ne!(first, second);
-    drop(one);
+    let mut lent = tree.lock();
+    lent.begin(first, &Call::stat("/")).unwrap();
+    assert!(matches!(lent.finish(first), Ok(Reply::Stat(_))));
+    drop((lent, one));
     let mut again = tree.session().unwrap();
-    assert_eq!(again.seat(), first);
+    assert_eq!(again.seat().number(), first.number());
+    assert_ne!(again.seat(), first);
+    let heard = Arc::new(Mutex::new(Vec::new()));
+    let hears = Arc::clone(&heard);
+    tree.gate(Some(Box::new(move |seat, _| hears.lock().unwrap().push(seat))));
     again.mkdir("/a").unwrap();
-    drop((again, other));
+    tree.gate(None);
+    assert_eq!(*heard.lock().unwrap(), [again.seat(); 5]);
+    let mut lent = tree.lock();
+    assert_eq!(lent.reply(again.seat()).unwrap_err(), ErrorKind::NoReply);
+    for came in [lent.reply(first), lent.finish(first), lent.step(first).map(|_| Reply::Done)] {
+        assert_eq!(came.unwrap_err(), ErrorKind::NoSeat);
+    }
+    assert_eq!(lent.begin(first, &Call::mkdir("/b")).unwrap_err(), ErrorKind::NoSeat);
+    lent.begin(again.seat(), &Call::mkdir("/b")).unwrap();
+    assert!(matches!(lent.step_any(), Ok(Some((seat, Did::Took(0)))) if seat == again.seat()));
+    drop((lent, again, other));
     let journal = tree.lock().journal().unwrap();
-    assert!(journal.contains(&format!("\nbegin 1 {} mkdir /a\n", first.number())), "{journal}");
+    assert!(journal.contains(&format!("\nbegin 2 {} mkdir /a\n", first.number())), "{journal}");
 }
 
 /// A tree with a call under way goes over as a whole, and the call returns.
