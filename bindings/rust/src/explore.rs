@@ -9,6 +9,7 @@ use std::sync::mpsc;
 use std::thread;
 use std::time::Duration;
 
+use crate::bar::Bar;
 use crate::baton::{Baton, Event, Stopped, ThreadTree};
 use crate::draws::Chooser;
 use crate::limits::Limits;
@@ -246,6 +247,11 @@ pub struct FailedRun {
 }
 
 impl ScheduleError {
+    /// The error of no run.
+    pub(crate) fn none(why: impl Into<String>) -> ScheduleError {
+        ScheduleError::new(ScheduleFault::NoPlan(why.into()), None)
+    }
+
     fn new(fault: ScheduleFault, seed: Option<u64>) -> ScheduleError {
         let (schedule, trace, journal) = (String::new(), Vec::new(), String::new());
         ScheduleError(Box::new(FailedRun { fault, seed, schedule, trials: 0, trace, journal, script: None }))
@@ -314,8 +320,8 @@ impl Ran {
 }
 
 /// What came of a run.
-struct Ran {
-    fault: Option<ScheduleFault>,
+pub(crate) struct Ran {
+    pub(crate) fault: Option<ScheduleFault>,
     names: Vec<String>,
     order: Vec<usize>,
     before: usize,
@@ -352,29 +358,24 @@ pub fn explore<'p, R: Send + 'static>(
     seeds: Range<u64>,
     mut plan: impl FnMut(&mut Plan<'p, R>),
 ) -> Result<Explored, ScheduleError> {
-    let none = |why: &str| Err(ScheduleError::new(ScheduleFault::NoPlan(why.to_owned()), None));
-    if seeds.start >= seeds.end {
-        return none("there are no seeds to draw from");
-    }
     let mut player = Player { made: &mut plan };
-    // By how many events a run has changes of priorities are spread.
-    let alone = player.run(Chooser::given(Vec::new()), false)?;
-    if matches!(alone.fault, Some(ScheduleFault::NeverEnds(_) | ScheduleFault::Stuck(_))) {
-        return Err(player.error_of(alone, None, 0));
-    }
-    let (draws, events) = (player.draws(), alone.order.len() as u64);
+    let drawn = player.drawn(&seeds)?;
+    let runs = seeds.end - seeds.start;
+    let bar = Bar::of(runs);
     let mut outcomes = BTreeSet::new();
     let mut last_new = seeds.start;
-    for seed in seeds.clone() {
-        let ran = player.run(Chooser::drawn(draws, seed, alone.names.len(), events), true)?;
+    for seed in seeds {
+        let ran = player.run_of(&drawn, seed)?;
         if ran.fault.is_some() {
+            drop(bar);
             return Err(player.cut_down(ran, seed));
         }
         if outcomes.insert(outcome_of(&ran)) {
             last_new = seed;
         }
+        bar.add();
     }
-    Ok(Explored { runs: seeds.end - seeds.start, outcomes: outcomes.len(), last_new })
+    Ok(Explored { runs, outcomes: outcomes.len(), last_new })
 }
 
 /// Runs a plan by a schedule: as [`ScheduleError`] has it, or any other. Words of threads that have ended are passed
@@ -385,7 +386,7 @@ pub fn replay<'p, R: Send + 'static>(
 ) -> Result<(), ScheduleError> {
     let mut player = Player { made: &mut plan };
     let names = player.names()?;
-    let order = order_of(schedule, &names).map_err(|why| ScheduleError::new(ScheduleFault::NoPlan(why), None))?;
+    let order = order_of(schedule, &names).map_err(ScheduleError::none)?;
     let ran = player.run(Chooser::given(order), true)?;
     match ran.fault {
         None => Ok(()),
@@ -394,7 +395,9 @@ pub fn replay<'p, R: Send + 'static>(
 }
 
 /// The replies of a run in the order of its threads' calls, and its tree.
-fn outcome_of(ran: &Ran) -> (Vec<(usize, String)>, String) {
+pub(crate) type Outcome = (Vec<(usize, String)>, String);
+
+pub(crate) fn outcome_of(ran: &Ran) -> Outcome {
     let seats: BTreeMap<u64, usize> = ran.events.iter().map(|event| (event.call, event.thread)).collect();
     let replies = ran.journal.lines().filter_map(|line| {
         let (number, reply) = line.strip_prefix("return ")?.split_once(' ')?;
@@ -440,17 +443,42 @@ fn switches(order: &[usize]) -> usize {
     order.windows(2).filter(|pair| pair[0] != pair[1]).count()
 }
 
+/// By what schedules are drawn: how, for how many threads, and in how many events.
+pub(crate) struct Drawn {
+    draws: Draws,
+    threads: usize,
+    events: u64,
+}
+
 /// What runs plans.
-struct Player<'m, 'p, R> {
-    made: &'m mut dyn FnMut(&mut Plan<'p, R>),
+pub(crate) struct Player<'m, 'p, R> {
+    pub(crate) made: &'m mut dyn FnMut(&mut Plan<'p, R>),
 }
 
 impl<'p, R: Send + 'static> Player<'_, 'p, R> {
+    /// By what the schedules of these seeds are drawn, by a run in which the threads go one after another: by its
+    /// events changes of priorities are spread.
+    pub(crate) fn drawn(&mut self, seeds: &Range<u64>) -> Result<Drawn, ScheduleError> {
+        if seeds.start >= seeds.end {
+            return Err(ScheduleError::none("there are no seeds to draw from"));
+        }
+        let alone = self.run(Chooser::given(Vec::new()), false)?;
+        if matches!(alone.fault, Some(ScheduleFault::NeverEnds(_) | ScheduleFault::Stuck(_))) {
+            return Err(self.error_of(alone, None, 0));
+        }
+        Ok(Drawn { draws: self.draws(), threads: alone.names.len(), events: alone.order.len() as u64 })
+    }
+
+    /// The run of a seed, with its check.
+    pub(crate) fn run_of(&mut self, drawn: &Drawn, seed: u64) -> Result<Ran, ScheduleError> {
+        self.run(Chooser::drawn(drawn.draws, seed, drawn.threads, drawn.events), true)
+    }
+
     fn plan(&mut self) -> Result<Plan<'p, R>, ScheduleError> {
         let mut plan = Plan::new();
         (self.made)(&mut plan);
         match plan.fault() {
-            Some(why) => Err(ScheduleError::new(ScheduleFault::NoPlan(why), None)),
+            Some(why) => Err(ScheduleError::none(why)),
             None => Ok(plan),
         }
     }
@@ -467,7 +495,7 @@ impl<'p, R: Send + 'static> Player<'_, 'p, R> {
     fn run(&mut self, chooser: Chooser, checked: bool) -> Result<Ran, ScheduleError> {
         let Plan { limit, limits, events, patience, before, threads, check, .. } = self.plan()?;
         let (names, functions): (Vec<String>, Vec<_>) = threads.into_iter().unzip();
-        let none = |error: crate::Error| ScheduleError::new(ScheduleFault::NoPlan(error.to_string()), None);
+        let none = |error: crate::Error| ScheduleError::none(error.to_string());
         let tree = Tree::with_limits(limit, limits).map_err(none)?;
         let (baton, seats) = Baton::new(tree, names.len(), events, chooser).map_err(none)?;
         let mut fault = None;
@@ -487,9 +515,8 @@ impl<'p, R: Send + 'static> Player<'_, 'p, R> {
                     baton.ended(at);
                     let _ = told.send((at, came));
                 };
-                thread::Builder::new().name(names[at].clone()).spawn(body).map_err(|error| {
-                    ScheduleError::new(ScheduleFault::NoPlan(format!("no thread can be made: {error}")), None)
-                })?;
+                let made = thread::Builder::new().name(names[at].clone()).spawn(body);
+                made.map_err(|error| ScheduleError::none(format!("no thread can be made: {error}")))?;
             }
             while replies.len() < names.len() && fault.is_none() {
                 let seen = baton.events();
@@ -530,7 +557,7 @@ impl<'p, R: Send + 'static> Player<'_, 'p, R> {
     /// The error of a run that failed, by the fewest switches between threads, and then the fewest events, with which a
     /// run still fails: of those that let one thread go to its end in the midst of another, and of those that leave out
     /// or exchange parts of the best.
-    fn cut_down(&mut self, ran: Ran, seed: u64) -> ScheduleError {
+    pub(crate) fn cut_down(&mut self, ran: Ran, seed: u64) -> ScheduleError {
         let (mut best, mut trials) = (ran, 0);
         // A function that is stuck leaves a thread behind, and takes its time.
         let mut tried = match best.fault {
@@ -539,8 +566,9 @@ impl<'p, R: Send + 'static> Player<'_, 'p, R> {
         };
         while let Some(order) = tried.pop() {
             trials += 1;
-            let came = match self.run(Chooser::given(order), true) {
-                Ok(came) if came.fault.is_some() && came.size() < best.size() => came,
+            // What was found is not lost if the plan panics.
+            let came = match quiet(|| self.run(Chooser::given(order), true)) {
+                Ok(Ok(came)) if came.fault.is_some() && came.size() < best.size() => came,
                 _ if trials == TRIALS => break,
                 _ => continue,
             };
@@ -629,7 +657,7 @@ fn script_of(ran: &Ran, spelled: &BTreeMap<u64, String>) -> Option<String> {
 }
 
 /// What a function returns, or the words of its panic, which are not shown.
-fn quiet<T>(function: impl FnOnce() -> T) -> Result<T, String> {
+pub(crate) fn quiet<T>(function: impl FnOnce() -> T) -> Result<T, String> {
     crate::baton::quietly(|| panic::catch_unwind(AssertUnwindSafe(function)))
         .map_err(|payload: Box<dyn Any + Send>| words_of_panic(payload.as_ref()))
 }

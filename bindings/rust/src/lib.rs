@@ -21,7 +21,7 @@
 //! [`Tree::begin`] and [`Tree::step`] play an interleaving of your own.
 //!
 //! [`explore()`] runs functions of yours on threads, under schedules that a number draws, and cuts down the first that
-//! fails.
+//! fails. [`explore_on`] does so on several cores.
 //!
 //! [`check`], [`run`], [`trace`], [`draw`], [`schedule`], [`seeds`], [`linearize`] and [`explain`] are what the program
 //! `atomfs` does with texts.
@@ -44,6 +44,7 @@
 #![warn(missing_docs)]
 #![deny(clippy::undocumented_unsafe_blocks)]
 
+mod bar;
 mod baton;
 mod call;
 mod draws;
@@ -62,6 +63,7 @@ mod texts;
 mod tree;
 mod way;
 mod whole;
+mod workers;
 
 pub use baton::ThreadTree;
 pub use call::{Call, Did, Reply, Seat, Stat};
@@ -77,6 +79,7 @@ pub use shared::SharedTree;
 pub use texts::{check, draw, explain, run, schedule, seeds, trace, Schedule};
 pub use tree::Tree;
 pub use whole::{Calls, Entry};
+pub use workers::explore_on;
 
 /// The greatest limit of nodes of a tree whose limits are not told; [`Limits::nodes`] has that of each.
 pub const NODE_LIMIT: usize = Limits::V3.nodes();

@@ -1,17 +1,21 @@
 //! Functions under drawn schedules: eight real bugs, each with its repair.
 
 use std::collections::BTreeSet;
+use std::sync::atomic::{AtomicUsize, Ordering};
 use std::time::Duration;
 
-use atomfs::{explore, replay, Draws, Errno, Error, ErrorKind, Plan, ScheduleError, ScheduleFault, ThreadTree};
+use atomfs::{
+    explore, explore_on, replay, Draws, Errno, Error, ErrorKind, Plan, ScheduleError, ScheduleFault, ThreadTree,
+};
 
 const DRAWS: [Draws; 3] = [Draws::Both, Draws::Uniform, Draws::Pct { depth: 3 }];
 /// A bug is found in fewer runs, and its repair passes so many.
 const FOUND: u64 = 300;
 const PASSED: u64 = 500;
 
-/// Finds a bug by each way of drawing, by the same run again and by its schedule; it has a script and a picture.
-fn is_found<'p, R: Send + 'static>(made: impl Fn(&mut Plan<'p, R>) + Copy) -> ScheduleError {
+/// Finds a bug by each way of drawing, by one worker and by four, by the same run again and by its schedule; it has a
+/// script and a picture.
+fn is_found<'p, R: Send + 'static>(made: impl Fn(&mut Plan<'p, R>) + Copy + Sync) -> ScheduleError {
     let mut last = None;
     for draws in DRAWS {
         let plan = |plan: &mut Plan<'p, R>| {
@@ -21,6 +25,9 @@ fn is_found<'p, R: Send + 'static>(made: impl Fn(&mut Plan<'p, R>) + Copy) -> Sc
         let error = explore(1..FOUND, plan).unwrap_err();
         assert!(matches!(error.fault, ScheduleFault::Check(_)), "{error}");
         let seed = error.seed.unwrap();
+        for workers in [1, 4] {
+            assert_eq!(explore_on(workers, 1..FOUND, plan).unwrap_err(), error);
+        }
         assert_eq!(explore(seed..seed + 1, plan).unwrap_err(), error);
         let again = replay(&error.schedule, plan).unwrap_err();
         assert_eq!((&again.fault, &again.journal, &again.trace), (&error.fault, &error.journal, &error.trace));
@@ -33,10 +40,11 @@ fn is_found<'p, R: Send + 'static>(made: impl Fn(&mut Plan<'p, R>) + Copy) -> Sc
     last.unwrap()
 }
 
-fn passes<'p, R: Send + 'static>(plan: impl Fn(&mut Plan<'p, R>)) {
-    let seen = explore(1..PASSED + 1, plan).unwrap();
+fn passes<'p, R: Send + 'static>(plan: impl Fn(&mut Plan<'p, R>) + Sync) {
+    let seen = explore(1..PASSED + 1, &plan).unwrap();
     assert_eq!(seen.runs, PASSED);
     assert!(seen.outcomes > 0 && seen.last_new <= PASSED);
+    assert_eq!(explore_on(4, 1..PASSED + 1, plan).unwrap(), seen);
 }
 
 fn number(tree: &mut ThreadTree, path: &str) -> Result<u32, Error> {
@@ -312,6 +320,57 @@ fn panics() {
     })
     .unwrap_err();
     assert!(matches!(&error.fault, ScheduleFault::Check(why) if why.contains("left: 1")), "{error}");
+}
+
+/// A plan that panics once, in the midst of a range, loses nothing; one that goes on to panic is an error in words.
+#[test]
+fn workers_that_panic() {
+    let plans = AtomicUsize::new(0);
+    let made = |panics: bool, plan: &mut Plan<'_, Result<u64, Error>>| {
+        assert!(!panics, "no plan today");
+        lost_update(plan, false);
+    };
+    let wanted = explore(1..FOUND, |plan| made(false, plan)).unwrap_err();
+    // The first two are for the run by which schedules are drawn, so this is one of a worker.
+    let once = explore_on(3, 1..FOUND, |plan| made(plans.fetch_add(1, Ordering::SeqCst) == 2, plan)).unwrap_err();
+    assert_eq!(once, wanted);
+    assert!(plans.load(Ordering::SeqCst) > 3);
+    plans.store(0, Ordering::SeqCst);
+    let seen = explore_on(2, 1..50, |plan: &mut Plan<'_, ()>| {
+        assert!(![9, 30].contains(&plans.fetch_add(1, Ordering::SeqCst)), "no plan today");
+        plan.thread("a", |tree| tree.mkdir("/a").unwrap()).check(|_, _| ());
+    });
+    assert_eq!(seen.map(|seen| (seen.runs, seen.outcomes, seen.last_new)), Ok((49, 1, 1)));
+    // While a schedule is cut down, a panic of the plan costs a trial, and the run that failed is not lost.
+    plans.store(0, Ordering::SeqCst);
+    let found = explore_on(1, 1..FOUND, |plan: &mut Plan<'_, ()>| {
+        assert!(plans.fetch_add(1, Ordering::SeqCst) < 3, "no plan today");
+        plan.thread("a", |tree| tree.mkdir("/a").unwrap()).check(|_, _| false);
+    });
+    assert_eq!(found.unwrap_err().fault.to_string(), "the check says no");
+    plans.store(0, Ordering::SeqCst);
+    let never = explore_on(1, 1..9, |plan: &mut Plan<'_, ()>| {
+        assert!(plans.fetch_add(1, Ordering::SeqCst) < 4, "no plan today");
+        plan.thread("a", |tree| tree.mkdir("/a").unwrap()).check(|_, _| ());
+    });
+    let words = never.unwrap_err().fault.to_string();
+    let begin = "a worker panicked 3 times in the runs of the seeds 3 to 4: no plan today (";
+    assert!(words.starts_with(begin) && words.contains("tests/explore.rs:"), "{words}");
+}
+
+/// More workers than seeds, and as many as there are cores.
+#[test]
+fn workers_of_few_seeds() {
+    let plan = |plan: &mut Plan<'_, ()>| {
+        plan.thread("a", |tree| tree.mkdir("/a").unwrap()).check(|_, _| ());
+    };
+    for workers in [0, 1, 9] {
+        let seen = explore_on(workers, 5..7, plan).unwrap();
+        assert_eq!((seen.runs, seen.outcomes, seen.last_new), (2, 1, 5));
+    }
+    assert_eq!(explore_on(2, 7..7, plan).unwrap_err().to_string(), "there are no seeds to draw from\n");
+    let none = explore_on(2, 1..9, |_: &mut Plan<'_, ()>| ()).unwrap_err();
+    assert_eq!(none.to_string(), "the plan has no threads\n");
 }
 
 /// A lock that is let go where its value is dropped, as by a panic too.
