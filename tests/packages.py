@@ -171,6 +171,12 @@ class OfTheArchive(Installed):
             with self.subTest(str(page)):
                 self.same(page, (self.prefix / "share" / "atomfs" / page.name).read_text(), (ROOT / page).read_text())
         self.same("include/atomfs.h", (self.prefix / "include" / "atomfs.h").read_text(), HEADER)
+        pages = self.prefix / "share" / "atomfs" / "rust" / "src" / "run.html"
+        self.same(
+            "the page that plays a run, which the packages share",
+            (pages.is_symlink(), pages.read_text()),
+            (False, (BINDINGS / "python" / "src" / "atomfs" / "run.html").read_text()),
+        )
         if has_markdown():
             first = self.prefix / "share" / "doc" / "atomfs" / "index.html"
             self.same("the pages for a browser", first.is_file(), True)
@@ -478,9 +484,11 @@ class ForPython(Installed):
 
 class ForRust(Installed):
     def test_crate(self):
-        """The crate of the archive finds the library beside it; its tests and the examples of its pages pass."""
+        """The crate of the archive finds the library beside it; its tests and the examples of its pages pass. With the package for Python beside it they
+        compare their pages."""
         wanted("cargo", "cc")
         crate = self.prefix / "share" / "atomfs" / "rust"
+        shutil.copytree(BINDINGS / "python" / "src", crate.with_name("python") / "src")
         told = self.ends(["cargo", "test", "--offline", "--quiet"], crate, CARGO_TARGET_DIR=str(self.folder / "target"))
         passed = [
             int(count) for count in re.findall(r"^test result: ok\. (\d+) passed; 0 failed; 0 ignored", told, re.M)

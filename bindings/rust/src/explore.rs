@@ -13,6 +13,7 @@ use crate::bar::Bar;
 use crate::baton::{Baton, Event, Stopped, ThreadTree};
 use crate::draws::Chooser;
 use crate::limits::Limits;
+use crate::page::page;
 use crate::texts::{self, Schedule};
 use crate::tree::Tree;
 use crate::NODE_LIMIT;
@@ -260,6 +261,12 @@ impl ScheduleError {
     /// A picture of the run, as an SVG file.
     pub fn picture(&self) -> Result<String, crate::Error> {
         texts::draw(&self.journal, Schedule::Given, None)
+    }
+
+    /// A page that plays the run event by event in a browser, as [`page`](crate::page()) makes it: of the script, and
+    /// where there is none, of the journal.
+    pub fn page(&self) -> Result<String, crate::Error> {
+        page(self.script.as_ref().unwrap_or(&self.journal), Schedule::Given)
     }
 }
 

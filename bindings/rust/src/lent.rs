@@ -91,6 +91,11 @@ impl<'t> Lent<'t> {
         self.tree().journal()
     }
 
+    /// As [`Tree::page`].
+    pub fn page(&mut self) -> Result<String, Error> {
+        self.tree().page()
+    }
+
     /// As [`Tree::check`].
     pub fn check(&mut self) -> Result<String, Error> {
         self.tree().check()

@@ -24,7 +24,7 @@
 //! fails. [`explore_on`] does so on several cores.
 //!
 //! [`check`], [`run`], [`trace`], [`draw`], [`schedule`], [`seeds`], [`linearize`] and [`explain`] are what the program
-//! `atomfs` does with texts.
+//! `atomfs` does with texts. [`page()`] makes a file that plays a run in a browser.
 //!
 //! Errors of calls are those of the operating system:
 //!
@@ -56,6 +56,7 @@ mod lent;
 mod limits;
 mod linearize;
 mod methods;
+mod page;
 mod path;
 mod session;
 mod shared;
@@ -73,6 +74,7 @@ pub use file::{File, OpenOptions};
 pub use lent::Lent;
 pub use limits::{Journal, Limits};
 pub use linearize::{front, linearize, Linearized};
+pub use page::page;
 pub use path::AsPath;
 pub use session::Session;
 pub use shared::SharedTree;

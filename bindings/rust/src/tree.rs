@@ -9,8 +9,9 @@ use crate::call::{Call, Did, Kind, Reply, Seat, Stat};
 use crate::error::{Error, ErrorKind};
 use crate::ffi::{self, Handle, OnPath, OnPaths, RawStat, OK, TOO_SMALL, UNTOLD, WAITS};
 use crate::limits::{Journal, Limits, KEEP_ALL};
+use crate::page::page;
 use crate::path::AsPath;
-use crate::texts::{ascii, ROOM};
+use crate::texts::{ascii, Schedule, ROOM};
 use crate::way::Turns;
 use crate::NODE_LIMIT;
 
@@ -763,6 +764,21 @@ impl Tree {
             self.text(|handle, out, room, count| unsafe { ffi::atomfs_opening(handle, out, room, count) })?;
         journal += &self.entries(0, &mut 0)?;
         Ok(journal)
+    }
+
+    /// A page that plays the calls of the journal event by event in a browser: the text of one HTML file, as
+    /// [`page`](crate::page()) makes it.
+    ///
+    /// ```
+    /// let mut tree = atomfs::Tree::new()?;
+    /// tree.mkdir("/a")?;
+    /// let file = std::env::temp_dir().join("atomfs-calls.html");
+    /// std::fs::write(&file, tree.page()?).unwrap();
+    /// # std::fs::remove_file(&file).unwrap();
+    /// # Ok::<(), atomfs::Error>(())
+    /// ```
+    pub fn page(&mut self) -> Result<String, Error> {
+        page(self.journal()?, Schedule::Given)
     }
 
     /// The verdict on the journal as it stands, without a text: `lawful`, as it always is by the proof, or the first
