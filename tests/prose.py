@@ -19,6 +19,7 @@ MOST = {
 # This page shows the forms that it warns of.
 CONTRIBUTING = ROOT / "CONTRIBUTING.md"
 IN_WORDS = [page for page in PAGES if page != CONTRIBUTING]
+CRATE = ROOT / "bindings" / "rust" / "src"
 INDEX, GLOSSARY = DOCS / "README.md", DOCS / "GLOSSARY.md"
 # Pages that are read in one sitting have at most so many words, without blocks. A reference has what it needs.
 MOST_OF_A_PAGE = 1_200
@@ -40,6 +41,12 @@ def paragraphs(text):
         else:
             lines.append(line)
     return [" ".join(part.split()) for part in "\n".join(lines).split("\n\n") if part.strip()]
+
+
+def doc_lines(path):
+    """The doc comments of a source in Rust as one text, without the blocks of code in them."""
+    lines = (re.match(r"\s*//[/!] ?(.*)", line) for line in path.read_text().splitlines())
+    return re.sub(r"^```.*?^```$", "", "\n".join(line[1] if line else "" for line in lines), flags=re.M | re.S)
 
 
 def sentences(text):
@@ -71,10 +78,20 @@ class Rules(Case):
             found = [place for page in IN_WORDS for place in self.places(form, page)]
             self.same(f"`{form}`, at most {most} times", found if len(found) > most else [], [])
 
+    def test_doc_lines(self):
+        """The doc lines of the crate for Rust keep to the same rules, and have none of the words."""
+        self.each(((path.name, path) for path in sorted(CRATE.glob("*.rs"))), self.look_at_doc_lines)
+
+    def look_at_doc_lines(self, path):
+        text = doc_lines(path)
+        long = [one for one in sentences(text) if len(one.split()) > MOST_OF_A_SENTENCE]
+        self.same(f"{path.name}: sentences above {MOST_OF_A_SENTENCE} words", long, [])
+        self.same(f"{path.name}: words", [place for form in MOST for place in self.places(form, path, text)], [])
+
     @staticmethod
-    def places(form, page):
+    def places(form, page, text=None):
         """Where a page has a form, with some words around it."""
-        text = re.sub(r"`[^`\n]*`", "CODE", prose(page))
+        text = re.sub(r"`[^`\n]*`", "CODE", prose(page) if text is None else text)
         for found in re.finditer(form, text, re.M | re.I):
             around = text[max(0, found.start() - 40) : found.end() + 40]
             yield f"{page.relative_to(ROOT)}: {' '.join(around.split())}"

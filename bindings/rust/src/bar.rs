@@ -52,7 +52,7 @@ fn write(words: impl fmt::Display) {
 struct Line {
     total: u64,
     done: u64,
-    /// How many columns it has; 0 where nothing is shown.
+    /// How many columns it has; 0 if nothing is shown.
     length: usize,
     next: Instant,
 }

@@ -70,8 +70,8 @@ struct State {
 }
 
 impl State {
-    /// Draws whose turn it is next, once each thread has come to its first event. A thread that waits for a node can go
-    /// where no other can: then it is told again that it waits.
+    /// Draws whose turn it is next, once each thread has come to its first event. A thread that waits for a node has a
+    /// turn only if no other one can go on. Then its step says again that it waits.
     fn draw(&mut self, yielding: Option<usize>) {
         let live: Vec<usize> = (0..self.has_come.len()).filter(|at| !self.has_ended[*at]).collect();
         if live.is_empty() || !live.iter().all(|at| self.has_come[*at]) {
@@ -95,8 +95,7 @@ pub(crate) struct Baton {
 type Held<'b> = MutexGuard<'b, State>;
 
 impl Baton {
-    /// With a tree for so many threads, a seat for each, and behind these that of the tree's own calls, which is the
-    /// first.
+    /// With a tree for so many threads, a seat for each, and last that of the tree's own calls, which is its first.
     pub(crate) fn new(
         mut tree: Tree,
         threads: usize,
@@ -133,8 +132,8 @@ impl Baton {
         }
     }
 
-    /// Waits for the turn of a thread, which it hands on if it has it: to another one, where it yields and one can go.
-    /// Where the run is over the function ends here.
+    /// Waits for the turn of a thread. If the thread has the turn it hands it on, to another one if it yields and one
+    /// can go on. If the run is over the function ends here.
     fn turn(&self, me: usize, yields: bool) -> Result<Held<'_>, Error> {
         let mut state = self.held();
         state.has_come[me] = true;
@@ -204,11 +203,11 @@ impl Baton {
     }
 }
 
-/// A thread's way into the tree of a run, by which [`explore`](crate::explore()) hands turns on: before each begin and
-/// each step of a call.
+/// A thread's way into the tree of a run. [`explore`](crate::explore()) decides before each begin and each step of a
+/// call which thread is next.
 ///
-/// When another thread fails the run is over, and this one ends by a panic at its next call. What its values call while
-/// they are dropped is refused with `ErrorKind::NoSeat`.
+/// When another thread fails, the run is over, and this thread ends by a panic at its next call. Calls that its values
+/// make while they are dropped are refused with `ErrorKind::NoSeat`.
 pub struct ThreadTree {
     baton: Arc<Baton>,
     /// None of what is done before.
@@ -241,21 +240,21 @@ impl ThreadTree {
         }
     }
 
-    /// Hands the turn on to another thread. A loop that waits for what another does, calls it.
+    /// Lets another thread go on. Call it in a loop that waits for what another thread does.
     pub fn turn(&mut self) {
         if let Some(me) = self.me {
             drop(self.baton.turn(me, true));
         }
     }
 
-    /// Opens a file to read it from its begin on. [`OpenOptions`] open it for more.
+    /// Opens a file to read it from its start. [`OpenOptions`] open it for more.
     #[track_caller]
     pub fn open(&mut self, path: impl AsPath) -> Result<File<&mut ThreadTree>, Error> {
         self.at = Location::caller();
         OpenOptions::new().read(true).open(self, path)
     }
 
-    /// Opens a file to write it from its begin on: it is made where there is none, and emptied else.
+    /// Opens a file to write it from its start. A new file is made, and one that exists is emptied.
     #[track_caller]
     pub fn create(&mut self, path: impl AsPath) -> Result<File<&mut ThreadTree>, Error> {
         self.at = Location::caller();
@@ -265,7 +264,7 @@ impl ThreadTree {
 
 methods!(ThreadTree, ": calls of other threads can come between its calls.");
 
-/// The place of what was done before the threads, behind those of the threads.
+/// The place of a thread in the events; what was done before the threads has the place after theirs.
 fn place(me: Option<usize>, state: &State) -> usize {
     me.unwrap_or(state.has_come.len())
 }
@@ -328,7 +327,7 @@ thread_local! {
     static PLACE: RefCell<Option<String>> = const { RefCell::new(None) };
 }
 
-/// Does something without the words of a panic on standard error, which the error of the run tells.
+/// Does something without the words of a panic on standard error, since the error of the run has them.
 pub(crate) fn quietly<T>(function: impl FnOnce() -> T) -> T {
     static HOOK: Once = Once::new();
     HOOK.call_once(|| {
@@ -347,7 +346,7 @@ pub(crate) fn quietly<T>(function: impl FnOnce() -> T) -> T {
     came
 }
 
-/// Where the last panic of this thread was that was not shown.
+/// The line of the last panic of this thread that was not shown.
 pub(crate) fn place_of_panic() -> Option<String> {
     PLACE.with(|place| place.borrow_mut().take())
 }

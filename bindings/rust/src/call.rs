@@ -3,7 +3,7 @@
 use crate::ffi::Request;
 use crate::path::AsPath;
 
-/// What stands at a path: a directory and how many entries it has, or a file and how many bytes.
+/// What is at a path: a directory and how many entries it has, or a file and how many bytes.
 #[derive(Clone, Copy, Debug, PartialEq, Eq)]
 pub struct Stat {
     /// Whether it is a directory.
@@ -12,8 +12,8 @@ pub struct Stat {
     pub size: u64,
 }
 
-/// A place for one call under way, of the tree that made it: another tree refuses it. When a session has ended,
-/// `ErrorKind::NoSeat` refuses its seat, though another session may have the number by then.
+/// A slot for one pending call. Only the tree that made it takes it. When a session has ended, `ErrorKind::NoSeat`
+/// refuses its seat, though another session may have the number by then.
 #[derive(Clone, Copy, Debug, PartialEq, Eq, Hash)]
 pub struct Seat {
     /// The number of its tree, which no other tree of the process has.
@@ -24,32 +24,32 @@ pub struct Seat {
 }
 
 impl Seat {
-    /// Its number in the journal: 0, 1, 2 and so on. The tree's own calls have a seat too, the first.
+    /// Its number in the journal: 0, 1, 2 and so on. The tree's own calls have a seat too, which is the first.
     pub fn number(self) -> u64 {
         self.number
     }
 }
 
-/// What a step did. A node or a call is told by its number.
+/// What a step did. Nodes and calls are named by their numbers.
 #[derive(Clone, Copy, Debug, PartialEq, Eq)]
 pub enum Did {
-    /// No call is under way on the seat.
+    /// Nothing: the seat has no pending call.
     Idle,
-    /// It took a node.
+    /// The call locked this node.
     Took(u64),
-    /// It would take a node that this call holds.
+    /// It would lock a node that this call holds.
     WaitsFor(u64),
-    /// It let a node go.
+    /// It unlocked this node.
     LetGo(u64),
-    /// It gave this call its place in the journal.
+    /// It helped this call, which has committed now.
     Helped(u64),
-    /// It took its place in the journal, and made its change.
+    /// It committed: it has its place in the order, and made its change.
     Committed,
-    /// It had its place already, and made its change.
+    /// It had been helped before, and now made its change.
     CarriedOut,
     /// It returned.
     Returned,
-    /// It began: this is its number. No step does so; a gate hears of it.
+    /// It began: this is its number. No step does so, but a gate is called with it.
     Began(u64),
 }
 
@@ -80,17 +80,17 @@ pub enum Call<'a> {
     Unlink(&'a [u8]),
     /// Removes the entry of an empty directory.
     Rmdir(&'a [u8]),
-    /// Moves what stands at the first path to the second.
+    /// Moves what is at the first path to the second.
     Rename(&'a [u8], &'a [u8]),
-    /// Lets what stands at two paths change places.
+    /// Exchanges what is at two paths.
     Exchange(&'a [u8], &'a [u8]),
-    /// Tells what stands at a path.
+    /// Returns what is at a path.
     Stat(&'a [u8]),
-    /// Tells the names of a directory.
+    /// Returns the names of a directory.
     Readdir(&'a [u8]),
-    /// Tells the names of a directory above the last name of the second path, at most so many.
+    /// Returns the names of a directory after the last name of the second path, at most so many.
     List(&'a [u8], &'a [u8], u32),
-    /// Reads from an offset on at most so many bytes.
+    /// Reads at most so many bytes from an offset on.
     Read(&'a [u8], u64, u64),
     /// Writes bytes into a file at an offset.
     Write(&'a [u8], u64, &'a [u8]),
@@ -119,33 +119,33 @@ impl<'a> Call<'a> {
         Call::Rmdir(path.path_bytes())
     }
 
-    /// Moves what stands at the first path to the second.
+    /// Moves what is at the first path to the second.
     pub fn rename(path: &'a (impl AsPath + ?Sized), other: &'a (impl AsPath + ?Sized)) -> Self {
         Call::Rename(path.path_bytes(), other.path_bytes())
     }
 
-    /// Lets what stands at two paths change places.
+    /// Exchanges what is at two paths.
     pub fn exchange(path: &'a (impl AsPath + ?Sized), other: &'a (impl AsPath + ?Sized)) -> Self {
         Call::Exchange(path.path_bytes(), other.path_bytes())
     }
 
-    /// Tells what stands at a path.
+    /// Returns what is at a path.
     pub fn stat(path: &'a (impl AsPath + ?Sized)) -> Self {
         Call::Stat(path.path_bytes())
     }
 
-    /// Tells the names of a directory.
+    /// Returns the names of a directory.
     pub fn readdir(path: &'a (impl AsPath + ?Sized)) -> Self {
         Call::Readdir(path.path_bytes())
     }
 
-    /// Tells the names of a directory above the last name of `after`, or from the first on where that is the root: at
-    /// most `count`, and at most 256. Trees by [`Limits::V3`](crate::Limits::V3) alone have it.
+    /// Returns the names of a directory after the last name of `after`, or from the first on if that is the root: at
+    /// most `count`, and at most 256. Only a tree with [`Limits::V3`](crate::Limits::V3) has it.
     pub fn list(path: &'a (impl AsPath + ?Sized), after: &'a (impl AsPath + ?Sized), count: u32) -> Self {
         Call::List(path.path_bytes(), after.path_bytes(), count)
     }
 
-    /// Reads from an offset on at most so many bytes.
+    /// Reads at most so many bytes from an offset on.
     pub fn read(path: &'a (impl AsPath + ?Sized), offset: u64, count: u64) -> Self {
         Call::Read(path.path_bytes(), offset, count)
     }
@@ -190,7 +190,7 @@ impl<'a> Call<'a> {
         }
     }
 
-    /// The path behind whose last name it lists, where it does.
+    /// The path after whose last name a list begins; none of another call.
     pub(crate) fn after(&self) -> Option<&'a [u8]> {
         match *self {
             Call::List(_, after, _) => Some(after),
@@ -198,7 +198,7 @@ impl<'a> Call<'a> {
         }
     }
 
-    /// Its path, and its second one where it looks at two.
+    /// Its path, and the second one of a rename or an exchange.
     pub(crate) fn paths(&self) -> (&'a [u8], Option<&'a [u8]>) {
         match *self {
             Call::Rename(path, other) | Call::Exchange(path, other) => (path, Some(other)),
@@ -238,12 +238,12 @@ pub(crate) enum Kind {
     Wrote,
 }
 
-/// What a call that did not fail returned.
+/// The reply of a call that did not fail.
 #[derive(Clone, Debug, PartialEq, Eq)]
 pub enum Reply {
     /// It is done.
     Done,
-    /// What stands at the path.
+    /// What is at the path.
     Stat(Stat),
     /// The names, in byte order.
     Names(Vec<Vec<u8>>),

@@ -65,14 +65,15 @@ impl Chooser {
         Chooser::ByPriorities(Priorities { of, changes, event: 0, yields: 0 })
     }
 
-    /// The one that goes by an order. Threads that cannot go are passed over; behind the order each goes on to its end,
+    /// The one that goes by an order. Threads that cannot go on are skipped. After the order each goes on to its end,
     /// the last first.
     pub(crate) fn given(order: Vec<usize>) -> Chooser {
         Chooser::Given(Given { order, next: 0, last: None })
     }
 
-    /// One of the threads that can go, which are some, in order. The one that hands the turn on goes only where no
-    /// other can, and by priorities it becomes the lowest, so that one that waits for others in a loop lets them go.
+    /// One of the threads that can go on, which are one or more, in order. The one that hands the turn on goes only if
+    /// no other can. By priorities it becomes the lowest, so that a thread that waits for others in a loop lets them go
+    /// on.
     pub(crate) fn choose(&mut self, able: &[usize], yielding: Option<usize>) -> usize {
         let others: Vec<usize> = able.iter().copied().filter(|thread| Some(*thread) != yielding).collect();
         let able = if others.is_empty() { able } else { &others };

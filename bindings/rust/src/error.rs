@@ -33,7 +33,7 @@ pub enum Errno {
     ENOSPC = 28,
     /// A directory that is not empty.
     ENOTEMPTY = 39,
-    /// A directory has more names than a call tells.
+    /// A directory has more names than one call returns.
     EOVERFLOW = 75,
 }
 
@@ -58,10 +58,10 @@ impl Errno {
     }
 }
 
-/// Why bytes are no path: the first check that they fail.
+/// Why bytes are not a path: the first check that they fail.
 #[derive(Clone, Copy, Debug, PartialEq, Eq, Hash)]
 pub enum PathFault {
-    /// It is empty, or its first byte is no slash.
+    /// It is empty, or its first byte is not a slash.
     NotAbsolute,
     /// It has a byte 0.
     Nul,
@@ -91,8 +91,9 @@ impl PathFault {
     }
 }
 
-/// Why there is no answer: its kind, and the path that it is about. After the kinds `Waits`, `TimedOut` and `Untold`
-/// the call has begun; after every other one nothing has changed, but that a call that failed is in the journal.
+/// Why a call or a question failed: its kind, and the path that it is about. After the kinds `Waits`, `TimedOut` and
+/// `Untold` the call has begun. After every other kind nothing has changed, except that a failed call is in the
+/// journal.
 ///
 /// ```
 /// use atomfs::{Errno, ErrorKind, PathFault, Tree};
@@ -117,7 +118,7 @@ impl Error {
         self.kind
     }
 
-    /// The error of the call, where one has failed.
+    /// The error of the call, if a call failed.
     pub fn errno(&self) -> Option<Errno> {
         match self.kind {
             ErrorKind::Failed(errno) => Some(errno),
@@ -125,7 +126,7 @@ impl Error {
         }
     }
 
-    /// The path of the call; of two the first, but where the second one is no path that one.
+    /// The path of the call. Of two paths it is the first, unless the second one is not a path.
     pub fn path(&self) -> Option<&Path> {
         self.paths.as_deref().map(|paths| paths.0.as_path())
     }
@@ -135,7 +136,7 @@ impl Error {
         self.paths.as_deref()?.1.as_deref()
     }
 
-    /// Who held what when a wait of a shared tree was given up: a line for each call that was under way.
+    /// Who held what when a wait on a shared tree was given up: a line for each call that was pending.
     pub fn holders(&self) -> Option<&str> {
         self.holders.as_deref()
     }
@@ -144,7 +145,7 @@ impl Error {
         Error { holders: Some(holders.into()), ..self }
     }
 
-    /// The error of a call with its paths. For want of memory it takes none.
+    /// The error of a call with its paths. If memory ran out it takes none.
     pub(crate) fn of_call(kind: ErrorKind, (path, other): (&[u8], Option<&[u8]>)) -> Error {
         let paths = match kind {
             ErrorKind::OutOfMemory | ErrorKind::Untold(_) => None,
@@ -232,16 +233,16 @@ impl std::error::Error for Error {}
 pub enum ErrorKind {
     /// The call returned with an error.
     Failed(Errno),
-    /// The call is under way on this seat, and a call of another seat holds the node that it wants next: `Tree::step`
+    /// The call is pending on this seat, since a call of another seat holds the node that it wants next. `Tree::step`
     /// or `Tree::finish` goes on with it.
     Waits(Seat),
-    /// On a shared tree: the call of this number waited as long as it may, and is under way. Where it is 0, none began.
+    /// On a shared tree: the call of this number waited as long as it may, and is pending. With 0, no call began.
     TimedOut(u64),
-    /// The call of this number returned, and there was no memory for its reply.
+    /// The call of this number returned, but memory for its reply ran out.
     Untold(u64),
-    /// The call of this number is under way, where none may be.
+    /// The call of this number is pending, and none may be.
     UnderWay(u64),
-    /// The path is none.
+    /// The bytes are not a path.
     BadPath(PathFault),
     /// The call needs a node, and all are in use; or a tree has more nodes than it may have.
     Full,
@@ -249,20 +250,20 @@ pub enum ErrorKind {
     OutOfMemory,
     /// The limit is 0, or above `Limits::nodes`.
     BadLimit,
-    /// There is no such seat.
+    /// There is no such seat, or its session has ended.
     NoSeat,
     /// The seat is of another tree.
     ForeignSeat,
-    /// The seat has a call under way.
+    /// The seat has a pending call.
     SeatBusy,
     /// The last call of the seat has not returned, or none was begun since the last checkpoint.
     NoReply,
-    /// A script, a journal or the text of a tree is none: the status and the line. With the line 0 what would come of
-    /// it is too large.
+    /// The text is not a script, a journal or a tree: the status and the line. With line 0 the output would be too
+    /// large.
     BadText(u8, usize),
-    /// No call has the number around which is to be drawn.
+    /// No call has the number that is to be drawn.
     NoCall,
-    /// The number of runs, their seed, the limit of a search or the word of a fault is none.
+    /// The number of runs, their seed, the limit of a search or the word of a fault is not a valid one.
     BadChoice,
     /// The options to open a file by contradict each other, or ask for no access.
     BadOptions,
@@ -336,7 +337,7 @@ impl fmt::Display for ErrorKind {
             }
             ErrorKind::ForeignSeat => f.write_str("the seat is of another tree"),
             ErrorKind::TimedOut(0) => f.write_str("no call began, since the wait took too long"),
-            ErrorKind::TimedOut(number) => write!(f, "call {number} waited for too long, and is under way"),
+            ErrorKind::TimedOut(number) => write!(f, "call {number} waited for too long, and is pending"),
             ErrorKind::Untold(number) | ErrorKind::UnderWay(number) => {
                 write!(f, "call {number}: {words}")
             }

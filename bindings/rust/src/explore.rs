@@ -18,9 +18,9 @@ use crate::texts::{self, Schedule};
 use crate::tree::Tree;
 use crate::NODE_LIMIT;
 
-/// How many events a run has at most, where none is told.
+/// How many events a run has at most, unless the plan says so.
 const EVENTS: u64 = 100_000;
-/// How long a function may go round the tree, where no other time is told.
+/// How long a function may make no call, unless the plan says so.
 const PATIENCE: Duration = Duration::from_secs(10);
 /// How many runs are made at most to cut a schedule down.
 const TRIALS: u64 = 1_000;
@@ -28,24 +28,24 @@ const TRIALS: u64 = 1_000;
 /// How schedules are drawn.
 #[derive(Clone, Copy, Debug, Default, PartialEq, Eq)]
 pub enum Draws {
-    /// The two others by turns: even seeds draw by the first, odd ones by the second, of depth 3.
+    /// Both others in turn: `Uniform` for even seeds, and `Pct` of depth 3 for odd ones.
     #[default]
     Both,
-    /// Before each event a thread, each as likely as another.
+    /// Before each event every thread that can go on has the same chance.
     Uniform,
-    /// By priorities with few changes: of threads with drawn priorities the highest goes, and at `depth - 1` drawn
-    /// events the one that goes becomes the lowest. It finds a bug that takes `depth` orders of events, in a run of `k`
-    /// events of `n` threads, with a probability of at least 1 in `n k^(depth - 1)` (Burckhardt, Kothari, Musuvathi and
-    /// Nagarakatte, ASPLOS 2010).
+    /// Each thread gets a random priority, and the highest goes. At `depth - 1` random events the thread that goes
+    /// becomes the lowest. If a bug needs `depth` events in a certain order, a run of `n` threads and `k` events finds
+    /// it with a probability of at least 1 in `n k^(depth - 1)`. This is the scheduler of Burckhardt, Kothari,
+    /// Musuvathi and Nagarakatte (ASPLOS 2010).
     Pct {
-        /// How many orders of events the bug takes: 1 or more.
+        /// How many events have to come in a certain order: 1 or more.
         depth: u32,
     },
 }
 
-/// What a check says of a run: nothing by `()` and `true`; `false` and an `Err` are a fault, as a panic is.
+/// What a check says about a run. `()` and `true` say that it is well. `false`, an `Err` and a panic are faults.
 pub trait Verdict {
-    /// What is wrong, if something is.
+    /// What is wrong; `None` if nothing is.
     fn fault(self) -> Option<String>;
 }
 
@@ -94,7 +94,7 @@ impl<R> Index<&str> for Replies<R> {
 type Function<R> = Box<dyn FnOnce(&mut ThreadTree) -> R + Send>;
 type Check<'p, R> = Box<dyn FnOnce(&mut Tree, &Replies<R>) -> Option<String> + 'p>;
 
-/// What is to be run: it is made anew for each run, so that each begins with the same.
+/// What is to be run. It is made anew for each run, so that every run begins with the same.
 pub struct Plan<'p, R> {
     limit: usize,
     limits: Limits,
@@ -122,7 +122,7 @@ impl<R> Plan<'_, R> {
 }
 
 impl<'p, R> Plan<'p, R> {
-    /// The tree is for so many nodes, by these limits.
+    /// The tree may have so many nodes, and has these limits.
     pub fn limits(&mut self, limit: usize, limits: Limits) -> &mut Self {
         (self.limit, self.limits) = (limit, limits);
         self
@@ -134,25 +134,25 @@ impl<'p, R> Plan<'p, R> {
         self
     }
 
-    /// A run has at most so many events, or else its functions count as some that never end.
+    /// A run may have so many events. If it has more, the fault is that its functions never end.
     pub fn events(&mut self, most: u64) -> &mut Self {
         self.events = most;
         self
     }
 
-    /// A function goes round the tree for so long at most, or else it counts as stuck.
+    /// How long a function may go on without a call. After that the fault is that it is stuck.
     pub fn patience(&mut self, patience: Duration) -> &mut Self {
         self.patience = patience;
         self
     }
 
-    /// What is done with the empty tree before the threads start.
+    /// Prepares the empty tree before the threads start.
     pub fn before(&mut self, function: impl FnOnce(&mut ThreadTree) + Send + 'static) -> &mut Self {
         self.before = Some(Box::new(function));
         self
     }
 
-    /// A thread with its function. What the function returns is a reply for the check; a panic is a fault.
+    /// Adds a thread with its function. The check sees what the function returns. A panic is a fault.
     pub fn thread(
         &mut self,
         name: impl Into<String>,
@@ -162,8 +162,8 @@ impl<'p, R> Plan<'p, R> {
         self
     }
 
-    /// What is to be so behind each run: of the tree, in which no call is under way, and of what the functions
-    /// returned. It may read the tree, and is not to change it.
+    /// The check, which is made after each run. It sees the tree, in which no call is pending, and what the functions
+    /// returned. It may read the tree, but not change it.
     pub fn check<V: Verdict>(&mut self, check: impl FnOnce(&mut Tree, &Replies<R>) -> V + 'p) -> &mut Self {
         self.check = Some(Box::new(move |tree, replies| check(tree, replies).fault()));
         self
@@ -192,21 +192,21 @@ impl<'p, R> Plan<'p, R> {
 /// The name that what is done before the threads start has in scripts.
 const BEFORE: &str = "before";
 
-/// Why a run is no good.
+/// What is wrong with a run.
 #[derive(Clone, Debug, PartialEq, Eq)]
 #[non_exhaustive]
 pub enum ScheduleFault {
-    /// The check said so, or it panicked.
+    /// The check failed or panicked: its words.
     Check(String),
-    /// The function of a thread panicked.
+    /// The function of this thread panicked: its words, and its line.
     Panicked(String, String),
-    /// The run has as many events as it may have, and has not ended.
+    /// The run had as many events as it may have, this many, and has not ended.
     NeverEnds(u64),
-    /// The function of a thread goes round the tree, and makes no call.
+    /// The function of this thread makes no call and does not end.
     Stuck(String),
     /// The check changed the tree.
     ChangedByCheck,
-    /// There is no run: the plan or the seeds are none.
+    /// There was no run: why the plan, the seeds or the schedule are not valid, or a worker gave up.
     NoPlan(String),
 }
 
@@ -223,7 +223,7 @@ impl fmt::Display for ScheduleFault {
     }
 }
 
-/// A schedule under which a plan fails: the first that was drawn, cut down. It has the fields of a [`FailedRun`].
+/// A schedule under which a plan fails: the first that was drawn, cut down. It has the fields of [`FailedRun`].
 #[derive(Clone, PartialEq, Eq)]
 pub struct ScheduleError(Box<FailedRun>);
 
@@ -231,11 +231,11 @@ pub struct ScheduleError(Box<FailedRun>);
 #[derive(Clone, Debug, PartialEq, Eq)]
 #[non_exhaustive]
 pub struct FailedRun {
-    /// Why.
+    /// What is wrong with the run.
     pub fault: ScheduleFault,
-    /// The seed by which it was drawn; none of a schedule that was given.
+    /// The seed from which it was drawn; none if the schedule was given.
     pub seed: Option<u64>,
-    /// The schedule, for [`replay`]: as `a*7 b*9 a`, each word a thread and how many events of it.
+    /// The schedule, for [`replay`], for example `a*7 b*9 a`. Each word is a thread and how many events of it.
     pub schedule: String,
     /// How many runs it took to cut it down.
     pub trials: u64,
@@ -243,7 +243,7 @@ pub struct FailedRun {
     pub trace: Vec<String>,
     /// The journal of the run, for [`check`](crate::check) and [`draw`](crate::draw).
     pub journal: String,
-    /// A script that `atomfs run` plays, with the same journal, where there is one.
+    /// A script that `atomfs run` plays with the same journal. Some runs have none.
     pub script: Option<String>,
 }
 
@@ -263,8 +263,8 @@ impl ScheduleError {
         texts::draw(&self.journal, Schedule::Given, None)
     }
 
-    /// A page that plays the run event by event in a browser, as [`page`](crate::page()) makes it: of the script, and
-    /// where there is none, of the journal.
+    /// A page that plays the run event by event in a browser, as [`page`](crate::page()) makes it. It plays the script,
+    /// or the journal if there is no script.
     pub fn page(&self) -> Result<String, crate::Error> {
         page(self.script.as_ref().unwrap_or(&self.journal), Schedule::Given)
     }
@@ -308,12 +308,12 @@ impl fmt::Debug for ScheduleError {
 
 impl std::error::Error for ScheduleError {}
 
-/// What was seen where no run failed.
+/// What was seen, if no run failed.
 #[derive(Clone, Copy, Debug, PartialEq, Eq)]
 pub struct Explored {
     /// How many runs there were.
     pub runs: u64,
-    /// How many outcomes came: different replies of calls, or different trees.
+    /// How many different outcomes there were, which differ in replies of calls or in the tree.
     pub outcomes: usize,
     /// The last seed that brought a new outcome.
     pub last_new: u64,
@@ -337,13 +337,13 @@ pub(crate) struct Ran {
     tree: String,
 }
 
-/// Runs functions on threads of their own, of which one goes at a time. Before each begin and each step of a call it is
-/// drawn from the seed whose turn it is: so calls meet halfway, and the same seed is the same run. The first seed whose
-/// run fails is an error, with its schedule cut down to the fewest switches between threads that still fails.
+/// Runs functions on threads of their own, of which one runs at a time. Before each begin and each step of a call, the
+/// seed decides whose turn is next. So calls meet half-way, and the same seed gives the same run. The first seed whose
+/// run fails becomes an error. Its schedule is cut down to few switches between threads, and still fails.
 ///
-/// The closure makes the plan of each run. What is in the functions beside calls of their tree is not drawn: what they
-/// draw themselves, clocks, and locks of theirs, for which they must not wait while they are to hand the turn on by
-/// [`ThreadTree::turn`].
+/// The closure makes the plan of each run. A seed determines the calls on the tree, and nothing else in the functions:
+/// not clocks, random numbers or locks. A function that waits for another one, for example at a lock, must call
+/// [`ThreadTree::turn`] meanwhile.
 ///
 /// ```
 /// // Two threads add one to a counter in a file: read, add, write.
@@ -385,8 +385,8 @@ pub fn explore<'p, R: Send + 'static>(
     Ok(Explored { runs, outcomes: outcomes.len(), last_new })
 }
 
-/// Runs a plan by a schedule: as [`ScheduleError`] has it, or any other. Words of threads that have ended are passed
-/// over, and behind the last word each thread goes on to its end, the last one first.
+/// Runs a plan under a schedule, for example that of a [`ScheduleError`]. Words of threads that have ended are skipped.
+/// After the last word each thread goes on to its end, beginning with the thread of that word.
 pub fn replay<'p, R: Send + 'static>(
     schedule: &str,
     mut plan: impl FnMut(&mut Plan<'p, R>),
@@ -498,7 +498,7 @@ impl<'p, R: Send + 'static> Player<'_, 'p, R> {
         self.plan().map_or(Draws::Both, |plan| plan.draws)
     }
 
-    /// One run. Where it is to be checked and its functions returned, the check has its say.
+    /// One run. The check is made if it is asked for and all functions returned.
     fn run(&mut self, chooser: Chooser, checked: bool) -> Result<Ran, ScheduleError> {
         let Plan { limit, limits, events, patience, before, threads, check, .. } = self.plan()?;
         let (names, functions): (Vec<String>, Vec<_>) = threads.into_iter().unzip();
@@ -561,9 +561,9 @@ impl<'p, R: Send + 'static> Player<'_, 'p, R> {
         Ok(Ran { fault, names, order, before: prepared, events, journal, tree: text })
     }
 
-    /// The error of a run that failed, by the fewest switches between threads, and then the fewest events, with which a
-    /// run still fails: of those that let one thread go to its end in the midst of another, and of those that leave out
-    /// or exchange parts of the best.
+    /// The error of a run that failed, cut down to the fewest switches between threads, and then to the fewest events.
+    /// It tries runs that let one thread go to its end in the midst of another, and those that leave out or exchange
+    /// parts of the best.
     pub(crate) fn cut_down(&mut self, ran: Ran, seed: u64) -> ScheduleError {
         let (mut best, mut trials) = (ran, 0);
         // A function that is stuck leaves a thread behind, and takes its time.
@@ -597,7 +597,7 @@ impl<'p, R: Send + 'static> Player<'_, 'p, R> {
     }
 }
 
-/// Orders that let one thread go to its end behind some events of another.
+/// Orders that let one thread go to its end after some events of another.
 fn alone(ran: &Ran) -> Vec<Vec<usize>> {
     let count = |thread: usize| ran.order.iter().filter(|other| **other == thread).count();
     let threads = 0..ran.names.len();

@@ -75,7 +75,7 @@ pub struct Session {
     private: [u8; 0],
 }
 
-/// What is called behind each event.
+/// What is called after each event.
 pub type Gate = extern "C" fn(*mut c_void, u64, u8, u64);
 
 /// By this seed calls do not pause.

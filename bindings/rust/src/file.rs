@@ -20,9 +20,9 @@ const EBADF: i32 = 9;
 /// let mut file = atomfs::OpenOptions::new().read(true).write(true).create(true).open(&mut tree, "/f")?;
 /// writeln!(file, "hello")?;
 /// file.seek(SeekFrom::Start(1))?;
-/// let mut told = String::new();
-/// file.read_to_string(&mut told)?;
-/// assert_eq!(told, "ello\n");
+/// let mut text = String::new();
+/// file.read_to_string(&mut text)?;
+/// assert_eq!(text, "ello\n");
 /// # Ok(())
 /// # }
 /// ```
@@ -37,7 +37,7 @@ pub struct OpenOptions {
 }
 
 impl OpenOptions {
-    /// Options of which none is set.
+    /// Options, none of which is set.
     pub fn new() -> OpenOptions {
         OpenOptions::default()
     }
@@ -66,14 +66,14 @@ impl OpenOptions {
         self
     }
 
-    /// Whether the file is made where there is none.
+    /// Whether the file is made if it does not exist.
     pub fn create(&mut self, create: bool) -> &mut OpenOptions {
         self.create = create;
         self
     }
 
-    /// Whether the file is made, and has to be: what stands there is an error. `create` and `truncate` are not looked
-    /// at then.
+    /// Whether the file is made and must be new: then it is an error if something is there. `create` and `truncate` are
+    /// ignored.
     pub fn create_new(&mut self, create_new: bool) -> &mut OpenOptions {
         self.create_new = create_new;
         self
@@ -81,8 +81,9 @@ impl OpenOptions {
 
     /// Opens a file of a tree.
     ///
-    /// `ErrorKind::BadOptions`, where no access is asked for, or a new or an emptied file without write, or an emptied
-    /// one to append to. `EISDIR` of a directory, and as the calls fail else. By an error the tree is as before.
+    /// `ErrorKind::BadOptions` if the options ask for no access, make or empty a file without write, or empty a file to
+    /// append to it. `EISDIR` if a directory is there. Other errors are those of the calls. After an error the tree is
+    /// as it was.
     pub fn open<C: Calls>(&self, mut calls: C, path: impl AsPath) -> Result<File<C>, Error> {
         let path = path.path_bytes().to_vec();
         let writes = self.write || self.append;
@@ -98,7 +99,7 @@ impl OpenOptions {
         Ok(File { calls, path, place: 0, reads: self.read, writes, appends: self.append })
     }
 
-    /// Sees to it that a file is there, and tells whether it was made.
+    /// Sees to it that a file is there, and returns whether it was made.
     fn make(&self, calls: &mut impl Calls, path: &[u8]) -> Result<bool, Error> {
         if self.create_new {
             return calls.call(&Call::Mknod(path)).map(|_| true);
@@ -119,12 +120,12 @@ impl OpenOptions {
     }
 }
 
-/// A file of a tree, open at a place: it is read and written from there on. [`Tree::open`](crate::Tree::open),
+/// A file of a tree with a position, from which it is read and written. [`Tree::open`](crate::Tree::open),
 /// [`Tree::create`](crate::Tree::create) and [`OpenOptions`] make it.
 ///
-/// It is its path: each read and each write is a call by it. So what stands at the path is what is read and written; if
-/// there is nothing any more, that is the error of the call. A write is made as a whole or not at all, at once. An
-/// append takes two calls, of which the first asks for the end.
+/// It keeps its path, and each read and each write is a call with that path. So it reads and writes whatever is at the
+/// path then. If nothing is there any more, the call fails. A write is made whole or not at all. An append takes two
+/// calls, and the first one asks for the size.
 #[derive(Debug)]
 pub struct File<C> {
     calls: C,
@@ -136,12 +137,12 @@ pub struct File<C> {
 }
 
 impl<C: Calls> File<C> {
-    /// What stands at the path now.
+    /// What is at the path now.
     pub fn stat(&mut self) -> Result<Stat, Error> {
         whole::stat(&mut self.calls, &self.path)
     }
 
-    /// Cuts the file to a size, or adds zeros up to it. The place stays.
+    /// Cuts the file to a size, or adds zeros up to it. The position stays.
     pub fn set_len(&mut self, size: u64) -> io::Result<()> {
         opened(self.writes)?;
         self.calls.call(&Call::Truncate(&self.path, size))?;
@@ -171,7 +172,7 @@ impl<C: Calls> Write for File<C> {
         Ok(bytes.len())
     }
 
-    /// Nothing is kept back.
+    /// Does nothing, since every write is made at once.
     fn flush(&mut self) -> io::Result<()> {
         Ok(())
     }
@@ -186,7 +187,7 @@ impl<C: Calls> Seek for File<C> {
         };
         let place = i128::from(from) + i128::from(by);
         self.place = u64::try_from(place).map_err(|_| {
-            let words = "a place before the first byte, or behind the last number";
+            let words = "a position before the first byte, or after the last number";
             io::Error::new(io::ErrorKind::InvalidInput, words)
         })?;
         Ok(self.place)

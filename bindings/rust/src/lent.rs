@@ -11,9 +11,9 @@ use crate::tree::Tree;
 use crate::way::Shared;
 use crate::whole::Calls;
 
-/// A shared tree of which a thread has the handle: no call of others is under way, and none begins until this is
-/// dropped. Calls that are left half-way then come to their returns: so they do where a panic drops it, or where the
-/// future is dropped that has it.
+/// A shared tree that one thread has for itself. No call of others is pending, and none begins until this value is
+/// dropped. Calls on it that are still pending then come to their returns. So they do if a panic drops it, or if a
+/// future that has it is dropped.
 pub struct Lent<'t> {
     shared: &'t Shared,
 }
@@ -71,7 +71,7 @@ impl<'t> Lent<'t> {
         self.tree().reply(seat)
     }
 
-    /// As [`Tree::calls_before`]. Calls of threads that are just being answered may not be counted yet.
+    /// As [`Tree::calls_before`]. A call whose thread is just getting its reply may not be counted yet.
     pub fn calls_before(&mut self) -> u64 {
         self.tree().calls_before()
     }

@@ -1,6 +1,6 @@
 //! AtomFS: a file tree in memory, in which every call is proved to be atomic.
 //!
-//! A [`Tree`] owns its nodes and the journal of its calls. Its methods run a call from its begin to its return:
+//! A [`Tree`] owns its nodes and the journal of its calls. Its methods make a call from its begin to its return:
 //!
 //! ```
 //! # fn main() -> Result<(), atomfs::Error> {
@@ -17,11 +17,11 @@
 //!
 //! [`Tree::open`], [`Tree::create`] and [`OpenOptions`] give a [`File`] to read, write and seek.
 //!
-//! Threads share a tree as a [`SharedTree`] or by [`Session`]s, whose calls interleave step by step. [`Tree::seat`],
-//! [`Tree::begin`] and [`Tree::step`] play an interleaving of your own.
+//! Threads share a tree as a [`SharedTree`], or with [`Session`]s, and their calls interleave step by step.
+//! [`Tree::seat`], [`Tree::begin`] and [`Tree::step`] play an interleaving of your own.
 //!
-//! [`explore()`] runs functions of yours on threads, under schedules that a number draws, and cuts down the first that
-//! fails. [`explore_on`] does so on several cores.
+//! [`explore()`] runs functions of yours on threads, under schedules from a seed, and cuts down the first that fails.
+//! [`explore_on`] does so on several cores.
 //!
 //! [`check`], [`run`], [`trace`], [`draw`], [`schedule`], [`seeds`], [`linearize`] and [`explain`] are what the program
 //! `atomfs` does with texts. [`page()`] makes a file that plays a run in a browser.
@@ -83,7 +83,7 @@ pub use tree::Tree;
 pub use whole::{Calls, Entry};
 pub use workers::explore_on;
 
-/// The greatest limit of nodes of a tree whose limits are not told; [`Limits::nodes`] has that of each.
+/// The most nodes of a tree with the limits that [`Tree::new`] chooses. [`Limits::nodes`] has this number for each.
 pub const NODE_LIMIT: usize = Limits::V3.nodes();
 
 /// The version of the library.

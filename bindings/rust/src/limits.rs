@@ -1,6 +1,6 @@
 //! The bounds of names, files, directories and texts.
 
-/// The most names that a call tells.
+/// The most names that a call returns.
 pub(crate) const LISTED: usize = 256;
 
 /// The number by which a tree keeps all calls.
@@ -9,10 +9,10 @@ pub(crate) const KEEP_ALL: u32 = u32::MAX;
 /// How many calls a tree keeps in its journal.
 #[derive(Clone, Copy, Debug, Default, PartialEq, Eq, Hash)]
 pub enum Journal {
-    /// All, until a checkpoint: each takes some 500 bytes, and what it wrote or read.
+    /// All, until a checkpoint. Each takes some 500 bytes, and what it wrote or read.
     #[default]
     All,
-    /// Where more than so many stand and none is under way, all are forgotten before the next begins.
+    /// If there are more than so many and none is pending, all are forgotten before the next one begins.
     Last(u32),
 }
 

@@ -5,30 +5,30 @@ use crate::ffi;
 use crate::texts::{ascii, told_in, ROOM};
 use std::fmt;
 
-/// So many configurations are made where no limit is given.
+/// So many configurations are made if no limit is given.
 const CONFIGURATIONS: u64 = 10_000_000;
 
-/// What is found of a history. As text it is the verdict: `lawful`, `none 3 2`, `fault 3 SeatBusy`, `unknown 3`.
+/// The result for a history. As text it is the verdict: `lawful`, `none 3 2`, `fault 3 SeatBusy`, `unknown 3`.
 #[derive(Clone, Debug, PartialEq, Eq)]
 pub enum Linearized {
-    /// There is an order of the calls: the journal is the history with its commits, and [`check`](crate::check) says
-    /// that it is lawful.
+    /// An order of the calls explains the history: a journal, which is the history with its commits.
+    /// [`check`](crate::check) says that it is lawful.
     Lawful(String),
-    /// No order explains the entries up to this place; one explains those before it.
+    /// No order explains the entries up to this place, but one explains those before it.
     NoOrder {
         /// The place of a return, counted from 1.
         place: u64,
         /// The number of the call that returns there.
         call: u64,
-        /// What this entry says, with its line, and which call it is; in a second line what the call could have
-        /// replied; and in a third, if the replies of later lines exclude an earlier entry, that entry.
+        /// What this entry says, with its line, and which call it is. A second line has what the call could have
+        /// replied. If the replies of later lines exclude an earlier entry, a third line has that entry.
         words: String,
     },
     /// The entry at this place is the first that cannot come next.
     NoHistory {
         /// Its place, counted from 1.
         place: u64,
-        /// Why, as `SeatBusy`.
+        /// Why, for example `SeatBusy`.
         kind: String,
         /// What it says, with its line, and which call it is.
         words: String,
@@ -55,9 +55,9 @@ impl fmt::Display for Linearized {
 /// entries.
 ///
 /// A history is a journal without its lines `commit`, in which `return 3 failed ?` fits any error of call 3, and
-/// `return 3 stat dir ?` any number of entries. The search makes at most `limit` configurations, 1 to 1,000,000,000, or
-/// else 10,000,000. `ErrorKind::BadText` tells the line of what is no history, and `ErrorKind::BadChoice` that there is
-/// no such limit.
+/// `return 3 stat dir ?` any number of entries. The search makes at most `limit` configurations: 1 to 1,000,000,000,
+/// and 10,000,000 with `None`. `ErrorKind::BadText` has the line at which the text is not a history.
+/// `ErrorKind::BadChoice` says that there is no such limit.
 ///
 /// ```
 /// use atomfs::Linearized;
@@ -90,8 +90,8 @@ pub fn linearize(history: impl AsRef<[u8]>, limit: Option<u64>) -> Result<Linear
     })
 }
 
-/// The journal up to the return that [`linearize`] names, for [`draw`](crate::draw): one of those that explain all
-/// before it. `None`, where [`linearize`] finds something else, or the limit is reached.
+/// A journal up to the return that [`linearize`] names, for [`draw`](crate::draw): one that explains all entries before
+/// it. `None` if [`linearize`] finds something else, or the limit is reached.
 ///
 /// ```
 /// use atomfs::{draw, front, Schedule};
@@ -106,7 +106,7 @@ pub fn front(history: impl AsRef<[u8]>, limit: Option<u64>) -> Result<Option<Str
     Ok(is_front.then(|| ascii(&told)))
 }
 
-/// What came of a history, and what the library tells of it.
+/// The result for a history, and the library's text on it.
 fn found(history: &[u8], limit: Option<u64>, tell: u8) -> Result<(u8, Vec<u8>), Error> {
     let mut found = 0;
     let limit = limit.unwrap_or(CONFIGURATIONS);

@@ -1,7 +1,6 @@
 //! The calls as methods, of what runs them one by one.
 
-/// Gives a type that has `Calls` each call as a method. Where the type wants it, it is told the line that makes the
-/// call.
+/// Gives a type that has `Calls` each call as a method. Its `stands_at` gets the line that makes the call.
 macro_rules! methods {
     ($type:ty, $others:literal) => {
         impl $type {
@@ -37,8 +36,7 @@ macro_rules! methods {
                 self.done(&$crate::call::Call::rmdir(&path))
             }
 
-            /// Moves what stands at `path`, with all below it, to `other`; a file or an empty directory there is
-            /// replaced.
+            /// Moves what is at `path`, with all below it, to `other`. A file or an empty directory there is replaced.
             #[track_caller]
             pub fn rename(
                 &mut self,
@@ -49,7 +47,7 @@ macro_rules! methods {
                 self.done(&$crate::call::Call::rename(&path, &other))
             }
 
-            /// Lets what stands at two paths change places, each with all below it.
+            /// Exchanges what is at two paths, each with all below it.
             #[track_caller]
             pub fn exchange(
                 &mut self,
@@ -60,7 +58,7 @@ macro_rules! methods {
                 self.done(&$crate::call::Call::exchange(&path, &other))
             }
 
-            /// What stands at a path.
+            /// What is at a path.
             #[track_caller]
             pub fn stat(
                 &mut self,
@@ -113,7 +111,7 @@ macro_rules! methods {
                 $crate::whole::read(self, $crate::path::AsPath::path_bytes(&path), offset, count)
             }
 
-            /// Writes bytes into a file at an offset, all of them or none, and tells how many.
+            /// Writes bytes into a file at an offset, all of them or none, and returns how many.
             #[track_caller]
             pub fn write(
                 &mut self,

@@ -4,13 +4,14 @@ use crate::error::Error;
 use crate::texts::{check, draw, trace, Schedule};
 
 /// The page without a run, which Python's package has too. In place of the words `@PICTURE@` and `@RUN@` come the run's
-/// picture, which is seen where scripts are off, and its text.
+/// picture, which is seen if scripts are off, and its text.
 const PAGE: &str = include_str!("run.html");
 const PICTURE: &str = "@PICTURE@\n";
 const RUN: &str = "@RUN@";
 
-/// A page that plays a script's run, or a journal, whatever the schedule, event by event in a browser: one HTML file,
-/// in ASCII, which asks for no other file and no network. `docs/PLAYER.md` says what it shows.
+/// A page that plays a run event by event in a browser: a script with a schedule, or a journal. It is one HTML file in
+/// ASCII, which needs no network and no other file. `docs/PLAYER.md` says what it shows. `ErrorKind::BadText` has the
+/// line at which the text is neither.
 ///
 /// ```
 /// use atomfs::Schedule;

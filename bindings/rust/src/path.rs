@@ -9,7 +9,7 @@ use std::sync::Arc;
 
 /// What a path can be: text, bytes, or a path of the standard library, owned or borrowed.
 ///
-/// The bytes are taken as they are: `/a/` and `/a/../b` are refused of a `Path` too.
+/// The bytes are taken as they are, so `/a/` and `/a/../b` are refused even as a `Path`.
 ///
 /// ```
 /// use std::path::Path;

@@ -10,14 +10,14 @@ use crate::methods::methods;
 use crate::way::{panic_of_gate, Shared, Way};
 use crate::whole::Calls;
 
-/// A thread's way into a [`SharedTree`](crate::SharedTree): a seat of its own, by whose number the journal tells its
-/// calls from others.
+/// A thread's way into a [`SharedTree`](crate::SharedTree). It has a seat of its own, whose number the journal has
+/// beside each of its calls.
 ///
-/// A session takes the lock of the tree for the begin of a call and for each of its steps, and lets it go between them.
-/// So the calls of several sessions interleave, and a rename helps the calls below what it moves.
+/// A session takes the lock of the tree for the begin of a call and for each of its steps, and releases it between
+/// them. So the calls of several sessions interleave, and a rename helps the calls below what it moves.
 ///
-/// A session may be dropped after [`SharedTree::wait_most`](crate::SharedTree::wait_most) has ended the wait of its
-/// call. The call comes to its return all the same: whoever it waits for makes its steps. So it keeps nobody waiting.
+/// If [`SharedTree::wait_most`](crate::SharedTree::wait_most) ends the wait of a call, the session may be dropped. The
+/// call still comes to its return, since the threads that it waits for make its steps. So it keeps nobody waiting.
 ///
 /// ```
 /// use std::thread;
@@ -47,13 +47,13 @@ impl Session {
         Ok(Session { shared: Arc::clone(shared), seat: way.seat, way: Some(way) })
     }
 
-    /// Its seat. When the session is dropped another one can have the number, and this value is no seat any more.
+    /// Its seat. When the session is dropped, another one can have the number, and this value is refused.
     pub fn seat(&self) -> Seat {
         self.seat
     }
 
-    /// Makes a call, step by step between those of other threads. While it has to wait for a node it sleeps, and the
-    /// step by which the call that holds it lets the node go wakes one of those that wait.
+    /// Makes a call, whose steps interleave with those of other threads. It sleeps while another call holds the node
+    /// that it wants, and wakes when that call unlocks the node.
     pub fn call(&mut self, call: &Call) -> Result<Reply, Error> {
         let way = self.way.as_mut().ok_or(ErrorKind::NoSeat)?;
         let came = way.call(&self.shared, call);

@@ -15,10 +15,11 @@ use crate::tree::Tree;
 use crate::way::{panic_of_gate, Shared};
 use crate::whole::{self, Calls, Entry};
 
-/// A tree that threads share: each has a clone, and all clones are of one tree.
+/// A tree that threads share. Each thread has a clone, and all clones are of one tree.
 ///
 /// Its calls interleave step by step, as those of [`Session`]s do, and one that has to wait for a node sleeps. Each
-/// takes a seat on which no call is under way; a [`Session`] keeps its own, by which a journal tells threads apart.
+/// call takes a seat that has no pending call. A [`Session`] keeps its own, by which you can see in a journal whose
+/// call it is.
 ///
 /// ```
 /// use std::thread;
@@ -41,8 +42,8 @@ pub struct SharedTree {
 }
 
 impl SharedTree {
-    /// An empty tree for as many nodes as there may be. `ErrorKind::BadChoice`, where `ATOMFS_PAUSES` in the
-    /// environment is no number.
+    /// An empty tree for as many nodes as a tree may have. `ErrorKind::BadChoice` if `ATOMFS_PAUSES` in the environment
+    /// is not a number.
     pub fn new() -> Result<SharedTree, Error> {
         SharedTree::try_from(Tree::new()?)
     }
@@ -52,68 +53,68 @@ impl SharedTree {
         SharedTree::try_from(Tree::with_limit(limit)?)
     }
 
-    /// The same by these limits.
+    /// An empty tree for at most so many nodes, with these limits.
     pub fn with_limits(limit: usize, limits: Limits) -> Result<SharedTree, Error> {
         SharedTree::try_from(Tree::with_limits(limit, limits)?)
     }
 
-    /// Waits until no call is under way, and has the tree: for its journal and its verdict, for steps of your own, and
-    /// for calls that nothing is to come between. Calls of other threads that would begin wait meanwhile, so this
-    /// thread makes none by its clone.
+    /// Waits until no call is pending, and then has the tree for itself. So you can ask for its journal and its
+    /// verdict, and make steps and calls that nothing comes between. Calls that would begin wait meanwhile, so this
+    /// thread makes none through its clone.
     pub fn lock(&self) -> Lent<'_> {
         // However long it takes.
         while self.shared.borrow_handle().is_err() {}
         Lent::new(&self.shared)
     }
 
-    /// The same, but `ErrorKind::TimedOut`, where it waited as long as [`wait_most`](SharedTree::wait_most) lets it.
+    /// The same, but it waits only as long as [`wait_most`](SharedTree::wait_most) says: then `ErrorKind::TimedOut`.
     pub fn try_lock(&self) -> Result<Lent<'_>, Error> {
         self.shared.borrow_handle()?;
         Ok(Lent::new(&self.shared))
     }
 
-    /// A way into the tree with a seat of its own.
+    /// Adds a session, which has a seat of its own.
     pub fn session(&self) -> Result<Session, Error> {
         Session::new(&self.shared)
     }
 
-    /// From now on calls pause behind some of their events, as it is drawn from this number and the seat, so that calls
-    /// of threads overlap that else hardly meet; `None`: they do not. The same seed draws the same pauses, and no run a
-    /// second time: [`explore`](crate::explore()) does that. `ATOMFS_PAUSES` in the environment is the seed with which
-    /// trees are made.
+    /// From now on calls pause after some events, at random from this seed and the seat. So calls of threads overlap
+    /// that would hardly meet otherwise. With `None` they do not pause. The same seed gives the same pauses, but not
+    /// the same run, which [`explore`](crate::explore()) does. `ATOMFS_PAUSES` in the environment is the seed of new
+    /// trees.
     pub fn pauses(&self, seed: Option<u64>) {
         self.shared.pauses(seed.map_or(NO_PAUSES, |seed| seed.min(NO_PAUSES - 1)));
     }
 
-    /// From now on calls hand each of their events to `gate`, with the lock let go: the begin, each step that does not
-    /// wait, the return. So a test has a call stand where it wants. The gate runs in the thread of the call. It makes
-    /// no call on this tree, and what it waits for must not wait for this call. Where it panics the call goes on to its
-    /// return first. `None`: they do not.
+    /// From now on calls call `gate` after each of their events: the begin, each step that does not wait, the return.
+    /// So a test can stop a call where it wants. The gate runs in the thread of the call, without the lock. It makes no
+    /// call on this tree, and what it waits for must not wait for this call. If it panics, the call comes to its return
+    /// first. With `None` they call no gate.
     pub fn gate(&self, gate: Option<Box<dyn Fn(Seat, Did) + Send + Sync>>) {
         self.shared.gate(gate);
     }
 
-    /// How long a call sleeps at most for another that holds a node, or for whoever has the tree locked; `None`:
-    /// without end. Then it ends with `ErrorKind::TimedOut`, and [`Error::holders`] tells who holds what. The call is
-    /// under way, and the thread that it waits for makes its steps, once that goes on, without the gate. Less than a
-    /// millisecond counts as one.
+    /// How long a thread waits at most for a node that a call holds, or for the tree that another thread has locked.
+    /// With `None` it waits without end. After that it gets `ErrorKind::TimedOut`, and [`Error::holders`] says who
+    /// holds what. If its call had begun, the call is pending. When the thread goes on for which it waits, that one
+    /// makes its steps too, without the gate. Less than a millisecond counts as one.
     pub fn wait_most(&self, most: Option<Duration>) {
         let milliseconds = most.map_or(0, |most| u32::try_from(most.as_millis()).unwrap_or(u32::MAX).max(1));
         self.shared.wait_most(milliseconds);
     }
 
-    /// Who holds what: a line for each call that is under way.
+    /// Who holds what: a line for each pending call.
     pub fn holders(&self) -> String {
         self.shared.holders()
     }
 
-    /// Brings all calls to their returns, whether their threads go on with them or not, and tells how many they were:
-    /// where a gate keeps one for ever, or a wait was given up.
+    /// Brings all calls to their returns, whether their threads go on with them or not, and returns how many there
+    /// were. It helps if a gate keeps one for ever.
     pub fn finish_all(&self) -> u64 {
         self.shared.finish()
     }
 
-    /// Makes a call, step by step between those of other threads.
+    /// Makes a call, whose steps interleave with those of other threads.
     pub fn call(&self, call: &Call) -> Result<Reply, Error> {
         let mut way = self.shared.way()?;
         let came = way.call(&self.shared, call);
@@ -146,17 +147,17 @@ impl SharedTree {
         self.done(&Call::rmdir(&path))
     }
 
-    /// Moves what stands at `path`, with all below it, to `other`; a file or an empty directory there is replaced.
+    /// Moves what is at `path`, with all below it, to `other`. A file or an empty directory there is replaced.
     pub fn rename(&self, path: impl AsPath, other: impl AsPath) -> Result<(), Error> {
         self.done(&Call::rename(&path, &other))
     }
 
-    /// Lets what stands at two paths change places, each with all below it.
+    /// Exchanges what is at two paths, each with all below it.
     pub fn exchange(&self, path: impl AsPath, other: impl AsPath) -> Result<(), Error> {
         self.done(&Call::exchange(&path, &other))
     }
 
-    /// What stands at a path.
+    /// What is at a path.
     pub fn stat(&self, path: impl AsPath) -> Result<Stat, Error> {
         whole::stat(&mut &*self, path.path_bytes())
     }
@@ -181,7 +182,7 @@ impl SharedTree {
         whole::read(&mut &*self, path.path_bytes(), offset, count)
     }
 
-    /// Writes bytes into a file at an offset, all of them or none, and tells how many.
+    /// Writes bytes into a file at an offset, all of them or none, and returns how many.
     pub fn write(&self, path: impl AsPath, offset: u64, bytes: impl AsRef<[u8]>) -> Result<u64, Error> {
         whole::write(&mut &*self, path.path_bytes(), offset, bytes.as_ref())
     }
@@ -191,12 +192,12 @@ impl SharedTree {
         self.done(&Call::truncate(&path, size))
     }
 
-    /// Opens a file to read it from its begin on. [`OpenOptions`] open it for more.
+    /// Opens a file to read it from its start. [`OpenOptions`] open it for more.
     pub fn open(&self, path: impl AsPath) -> Result<File<SharedTree>, Error> {
         OpenOptions::new().read(true).open(self.clone(), path)
     }
 
-    /// Opens a file to write it from its begin on: it is made where there is none, and emptied else.
+    /// Opens a file to write it from its start. A new file is made, and one that exists is emptied.
     pub fn create(&self, path: impl AsPath) -> Result<File<SharedTree>, Error> {
         whole::created().open(self.clone(), path)
     }
@@ -206,7 +207,7 @@ impl SharedTree {
         whole::create_dir_all(&mut &*self, path.path_bytes())
     }
 
-    /// As [`Tree::walk`]; calls of other threads can come between its calls, and what they take away is left out.
+    /// As [`Tree::walk`]; calls of other threads can come between its calls. What they remove is left out.
     pub fn walk(&self, path: impl AsPath) -> Result<Vec<Entry>, Error> {
         whole::walk(&mut &*self, path.path_bytes())
     }
@@ -221,14 +222,14 @@ impl SharedTree {
         whole::write_file(&mut &*self, path.path_bytes(), bytes.as_ref())
     }
 
-    /// As [`Tree::remove_dir_all`]; calls of other threads can come between its calls, and what they put below the path
-    /// meanwhile is kept: then it ends with `ENOTEMPTY`.
+    /// As [`Tree::remove_dir_all`]; calls of other threads can come between its calls. It fails with `ENOTEMPTY` if
+    /// they put something below the path meanwhile.
     pub fn remove_dir_all(&self, path: impl AsPath) -> Result<(), Error> {
         whole::remove_dir_all(&mut &*self, path.path_bytes())
     }
 }
 
-/// The tree with its journal and its seats, from now on shared. Calls that are under way come to their returns.
+/// Shares a tree, with its journal and its seats. Pending calls come to their returns.
 impl TryFrom<Tree> for SharedTree {
     type Error = Error;
 

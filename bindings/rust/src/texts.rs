@@ -3,11 +3,10 @@
 use crate::error::Error;
 use crate::ffi::{self, OK, TOO_SMALL};
 
-/// Room for the names of a full directory, and for the bytes of most files and texts: where one has more, the room
-/// becomes longer.
+/// Room for the names of a full directory, and for the bytes of most files and texts. For more it becomes longer.
 pub(crate) const ROOM: usize = 65_536;
 
-/// By which schedule a script runs.
+/// The schedule with which a script runs.
 #[derive(Clone, Copy, Debug, Default, PartialEq, Eq, Hash)]
 pub enum Schedule {
     /// The script's own.
@@ -15,7 +14,7 @@ pub enum Schedule {
     Given,
     /// One event of each thread in turn.
     RoundRobin,
-    /// Threads that are drawn from this number.
+    /// Threads at random, from this seed.
     Seeded(u64),
 }
 
@@ -35,8 +34,8 @@ pub(crate) fn ascii(bytes: &[u8]) -> String {
     String::from_utf8_lossy(bytes).into_owned()
 }
 
-/// The verdict on a journal: `lawful`, or the first entry at fault. `ErrorKind::BadText` tells the line of what is no
-/// journal.
+/// The verdict on a journal: `lawful`, or the first entry at fault. `ErrorKind::BadText` has the line at which the text
+/// is not a journal.
 ///
 /// ```
 /// assert_eq!(atomfs::check("atomfs-journal 1\n")?, "lawful");
@@ -48,8 +47,8 @@ pub fn check(journal: impl AsRef<[u8]>) -> Result<String, Error> {
     Ok(of_text(ffi::atomfs_check, journal.as_ref())?.trim_end().to_string())
 }
 
-/// The journal, the tree and the counts of a script, run by its own schedule. `ErrorKind::BadText` tells the line of
-/// what is no script.
+/// Runs a script with its own schedule, and returns the journal, the tree and the counts. `ErrorKind::BadText` has the
+/// line at which the text is not a script.
 ///
 /// ```
 /// let ran = atomfs::run("atomfs 1\nschedule\nfinish\n")?;
@@ -60,12 +59,12 @@ pub fn run(script: impl AsRef<[u8]>) -> Result<String, Error> {
     of_text(ffi::atomfs_run, script.as_ref())
 }
 
-/// What each event of a script's run did, in words; with `every` idle turns and repeated waits have a line, too.
+/// What each event of a script's run did, in words. With `every`, idle turns and repeated waits have a line too.
 ///
 /// ```
 /// use atomfs::Schedule;
-/// let told = atomfs::trace("atomfs 1\nthread t\nmkdir /a\nschedule\nfinish\n", Schedule::Given, false)?;
-/// assert!(told.starts_with("atomfs-trace 2\nthread t\n"));
+/// let trace = atomfs::trace("atomfs 1\nthread t\nmkdir /a\nschedule\nfinish\n", Schedule::Given, false)?;
+/// assert!(trace.starts_with("atomfs-trace 2\nthread t\n"));
 /// # Ok::<(), atomfs::Error>(())
 /// ```
 pub fn trace(script: impl AsRef<[u8]>, by: Schedule, every: bool) -> Result<String, Error> {
@@ -78,8 +77,8 @@ pub fn trace(script: impl AsRef<[u8]>, by: Schedule, every: bool) -> Result<Stri
     Ok(ascii(&told))
 }
 
-/// A picture of a script's run, or of a journal, whatever the schedule, as an SVG file: of all calls, or of the one of
-/// a number and those that overlap it. `ErrorKind::NoCall`, where there is no such call.
+/// A picture of a script's run, or of a journal, as an SVG file. It has all calls, or the call of a number and those
+/// that overlap it. `ErrorKind::NoCall` if there is no such call.
 ///
 /// ```
 /// let mut tree = atomfs::Tree::new()?;
@@ -98,8 +97,8 @@ pub fn draw(text: impl AsRef<[u8]>, by: Schedule, around: Option<u64>) -> Result
     Ok(ascii(&told))
 }
 
-/// A script with the events of its run as its schedule, in bytes, since its comments stay as they are. `run` of it is
-/// that run. `ErrorKind::BadText` with the line 0, where a script has no room for the events.
+/// A script with the events of its run as its schedule, so that [`run`] makes the same run again. It is bytes, since
+/// comments stay as they are. `ErrorKind::BadText` with line 0 if the events are too many for a script.
 pub fn schedule(script: impl AsRef<[u8]>, by: Schedule) -> Result<Vec<u8>, Error> {
     let (script, (schedule, seed)) = (script.as_ref(), by.numbers());
     // SAFETY: the text is a slice with its length, and `told` gives a room with its length.
@@ -109,8 +108,8 @@ pub fn schedule(script: impl AsRef<[u8]>, by: Schedule) -> Result<Vec<u8>, Error
     })
 }
 
-/// The verdicts on so many runs of a script, each behind its seed: the first is drawn from `seed`, each other from the
-/// next number. `ErrorKind::BadChoice`, where there are not 1 to 10,000 runs, or `seed` is 2^63 or more.
+/// The verdicts on runs of a script, each after its seed. The first run has the seed `seed`, and each other the next
+/// number. `ErrorKind::BadChoice` if `runs` is not 1 to 10,000, or `seed` is 2^63 or more.
 pub fn seeds(script: impl AsRef<[u8]>, seed: u64, runs: u64) -> Result<Vec<(u64, String)>, Error> {
     let script = script.as_ref();
     // SAFETY: the text is a slice with its length, and `told` gives a room with its length.
@@ -125,8 +124,8 @@ pub fn seeds(script: impl AsRef<[u8]>, seed: u64, runs: u64) -> Result<Vec<(u64,
     Ok(ascii(&told).lines().map(of_line).collect())
 }
 
-/// What the word of a fault means, as `BadHex` or `WrongReply`, and what to write instead. `ErrorKind::BadChoice`,
-/// where it is none.
+/// What the word of a fault means, for example `BadHex` or `WrongReply`, and what to write instead.
+/// `ErrorKind::BadChoice` if there is no such word.
 ///
 /// ```
 /// assert!(atomfs::explain("BadHex")?.starts_with("BadHex: "));
@@ -144,7 +143,7 @@ fn of_text(function: OfText, given: &[u8]) -> Result<String, Error> {
     Ok(ascii(&told))
 }
 
-/// The bytes that a function tells, with as much room as they need.
+/// The bytes that a function writes, with as much room as they need.
 pub(crate) fn told(ask: impl FnMut(*mut u8, usize, *mut usize) -> u8) -> Result<Vec<u8>, Error> {
     told_in(ROOM, ask)
 }

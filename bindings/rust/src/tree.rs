@@ -24,24 +24,23 @@ const FAULTS: [&str; 8] =
 
 /// A tree with the journal of its calls. It is closed when it is dropped.
 ///
-/// Each method runs one call at a time, or several where it says so. Threads share a tree as a
-/// [`SharedTree`](crate::SharedTree).
+/// Each method makes one call, or several if it says so. Threads share a tree as a [`SharedTree`](crate::SharedTree).
 pub struct Tree {
     /// Of a box, which the tree owns, unless it is that of a shared tree.
     handle: NonNull<Handle>,
     is_shared: bool,
-    /// What tells its seats from those of other trees.
+    /// A number of its own, by which another tree's seats are refused.
     id: u64,
     limit: usize,
     limits: Limits,
     /// How many calls the journal keeps, as `keep` has said it last.
     keeps: Journal,
-    /// How many calls stand in the journal.
+    /// How many calls the journal has.
     calls: u64,
     /// How many there were before these.
     before: u64,
     room: Vec<u8>,
-    /// The seat of the tree's own calls; none where the last of them waits on it.
+    /// The seat of the tree's own calls; none if the last of them waits on it.
     own: Option<Seat>,
     /// The last call that was begun on each seat.
     last: Vec<Last>,
@@ -74,7 +73,7 @@ impl Last {
 unsafe impl Send for Tree {}
 
 impl Tree {
-    /// An empty tree for as many nodes as there may be.
+    /// An empty tree for as many nodes as a tree may have.
     pub fn new() -> Result<Tree, Error> {
         Tree::with_limit(NODE_LIMIT)
     }
@@ -91,7 +90,7 @@ impl Tree {
         Tree::with_limits(limit, Limits::default())
     }
 
-    /// The same by these limits.
+    /// An empty tree for at most so many nodes, with these limits.
     ///
     /// ```
     /// use atomfs::{Errno, ErrorKind, Limits, Tree};
@@ -109,11 +108,11 @@ impl Tree {
         Ok(tree)
     }
 
-    /// A tree for at most so many nodes, by its text, as [`text_of_tree`](Tree::text_of_tree) tells it by these limits,
-    /// or by a journal, at whose start it begins: the calls of that are read, and not made. Its own journal begins at
-    /// what it has.
+    /// A tree for at most so many nodes, from a text that [`text_of_tree`](Tree::text_of_tree) returned, or from a
+    /// journal with these limits. From a journal it is the tree at which that starts: its calls are read, and not made.
+    /// The new journal begins at this tree.
     ///
-    /// `ErrorKind::BadText` tells the line of what is none, and `ErrorKind::Full` that it has more nodes.
+    /// `ErrorKind::BadText` has the line at which the text is neither. `ErrorKind::Full` says that it has more nodes.
     ///
     /// ```
     /// use atomfs::{ErrorKind, Limits, Tree, NODE_LIMIT};
@@ -140,8 +139,8 @@ impl Tree {
         Ok(tree)
     }
 
-    /// Another tree, which is as this one now, by the same limits, and keeps as many calls. Its journal begins there,
-    /// and from then on each goes its own way. `ErrorKind::UnderWay` tells the number of a call that is under way.
+    /// A copy of the tree as it is now, with the same limits, which keeps as many calls. Its journal begins there, and
+    /// from then on the two are independent. `ErrorKind::UnderWay` has the number of a pending call.
     ///
     /// ```
     /// let mut tree = atomfs::Tree::new()?;
@@ -202,17 +201,17 @@ impl Tree {
         self.on_path(ffi::atomfs_rmdir, &Call::rmdir(&path))
     }
 
-    /// Moves what stands at `path`, with all below it, to `other`; a file or an empty directory there is replaced.
+    /// Moves what is at `path`, with all below it, to `other`. A file or an empty directory there is replaced.
     pub fn rename(&mut self, path: impl AsPath, other: impl AsPath) -> Result<(), Error> {
         self.on_paths(ffi::atomfs_rename, &Call::rename(&path, &other))
     }
 
-    /// Lets what stands at two paths change places, each with all below it.
+    /// Exchanges what is at two paths, each with all below it.
     pub fn exchange(&mut self, path: impl AsPath, other: impl AsPath) -> Result<(), Error> {
         self.on_paths(ffi::atomfs_exchange, &Call::exchange(&path, &other))
     }
 
-    /// What stands at a path.
+    /// What is at a path.
     pub fn stat(&mut self, path: impl AsPath) -> Result<Stat, Error> {
         let own = self.own()?;
         let (path, mut stat, mut number) = (path.path_bytes(), RawStat::default(), 0);
@@ -228,8 +227,8 @@ impl Tree {
         self.limits
     }
 
-    /// The names of a directory, in byte order: `EOVERFLOW` where they are more than 256, as they may be by
-    /// [`Limits::V3`]. [`read_dir`](Tree::read_dir) tells these.
+    /// The names of a directory, in byte order. `EOVERFLOW` if there are more than 256, which [`Limits::V3`] allow.
+    /// [`read_dir`](Tree::read_dir) returns any number.
     pub fn readdir(&mut self, path: impl AsPath) -> Result<Vec<Vec<u8>>, Error> {
         let own = self.own()?;
         let (path, mut count, mut number) = (path.path_bytes(), 0, 0);
@@ -255,8 +254,8 @@ impl Tree {
         Ok(names_of(&self.room[..count]))
     }
 
-    /// The names of a directory above the last name of `after`, or from the first on where that is the root, in byte
-    /// order: at most `count`, and at most 256. Trees by [`Limits::V3`] alone have it.
+    /// At most `count` names of a directory, and at most 256, in byte order. They come after the last name of `after`,
+    /// or from the first on if that is the root. Only a tree with [`Limits::V3`] has this call.
     ///
     /// ```
     /// let mut tree = atomfs::Tree::new()?;
@@ -294,7 +293,7 @@ impl Tree {
         Ok(names_of(&self.room[..told]))
     }
 
-    /// At most `count` bytes of a file from an offset on, and at most `Limits::read_bytes`, as one call reads.
+    /// At most `count` bytes of a file from an offset on, and at most [`Limits::read_bytes`].
     pub fn read(&mut self, path: impl AsPath, offset: u64, count: usize) -> Result<Vec<u8>, Error> {
         let path = path.path_bytes();
         if count > self.room.len() {
@@ -309,8 +308,8 @@ impl Tree {
         Ok(self.room[..read?].to_vec())
     }
 
-    /// Reads bytes of a file from an offset on into `out`: as many as it has room for, or as there are, and at most
-    /// `Limits::read_bytes`.
+    /// Reads bytes of a file from an offset on into `out`, and returns how many: as many as there are and as `out` has
+    /// room for, and at most [`Limits::read_bytes`].
     pub fn read_into(&mut self, path: impl AsPath, offset: u64, out: &mut [u8]) -> Result<usize, Error> {
         let own = self.own()?;
         let (path, mut count, mut number) = (path.path_bytes(), 0, 0);
@@ -338,7 +337,7 @@ impl Tree {
         Ok(count)
     }
 
-    /// Writes bytes into a file at an offset, all of them or none, and tells how many. A gap before them reads as
+    /// Writes bytes into a file at an offset, all of them or none, and returns how many. A gap before them reads as
     /// zeros.
     pub fn write(&mut self, path: impl AsPath, offset: u64, bytes: impl AsRef<[u8]>) -> Result<u64, Error> {
         let own = self.own()?;
@@ -371,7 +370,7 @@ impl Tree {
         self.called(status, number, &Call::Truncate(path, size))
     }
 
-    /// Runs a call to its return, and tells its reply: as the method of its name does.
+    /// Makes a call from its begin to its return, and returns its reply, as the method of its name does.
     ///
     /// ```
     /// use atomfs::{Call, Reply, Tree};
@@ -452,7 +451,7 @@ impl Tree {
         Ok(self.seat_of(number))
     }
 
-    /// Adds a seat, on which one call at a time can be under way.
+    /// Adds a seat, which is a slot for one pending call.
     pub fn seat(&mut self) -> Result<Seat, Error> {
         let mut number = 0;
         // SAFETY: the handle is this tree's alone, and the rest are locals.
@@ -477,7 +476,7 @@ impl Tree {
         }
     }
 
-    /// Begins a call on a seat, and tells its number.
+    /// Begins a call on a seat, and returns its number.
     ///
     /// ```
     /// use atomfs::{Call, Did, Reply, Tree};
@@ -485,7 +484,7 @@ impl Tree {
     /// let mut tree = Tree::new()?;
     /// tree.mkdir("/a")?;
     /// let (maker, mover) = (tree.seat()?, tree.seat()?);
-    /// // The mkdir stands half-way in /a, and the rename helps it.
+    /// // The mkdir stops half-way in /a, and the rename helps it.
     /// tree.begin(maker, &Call::mkdir("/a/x"))?;
     /// for _ in 0..3 {
     ///     tree.step(maker)?;
@@ -518,7 +517,7 @@ impl Tree {
         self.last[at].begins(seat, number, call);
     }
 
-    /// Notes a call that has begun: the tree has forgotten those before it where its number is no greater than theirs.
+    /// Notes a call that has begun. If its number is not greater than those before, the tree has forgotten them.
     fn noted(&mut self, number: u64) {
         if number <= self.calls {
             self.begin_again();
@@ -533,7 +532,7 @@ impl Tree {
         self.last.clear();
     }
 
-    /// The last call that was begun on a seat and stands in the journal.
+    /// The last call that was begun on a seat, if the journal has it.
     fn last(&mut self, seat: Seat) -> Option<&mut Last> {
         let last = self.last.get_mut(usize::try_from(seat.number).ok()?);
         last.filter(|last| last.turn == seat.turn)
@@ -547,7 +546,7 @@ impl Tree {
         self.id
     }
 
-    /// A shared tree has taken what is behind the handle.
+    /// A shared tree has taken the handle over.
     pub(crate) fn is_given_away(&mut self, turns: Arc<Turns>) {
         self.free_handle();
         self.is_shared = true;
@@ -568,7 +567,7 @@ impl Tree {
         (self.calls, self.before) = (calls, made - calls);
     }
 
-    /// The number of the last call that the journal has; none, where it has no call.
+    /// The number of the last call that the journal has; none if it has no call.
     fn last_number(&mut self) -> Option<u64> {
         let mut entries = 0;
         self.entries(usize::MAX, &mut entries).ok()?;
@@ -600,8 +599,8 @@ impl Tree {
         Ok(Did::of(did, about))
     }
 
-    /// Makes one step of a call that does not wait, whichever it is, and tells its seat. It tells none where no call is
-    /// under way, and only there: in a loop it brings every call to its return.
+    /// Makes one step of some call that does not wait, and returns its seat and what it did. It returns `None` only if
+    /// no call is pending. So a loop of it brings every call to its return.
     ///
     /// ```
     /// use atomfs::{Call, Did, Reply, Tree};
@@ -627,7 +626,7 @@ impl Tree {
         })
     }
 
-    /// Makes the steps of the call on a seat up to its return, and tells its reply. `ErrorKind::Waits` says that the
+    /// Makes the steps of the call on a seat up to its return, and returns its reply. `ErrorKind::Waits` says that the
     /// call of another seat has to go on first.
     pub fn finish(&mut self, seat: Seat) -> Result<Reply, Error> {
         loop {
@@ -715,12 +714,12 @@ impl Tree {
         Ok(self.room[..count].to_vec())
     }
 
-    /// How many calls there were before those of the journal: handed out by checkpoints, or forgotten.
+    /// How many calls there were before those of the journal. Checkpoints returned them, or they were forgotten.
     pub fn calls_before(&self) -> u64 {
         self.before
     }
 
-    /// Says how many calls the journal keeps from now on.
+    /// Sets how many calls the journal keeps from now on.
     ///
     /// ```
     /// let mut tree = atomfs::Tree::new()?;
@@ -742,8 +741,8 @@ impl Tree {
         Ok(())
     }
 
-    /// Lets the journal begin again at the tree as it stands, and answers how many calls are forgotten.
-    /// `ErrorKind::UnderWay` tells the number of a call that is under way.
+    /// Lets the journal begin again at the tree as it is now, and returns how many calls are forgotten.
+    /// `ErrorKind::UnderWay` has the number of a pending call.
     pub fn forget(&mut self) -> Result<u64, Error> {
         let mut number = 0;
         // SAFETY: the handle is this tree's alone, and the rest are locals.
@@ -781,8 +780,8 @@ impl Tree {
         page(self.journal()?, Schedule::Given)
     }
 
-    /// The verdict on the journal as it stands, without a text: `lawful`, as it always is by the proof, or the first
-    /// entry at fault. What was forgotten, or handed out by a checkpoint, is not looked at.
+    /// The verdict on the journal as it is now, without a text: `lawful`, or the first entry at fault. By the proof it
+    /// is always `lawful`. Calls that were forgotten, or that a checkpoint returned, are not looked at.
     pub fn check(&mut self) -> Result<String, Error> {
         let (mut place, mut kind) = (0, 0);
         // SAFETY: the handle is this tree's alone, and the rest are locals.
@@ -793,8 +792,8 @@ impl Tree {
         })
     }
 
-    /// Hands the journal out, and lets it begin again at the tree as it stands, which gives its memory back.
-    /// `ErrorKind::UnderWay` tells the number of a call that is under way.
+    /// Returns the journal, and lets it begin again at the tree as it is now, which gives its memory back.
+    /// `ErrorKind::UnderWay` has the number of a pending call.
     pub fn checkpoint(&mut self) -> Result<String, Error> {
         let mut number = 0;
         let told = self
@@ -816,7 +815,7 @@ impl Tree {
         self.text(|handle, out, room, count| unsafe { ffi::atomfs_tree(handle, out, room, count) })
     }
 
-    /// How many nodes there are: the lines of the tree but the first. None for want of memory.
+    /// How many nodes there are: the lines of the tree but the first. None if memory ran out.
     fn nodes(&self) -> Option<usize> {
         let (mut room, mut count) = (vec![0; ROOM], 0);
         loop {
@@ -838,7 +837,7 @@ impl Tree {
         Ok(ascii(&self.room[..count]))
     }
 
-    /// How many bytes a function told into the room, which becomes as long as they want.
+    /// How many bytes a function wrote into the room, which becomes as long as they need.
     fn tell(&mut self, mut ask: impl FnMut(*mut Handle, *mut u8, usize, *mut usize) -> u8) -> Result<usize, Error> {
         loop {
             let mut count = 0;
@@ -876,8 +875,7 @@ impl Drop for Tree {
     }
 }
 
-/// It shows how many nodes there are, for which it asks for the text of the tree, and how many calls stand in the
-/// journal.
+/// It shows how many nodes there are, for which it makes the text of the tree, and how many calls the journal has.
 impl fmt::Debug for Tree {
     fn fmt(&self, f: &mut fmt::Formatter<'_>) -> fmt::Result {
         f.debug_struct("Tree")
@@ -900,7 +898,7 @@ fn stat_of(stat: RawStat) -> Stat {
     Stat { is_dir: stat.is_dir != 0, size: stat.size }
 }
 
-/// The names of a reply, in which a byte 0 is behind each.
+/// The names of a reply, in which a byte 0 follows each.
 pub(crate) fn names_of(told: &[u8]) -> Vec<Vec<u8>> {
     let mut names: Vec<Vec<u8>> = told.split(|byte| *byte == 0).map(<[u8]>::to_vec).collect();
     names.pop();

@@ -26,7 +26,7 @@ struct Gated {
     tree: u64,
 }
 
-/// How many sessions have ended that had a seat, by its number: so the seat of an ended one is told from that of the
+/// How many sessions have ended that had a seat, by its number. So the seat of an ended session is not that of the
 /// next.
 #[derive(Default)]
 pub(crate) struct Turns(Mutex<BTreeMap<u64, u64>>);
@@ -99,7 +99,7 @@ impl Shared {
         self.shared.as_ptr()
     }
 
-    /// Waits until no call is under way, and has the handle lent. Whether that is so.
+    /// Waits until no call is pending, and borrows the handle.
     pub(crate) fn borrow_handle(&self) -> Result<(), Error> {
         let mut handle = ptr::null_mut();
         // SAFETY: the tree is open as long as this value is there, and the rest is a local.
@@ -154,8 +154,8 @@ impl Shared {
         self.give_way_back(way);
     }
 
-    /// A way is free again. If its call was left under way, that comes to its return by the steps of others, and C's
-    /// functions keep the seat until then.
+    /// A way is free again. If its call is still pending, others make its steps, and C's functions keep the seat until
+    /// it has returned.
     pub(crate) fn give_way_back(&self, way: Way) {
         if !way.is_left {
             held(&self.free).push(way);
@@ -261,7 +261,7 @@ pub(crate) struct Way {
     session: NonNull<ffi::Session>,
     pub(crate) seat: Seat,
     room: Vec<u8>,
-    /// Its last call was left under way: the wait for it was given up.
+    /// Its last call is pending: the wait for it was given up.
     is_left: bool,
 }
 

@@ -11,14 +11,14 @@ use crate::limits::{Limits, LISTED};
 use crate::path::AsPath;
 use crate::tree::Tree;
 
-/// What runs calls: a [`Tree`](crate::Tree), a [`Session`](crate::Session), or a mutable reference to one.
+/// What makes calls: a [`Tree`](crate::Tree), a [`Session`](crate::Session), or a mutable reference to one.
 ///
 /// [`OpenOptions::open`](crate::OpenOptions::open) takes any of them.
 pub trait Calls {
-    /// Runs a call to its return, and tells its reply.
+    /// Makes a call from its begin to its return, and returns its reply.
     fn call(&mut self, call: &Call) -> Result<Reply, Error>;
 
-    /// The limits of the tree that it runs them on.
+    /// The limits of its tree.
     fn limits(&mut self) -> Limits {
         Limits::default()
     }
@@ -45,7 +45,7 @@ impl Calls for Tree {
 }
 
 impl Tree {
-    /// Opens a file to read it from its begin on. [`OpenOptions`] open it for more.
+    /// Opens a file to read it from its start. [`OpenOptions`] open it for more.
     ///
     /// ```
     /// use std::io::Read;
@@ -53,9 +53,9 @@ impl Tree {
     /// # fn main() -> std::io::Result<()> {
     /// let mut tree = atomfs::Tree::new()?;
     /// tree.write_file("/f", "hello")?;
-    /// let mut told = String::new();
-    /// tree.open("/f")?.read_to_string(&mut told)?;
-    /// assert_eq!(told, "hello");
+    /// let mut text = String::new();
+    /// tree.open("/f")?.read_to_string(&mut text)?;
+    /// assert_eq!(text, "hello");
     /// # Ok(())
     /// # }
     /// ```
@@ -63,25 +63,25 @@ impl Tree {
         OpenOptions::new().read(true).open(self, path)
     }
 
-    /// Opens a file to write it from its begin on: it is made where there is none, and emptied else.
+    /// Opens a file to write it from its start. A new file is made, and one that exists is emptied.
     pub fn create(&mut self, path: impl AsPath) -> Result<File<&mut Tree>, Error> {
         created().open(self, path)
     }
 
-    /// Makes a directory, and those above it that are missing; one that is there is no error. By an error those that it
-    /// made are taken back. It takes a call for each.
+    /// Makes a directory, and those above it that are missing. It is no error if the directory exists. After an error
+    /// those that it made are removed again. It takes a call for each.
     pub fn create_dir_all(&mut self, path: impl AsPath) -> Result<(), Error> {
         create_dir_all(self, path.path_bytes())
     }
 
-    /// All names of a directory, in byte order: by one `readdir`, and by [`Limits::V3`] by a `list` for each 256 of
-    /// them, each a call of its own.
+    /// All names of a directory, in byte order. It makes one `readdir`, or with [`Limits::V3`] a `list` for each 256
+    /// names.
     pub fn read_dir(&mut self, path: impl AsPath) -> Result<Vec<Vec<u8>>, Error> {
         read_dir(self, path.path_bytes())
     }
 
-    /// What stands at a path and all below it, each directory before what it has, names in byte order. It takes a call
-    /// for a file, and for a directory one and those of [`read_dir`](Tree::read_dir).
+    /// What is at a path and all below it. Each directory comes before its entries, and names are in byte order. It
+    /// takes a call for a file, and for a directory one and those of [`read_dir`](Tree::read_dir).
     ///
     /// ```
     /// let mut tree = atomfs::Tree::new()?;
@@ -95,19 +95,19 @@ impl Tree {
         walk(self, path.path_bytes())
     }
 
-    /// All bytes of a file, by as many reads as they take: each tells at most `Limits::read_bytes`.
+    /// All bytes of a file. A call reads at most [`Limits::read_bytes`] of them.
     pub fn read_to_end(&mut self, path: impl AsPath) -> Result<Vec<u8>, Error> {
         read_to_end(self, path.path_bytes())
     }
 
-    /// Gives a file these bytes, and makes it where there is none. By an error the tree is as before. It takes two or
-    /// three calls.
+    /// Gives a file these bytes, and makes it if it does not exist. After an error the tree is as it was. It takes two
+    /// or three calls.
     pub fn write_file(&mut self, path: impl AsPath, bytes: impl AsRef<[u8]>) -> Result<(), Error> {
         write_file(self, path.path_bytes(), bytes.as_ref())
     }
 
-    /// Removes a directory with all below it. It takes some calls for each entry; only for want of memory, or where
-    /// calls of other seats are under way, can it end half-way.
+    /// Removes a directory with all below it. It takes some calls for each entry. It ends half-way only if memory runs
+    /// out, or if calls of other seats are pending.
     pub fn remove_dir_all(&mut self, path: impl AsPath) -> Result<(), Error> {
         remove_dir_all(self, path.path_bytes())
     }
@@ -120,7 +120,7 @@ pub(crate) fn created() -> OpenOptions {
     options
 }
 
-/// A path below which [`Tree::walk`](crate::Tree::walk) went, or that path itself, and what stands there.
+/// A path that [`Tree::walk`](crate::Tree::walk) found, and what is there.
 #[derive(Clone, Debug, PartialEq, Eq)]
 pub struct Entry {
     path: PathBuf,
@@ -128,12 +128,12 @@ pub struct Entry {
 }
 
 impl Entry {
-    /// Where it stands.
+    /// Its path.
     pub fn path(&self) -> &Path {
         &self.path
     }
 
-    /// What stands there.
+    /// What is at the path.
     pub fn stat(&self) -> Stat {
         self.stat
     }
@@ -288,7 +288,7 @@ pub(crate) fn walk(calls: &mut impl Calls, path: &[u8]) -> Result<Vec<Entry>, Er
     Ok(found)
 }
 
-/// What stands at a path. The paths below a directory are put onto those that are left.
+/// What is at a path. The paths below a directory are put onto those that are left.
 fn look(calls: &mut impl Calls, path: &[u8], left: &mut Vec<Vec<u8>>) -> Result<Stat, Error> {
     let found = stat(calls, path)?;
     if found.is_dir {

@@ -8,10 +8,11 @@ use std::thread;
 use crate::bar::Bar;
 use crate::explore::{outcome_of, quiet, Drawn, Explored, Outcome, Plan, Player, Ran, ScheduleError};
 
-/// How many runs a worker makes at most before it asks for more, how many ranges there are for each worker if the seeds
-/// are few, and how often a range is begun.
+/// How many runs a worker makes at most before it asks for more.
 const RANGE: u64 = 64;
+/// How many ranges there are for each worker if the seeds are few.
 const RANGES: u64 = 4;
+/// How often a range is begun.
 const TIMES: u32 = 3;
 
 /// [`explore`](crate::explore()) by so many workers, each a thread that makes the runs of a range of seeds at a time; 0
@@ -142,7 +143,7 @@ impl<F> Work<'_, F> {
         }
     }
 
-    /// Makes the runs of a range. Where the worker panics it is done again, and if that is no help, it has failed.
+    /// Makes the runs of a range. If the worker panics it is done again; if that is no help, the range has failed.
     fn again<'p, R: Send + 'static>(&self, range: Range<u64>)
     where
         F: Fn(&mut Plan<'p, R>),

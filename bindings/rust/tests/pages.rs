@@ -48,7 +48,7 @@ fn of_python(text: &[u8], more: &str) -> Option<String> {
     let (package, library) = python()?;
     let mut command = Command::new("python3");
     command.args(["-c", PROGRAM, more]).env("PYTHONPATH", package).env("ATOMFS_LIBRARY", library);
-    command.env("ATOMFS_PURE", "1").env("PYTHONDONTWRITEBYTECODE", "1");
+    command.env("ATOMFS_PURE", "1").env("PYTHONPYCACHEPREFIX", env!("CARGO_TARGET_TMPDIR"));
     let mut child = command.stdin(Stdio::piped()).stdout(Stdio::piped()).spawn().ok()?;
     // Where the package cannot be used nobody may read this.
     let _ = child.stdin.take()?.write_all(text);
