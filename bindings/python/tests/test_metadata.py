@@ -57,6 +57,10 @@ class Times(OfPatch):
             self.assertLess(second.st_ctime_ns, os.stat(f"{AT}/g").st_ctime_ns)
             self.assertLess(folder.st_mtime_ns, os.stat(f"{AT}/d").st_mtime_ns)
             self.assertEqual(first.st_mtime_ns % 10**9, 0)
+            # What is moved to where it is stays as it is.
+            before = os.stat(AT), os.stat(f"{AT}/g")
+            os.rename(f"{AT}/g", f"{AT}/g")
+            self.assertEqual((os.stat(AT), os.stat(f"{AT}/g")), before)
         self.assertGreaterEqual(next(clock), 10**18)
 
     def test_set(self):
@@ -263,6 +267,11 @@ class Links(OfPatch):
                 lambda at: (os.symlink("none", f"{at}/l"), open(f"{at}/l", "x")),
                 lambda at: (os.symlink("f", f"{at}/l"), os.open(f"{at}/l", os.O_RDONLY | os.O_NOFOLLOW)),
                 lambda at: (os.symlink("f", f"{at}/l"), os.open(f"{at}/l", os.O_CREAT | os.O_EXCL)),
+                lambda at: (os.symlink("d", f"{at}/l"), os.close(os.open(f"{at}/l/", os.O_RDONLY | os.O_NOFOLLOW))),
+                lambda at: (os.symlink("d", f"{at}/l"), os.open(f"{at}/l/", os.O_RDONLY | os.O_CREAT)),
+                lambda at: (os.symlink("l", f"{at}/l"), open(f"{at}/l/", "w")),
+                lambda at: (os.symlink("l", f"{at}/l"), open(f"{at}/l/")),
+                lambda at: (os.symlink("l", f"{at}/l"), io.FileIO(f"{at}/l/", "a")),
                 lambda at: (
                     os.symlink("d", f"{at}/l"),
                     sorted(os.listdir(f"{at}/l")),

@@ -15,7 +15,7 @@ class Plugin(unittest.TestCase):
         words = "-m", "pytest", "-q", "-p", "pytester", "-p", "no:cacheprovider", str(CASES)
         ran = subprocess.run([sys.executable, *words], capture_output=True, text=True)
         self.assertEqual(ran.returncode, 0, ran.stdout + ran.stderr)
-        self.assertRegex(ran.stdout, r"(?m)^\d+ passed in ")
+        self.assertRegex(ran.stdout, r"(?m)^\d+ passed(, \d+ skipped)? in ")
         cases = len(re.findall(r"(?m)^def test_", CASES.read_text()))
         self.assertGreaterEqual(int(re.search(r"(\d+) passed", ran.stdout)[1]), cases)
 

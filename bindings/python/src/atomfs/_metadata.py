@@ -286,21 +286,21 @@ class Metadata:
         """Two entries of which one came in the place of the other, or both in each other's."""
         above, name = self._above(text_of(path))
         aim, last = self._above(text_of(other))
+        if above is aim and name == last:
+            return
         now, entries, others = self.clock(), above.entries, aim.entries
         assert entries is not None and others is not None
-        if above is not aim or name != last:
-            one, was = entries.pop(name, None), others.pop(last, None)
-            if one is not None:
-                others[last] = one
-                one.changed = now
-            if was is not None:
-                was.changed = now
-                if exchanged:
-                    entries[name] = was
-                else:
-                    self._gone(was)
-            aim.modified = aim.changed = now
-        above.modified = above.changed = now
+        one, was = entries.pop(name, None), others.pop(last, None)
+        if one is not None:
+            others[last] = one
+            one.changed = now
+        if was is not None:
+            was.changed = now
+            if exchanged:
+                entries[name] = was
+            else:
+                self._gone(was)
+        above.modified = above.changed = aim.modified = aim.changed = now
 
 
 def _all_of(top: Inode) -> List[Inode]:

@@ -42,8 +42,6 @@ _BYTES_LIKE = bytearray, memoryview
 _KEPT_OPEN = "Cannot use closefd=False with file name"
 # The last of the descriptors that each process has.
 _STANDARD = 2
-# The flags that ask for a file that is not there.
-_NEW = os.O_CREAT | os.O_EXCL
 # Modules of Python whose classes and defaults of arguments have functions, in some version; those of others are looked through.
 _DEEP = ("pathlib", "pathlib._local", "pathlib._abc", "glob", "tempfile", "shutil", "zipfile")
 _OF_PYTHON = os.path.dirname(os.__file__) + os.sep
@@ -294,7 +292,7 @@ class patch(OfC, contextlib.ContextDecorator):
             if isinstance(path, int):
                 return of_number(path, *rest, **named)
             try:
-                to_end = follows(*rest, **named) if follows else follow
+                to_end = follows(path, *rest, **named) if follows else follow
                 if to_end and not named.get("follow_symlinks", True):
                     to_end = None
                 place = self._places.of(path, named.get("dir_fd"), to_end)
@@ -422,7 +420,7 @@ class patch(OfC, contextlib.ContextDecorator):
                 return self._sandbox.file(file, file, *words, closefd)
             try:
                 with told(file):
-                    place = self._places.of(file, None, not isinstance(mode, str) or "x" not in mode)
+                    place = self._places.of(file, None, _follows(file, _flags_of(mode)))
             except TypeError:
                 return real(file, *words, closefd, opener)
             if not isinstance(mode, str) or (place.inside is None and opener is None):
@@ -569,7 +567,7 @@ class patch(OfC, contextlib.ContextDecorator):
             return (True, self._described(file, file, mode, closefd)) if file in self._files else (False, words)
         try:
             with told(file):
-                place = self._places.of(file, None, not isinstance(mode, str) or "x" not in mode)
+                place = self._places.of(file, None, _follows(file, _flags_of(mode)))
         except TypeError:
             return False, words
         if not isinstance(mode, str) or (place.inside is None and opener is None):
@@ -634,10 +632,22 @@ def _bytes_of(name: str, key: str, path: Any, or_number: bool = False) -> bytes:
     return bytes(path)
 
 
-def _follows(flags: int = 0, *given: Any, **named: Any) -> bool:
-    """Whether `os.open` goes on from a link at the end of a path."""
+def _follows(path: Any, flags: int = 0, *given: Any, **named: Any) -> Optional[bool]:
+    """Whether `os.open` goes on from a link at the end of a path; none where only a slash behind it leads on.
+
+    Where a file may be made, a slash is an error before it leads anywhere.
+    """
     flags = named.get("flags", flags)
-    return not isinstance(flags, int) or not (flags & os.O_NOFOLLOW or flags & _NEW == _NEW)
+    if not isinstance(flags, int):
+        return True
+    if flags & os.O_CREAT:
+        return not flags & (os.O_NOFOLLOW | os.O_EXCL) and not os.fsdecode(path).endswith("/")
+    return None if flags & os.O_NOFOLLOW else True
+
+
+def _flags_of(mode: Any) -> int:
+    """The flags of a mode of `open`, as far as it has a kind."""
+    return flags_of(mode) if isinstance(mode, str) and not set(mode).isdisjoint("rwxa") else os.O_RDONLY
 
 
 class _Guard(type):
