@@ -411,6 +411,63 @@ def test_in_memory_at(pytester):
     assert "stat /data/f" not in journal.split("mkdir /new")[1]
 
 
+def below(top):
+    """All that is below a directory of the disk, with times and contents."""
+    paths = (path for path in top.rglob("*") if "__pycache__" not in path.parts and path.name != ".pytest_cache")
+    return {path: (path.lstat().st_mtime_ns, path.is_file() and path.read_bytes()) for path in paths}
+
+
+def test_in_memory_overlay(pytester):
+    """Tests read the project's own files, and what they change there is theirs alone."""
+    data = pytester.mkdir("data")
+    (data / "in.txt").write_text("of the disk")
+    (data / "large").write_bytes(bytes(3_000_000))
+    (data / "link").symlink_to("in.txt")
+    pytester.makepyfile(helper="VALUE = 17")
+    text = """
+        import os
+        import pathlib
+        import shutil
+
+        HERE = pathlib.Path(__file__).parent
+
+        def test_reads():
+            import helper
+            assert helper.VALUE == 17
+            assert pathlib.Path("data/in.txt").read_text() == (HERE / "data/link").read_text() == "of the disk"
+            assert sorted(os.listdir("data")) == ["in.txt", "large", "link"]
+
+        def test_writes(tmp_path):
+            shutil.copy("data/in.txt", tmp_path)
+            shutil.copytree("data", "data2", symlinks=True)
+            pathlib.Path("data/in.txt").write_text("changed")
+            os.rename("data/large", "larger")
+            os.remove("data/link")
+            os.chmod("helper.py", 0o600)
+            pathlib.Path("out").mkdir()
+
+        def test_after():
+            assert pathlib.Path("data/in.txt").read_text() == "changed" and os.path.exists("data2/link")
+            assert os.listdir("data") == ["in.txt"] and len(pathlib.Path("larger").read_bytes()) == 3_000_000
+            assert False
+    """
+    (module,) = [pytester.makepyfile(text)]
+    before = below(pytester.path)
+    words = "-p", "no:cacheprovider", "--atomfs", "--atomfs-overlay", "."
+    result = pytester.runpytest(*words)
+    result.assert_outcomes(passed=2, failed=1)
+    assert below(pytester.path) == before and module in before
+    kept = re.findall(r"The (journal|picture|page): (.*)", result.stdout.str())
+    journal = pathlib.Path(kept[0][1]).read_text()
+    # The bytes that came for tests before are in the tree where this journal begins.
+    assert "# seat 1 overlay" in journal and "write /data/in.txt" not in journal
+    result = pytester.runpytest(*words[:-1], "data", "-k", "test_reads")
+    result.stdout.fnmatch_lines(["*FileNotFoundError*data/in.txt*"])
+    result = pytester.runpytest(*words[:-1], "none")
+    assert result.ret == pytest.ExitCode.USAGE_ERROR
+    result.stderr.fnmatch_lines(["ERROR: --atomfs-overlay: there is no directory none"])
+
+
 def test_in_memory_with_fixtures(pytester):
     """Pytest's own fixtures and those of this plugin do there what they do elsewhere."""
     text = """
@@ -460,4 +517,4 @@ def test_in_memory_with_xdist(pytester):
 
 
 def test_options(pytester):
-    pytester.runpytest("--help").stdout.fnmatch_lines(["*--atomfs *", "*--atomfs-at=DIR*"])
+    pytester.runpytest("--help").stdout.fnmatch_lines(["*--atomfs *", "*--atomfs-at=DIR*", "*--atomfs-overlay=DIR*"])

@@ -68,6 +68,29 @@ class Exec(unittest.TestCase):
         self.assertEqual(sorted(path.name for path in self.folder.iterdir()), ["beside", "out", "reads.py", "works.py"])
         self.assertEqual(sorted(os.listdir(self.folder / "out")), ["new", "reads.py", "works.py"])
 
+    def test_overlay(self):
+        """A directory of the disk is read, and stays as it is; what is asked for has all that is there, with the changes."""
+        (self.folder / "data").mkdir()
+        (self.folder / "data" / "in").write_text("in")
+        (self.folder / "reads.py").write_text(
+            "import os\nprint(open('data/in').read())\nos.unlink('beside')\nopen('data/in', 'a').write('!')\n"
+        )
+        found = self.ran("--overlay", ".", "--to", "out", "--journal", "journal", "reads.py")
+        self.assertEqual(found, (0, "in\n", ""))
+        self.assertEqual((self.folder / "data" / "in").read_text(), "in")
+        names = ["data", "reads.py", "works.py"]
+        self.assertEqual(sorted(os.listdir(self.folder)), sorted([*names, "beside", "journal", "out"]))
+        self.assertEqual(sorted(os.listdir(self.folder / "out")), names)
+        self.assertEqual((self.folder / "out" / "data" / "in").read_text(), "in!")
+        self.assertEqual((self.folder / "out" / "works.py").read_text(), WORKS)
+        journal = (self.folder / "journal").read_text()
+        self.assertEqual(atomfs.check(journal), "lawful")
+        # What comes for the directory that is asked for is no call of the program's run.
+        self.assertNotIn("write /works.py", journal)
+        self.assertEqual(
+            self.ran("--overlay", "none", "reads.py"), (2, "", "atomfs exec: there is no directory none\n")
+        )
+
     def test_ends(self):
         for text, status, told in (
             ("raise KeyError('x')", 1, "KeyError: 'x'"),

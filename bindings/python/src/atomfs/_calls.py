@@ -16,9 +16,10 @@ from ._values import Data, bytes_of, names_asked, number_of
 if TYPE_CHECKING:
     from . import _fast
     from ._metadata import Metadata
+    from ._overlay import Overlaid
     from ._tree import Stat, Step, Tree
 
-    AnyCalls = Union["ByCtypes", "Noted", _fast.Calls]
+    AnyCalls = Union["ByCtypes", "Noted", Overlaid, _fast.Calls]
 
 # What the extension calls.
 _FUNCTIONS = (

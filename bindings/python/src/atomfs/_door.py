@@ -42,7 +42,9 @@ class Door:
         self._patch = patch
         self._of_c: Any = None
         if extension is not None:
-            where = tuple(places._roots), places._name, places._shadows
+            # By an overlay no path is plain before what is on its way has come from the disk.
+            roots = tuple(places._roots) if places.overlay is None else ()
+            where = roots, places._name, places._shadows
             self._of_c = extension.Door(patch, files, places, Place, *where)
 
     def function(

@@ -14,7 +14,8 @@ from ._inside import Inside
 
 _EPILOG = """
 The program finds an empty working directory, and temporary files are in memory too. With --at DIR a directory of the disk is a tree that begins as
-what is there; if the working directory is below, it stays. Programs that it starts find the same. The status is that of the program, and 70
+what is there, and with --overlay DIR one that reads there what the program asks for; if the working directory is below, it stays. Programs that it
+starts find the same, but none an overlay. The status is that of the program, and 70
 where a journal is not lawful.
 """
 _UNLAWFUL = 70
@@ -26,6 +27,9 @@ def _words(given: Sequence[str]) -> argparse.Namespace:
     )
     words.add_argument(
         "--at", action="append", default=[], metavar="DIR", help="let a directory be a tree, as it is now"
+    )
+    words.add_argument(
+        "--overlay", action="append", default=[], metavar="DIR", help="read a directory, but keep each change in memory"
     )
     words.add_argument("--journal", metavar="FILE", help="write the journal of the calls to a file of the disk")
     words.add_argument(
@@ -44,14 +48,21 @@ def execute(given: Sequence[str]) -> int:
         print(f"atomfs exec: there is no program {words.program}", file=sys.stderr)
         return 2
     journal, out = (path and os.path.abspath(path) for path in (words.journal, words.to))
-    with Inside(words.at) as inside:
+    for path in words.overlay:
+        if not os.path.isdir(path):
+            print(f"atomfs exec: there is no directory {path}", file=sys.stderr)
+            return 2
+    with Inside(words.at, words.overlay) as inside:
         working = os.getcwd()
         inside.begin()
         status = _status_of(program, words.arguments)
         path, tree = next((path, tree) for path, tree in inside.trees.items() if f"{working}/".startswith(f"{path}/"))
+        own = tree.journal() if journal else ""
+        if out:
+            inside.copy_up(path)
         with inside.aside():
             if journal:
-                pathlib.Path(journal).write_text(tree.journal())
+                pathlib.Path(journal).write_text(own)
             if out:
                 _load.to_directory(tree, out, False, working[len(path) :])
         verdict = inside.verdict()

@@ -1,4 +1,4 @@
-"""Whole programs and suites in trees: their working directory, their temporary files, and directories of the disk as these are now.
+"""Whole programs and suites in trees: their working directory, their temporary files, and directories of the disk, as these are now or as overlays.
 
 Nothing of what they change there comes to the disk.
 """
@@ -34,13 +34,14 @@ LEFT_OUT = frozenset(
 
 
 class Inside:
-    """Lets a program work in trees, within `with`: in an empty directory, if it has none of its own in `at`.
+    """Lets a program work in trees, within `with`: in an empty directory, if it has none of its own in `at` or `overlays`.
 
-    What `at` names are directories of the disk: each is a tree of its own, which begins as what is there.
+    What these name are directories of the disk. Each is a tree of its own: one of `at` begins as what is there, and one of `overlays` reads
+    there what is asked for.
     """
 
-    def __init__(self, at: Sequence[StrPath] = ()) -> None:
-        self._at = [os.path.abspath(path) for path in at]
+    def __init__(self, at: Sequence[StrPath] = (), overlays: Sequence[StrPath] = ()) -> None:
+        self._at, self._overlays = ([os.path.abspath(path) for path in those] for those in (at, overlays))
         #: The trees, by the directories at which they stand.
         self.trees: Dict[str, Tree] = {}
         self._patches: Dict[str, patch] = {}
@@ -53,22 +54,32 @@ class Inside:
         loaded = {path: _tree_of(path) for path in self._at}
         with contextlib.ExitStack() as ends:
             for path, tree in {str(self.home): Tree(), **loaded}.items():
-                self.trees[path] = tree
-                self._patches[path] = ends.enter_context(patch(tree, path, processes=True))
+                self._enter(ends, path, patch(tree, path, processes=True))
+            for path in self._overlays:
+                self._enter(ends, path, patch(overlay=path, processes=True))
             ends.callback(setattr, tempfile, "tempdir", temporary)
             ends.callback(os.chdir, before)
             for name in ("tmp", "work"):
                 os.mkdir(self.home / name, 0o700)
             tempfile.tempdir = str(self.home / "tmp")
-            os.chdir(before if any(_is_below(before, path) for path in self._at) else self.home / "work")
+            stays = any(_is_below(before, path) for path in (*self._at, *self._overlays))
+            os.chdir(before if stays else self.home / "work")
             self._ends = ends.pop_all()
         return self
+
+    def _enter(self, ends: contextlib.ExitStack, path: str, one: patch) -> None:
+        self.trees[path], self._patches[path] = one.tree, one
+        ends.enter_context(one)
 
     def __exit__(self, *error: object) -> None:
         self._ends.close()
         for path, tree in self.trees.items():
             if path == str(self.home):
                 tree.close()
+
+    def copy_up(self, path: str) -> None:
+        """Lets the tree at a path have all that an overlay has on the disk."""
+        self._patches[path].copy_up()
 
     @contextlib.contextmanager
     def aside(self) -> Iterator[None]:

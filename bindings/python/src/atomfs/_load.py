@@ -97,7 +97,7 @@ def restore(tree: Tree, snapshot: Snapshot) -> None:
         raise ValueError(f"the snapshot is by {snapshot.limits}, and the tree by {tree.limits}")
     if len(snapshot) > tree.limit:
         raise error_at(tree, Status.FULL, ("/",))
-    with tree.lock:
+    with tree.lock, tree._without_overlay():
         now = tree.tree()
         tree._none_under_way()
         if now != snapshot.text:

@@ -8,7 +8,7 @@ from __future__ import annotations
 import os
 import stat
 import time
-from typing import TYPE_CHECKING, Callable, Dict, List, Optional, Tuple
+from typing import TYPE_CHECKING, Callable, Dict, List, NamedTuple, Optional, Tuple
 
 from ._calls import extension
 from ._errors import AnyPath
@@ -33,6 +33,14 @@ BLOCK = 4_096
 _user, _group = os.geteuid, os.getegid
 
 
+class Lower(NamedTuple):
+    """What of a node is on the disk still, below an overlay: the names in a directory, or the bytes of a file."""
+
+    path: str
+    #: How many bytes the disk said that there are, once it was asked.
+    size: Optional[int] = None
+
+
 class Inode:
     """What is kept of one node. Of a directory it has those entries of which something is known."""
 
@@ -47,6 +55,7 @@ class Inode:
         "links",
         "target",
         "attributes",
+        "lower",
         "entries",
         "_told",
         "__weakref__",
@@ -60,6 +69,7 @@ class Inode:
         self.target: Optional[str] = None
         #: Extended attributes, where it has some: never changed in place.
         self.attributes: Optional[Dict[str, bytes]] = None
+        self.lower: Optional[Lower] = None
         self.entries: Optional[Dict[str, Inode]] = {} if stat.S_ISDIR(mode) else None
         # What was answered last, and of what.
         self._told: Optional[Tuple[Tuple[int, ...], os.stat_result]] = None
@@ -139,6 +149,8 @@ class Metadata:
         self.mask = 0o022
         #: How many symbolic links there are.
         self.links = 0
+        #: The directory of the disk that an overlay has put below the tree last.
+        self.lower: Optional[str] = None
         self._number = 1
         # Of what was there before, this is known alone.
         self._born = time.time_ns()
@@ -157,7 +169,7 @@ class Metadata:
         """Another of the same, for another tree; its clock is that of the system."""
         made = Metadata()
         made.mask, made.links, made._number, made._born = self.mask, self.links, self._number, self._born
-        made.root = self.root.copied()
+        made.lower, made.root = self.lower, self.root.copied()
         return made
 
     # A tree may be as deep as no pickle goes: what is pickled is a list.
@@ -170,14 +182,19 @@ class Metadata:
             rows.append((above, name, tuple(getattr(one, word) for word in _WORDS)))
             at = len(rows) - 1
             waiting += [(at, below, other) for below, other in (one.entries or {}).items()]
-        return self.mask, self.links, self._number, self._born, rows
+        return self.mask, self.links, self._number, self._born, rows, self.lower
 
-    def __setstate__(self, state: Tuple[int, int, int, int, List[Tuple[int, str, Tuple[object, ...]]]]) -> None:
+    def __setstate__(
+        self, state: Tuple[int, int, int, int, List[Tuple[int, str, Tuple[object, ...]]], Optional[str]]
+    ) -> None:
         self.clock = time.time_ns
-        self.mask, self.links, self._number, self._born, rows = state
+        self.mask, self.links, self._number, self._born, rows = state[:5]
+        # What an older package has pickled knows nothing of overlays.
+        self.lower = state[5] if len(state) > 5 else None
         made: List[Inode] = []
         for above, name, words in rows:
             one = Inode.__new__(Inode)
+            one.lower = None
             for word, value in zip(_WORDS, words):
                 setattr(one, word, value)
             one.entries, one._told = {} if stat.S_ISDIR(one.mode) else None, None

@@ -61,6 +61,8 @@ class Mirror:
             if not self.users:
                 self._make()
             try:
+                if self._tree._overlay is not None:
+                    self._tree._overlay.all_below("/")
                 self._push()
             except BaseException:
                 if not self.users:

@@ -29,6 +29,7 @@ from ._mapping import Mapped
 from ._metadata import Clock, Metadata, metadata_of
 from ._mirror import Mirror
 from ._of_c import OfC
+from ._overlay import Overlay
 from ._places import Place, Places
 from ._processes import Processes, number_of
 from ._sandbox import Sandbox, entries_as, flags_of
@@ -40,6 +41,8 @@ _FileIO = io.FileIO
 _BYTES_LIKE = bytearray, memoryview
 # What `open` says where a path is given, whose descriptor nobody else has.
 _KEPT_OPEN = "Cannot use closefd=False with file name"
+# Where a tree stands if nothing else is said.
+_AT = "/sandbox"
 # The last of the descriptors that each process has.
 _STANDARD = 2
 # Modules of Python whose classes and defaults of arguments have functions, in some version; those of others are looked through.
@@ -66,6 +69,10 @@ class patch(OfC, contextlib.ContextDecorator):
     of a process of root, as tests in containers are, and so a suite behaves the same for every user. `clock` is what answers the time,
     in nanoseconds since 1970. With `processes` a program of the disk may work in the tree: while it runs, a real directory at `at` is
     as the tree, and what it has changed comes back once it has ended.
+
+    `overlay` is a directory of the disk whose files are read there until they are changed: names, sizes and bytes come to the tree when
+    they are asked for, and every change stays in the tree. The tree stands at that directory, if no `at` is given. A directory that is not
+    there is a `FileNotFoundError` where the patch begins.
     """
 
     covered: Tuple[str, ...] = _table.COVERED
@@ -74,13 +81,15 @@ class patch(OfC, contextlib.ContextDecorator):
     def __init__(
         self,
         tree: Optional[Tree] = None,
-        at: Union[str, "os.PathLike[str]"] = "/sandbox",
+        at: Union[None, str, "os.PathLike[str]"] = None,
         *,
+        overlay: Union[None, str, "os.PathLike[str]"] = None,
         enforce: bool = False,
         clock: Clock = time.time_ns,
         processes: bool = False,
     ) -> None:
-        path = os.path.abspath(os.fspath(at))
+        lower = None if overlay is None else os.path.abspath(os.fspath(overlay))
+        path = os.path.abspath(os.fspath(at)) if at is not None else lower or _AT
         if not isinstance(path, str) or path.strip("/") == "":
             raise ValueError("a tree stands at a directory below the root")
         #: The tree: a new one, where none was given.
@@ -88,6 +97,9 @@ class patch(OfC, contextlib.ContextDecorator):
         self._enforce, self._clock, self._with_processes = enforce, clock, processes
         #: The directory at which the tree stands.
         self.at = pathlib.Path(path)
+        #: The directory of the disk that is read below the tree.
+        self.overlay = None if lower is None else pathlib.Path(lower)
+        self._overlay: Optional[Overlay] = None
         self._active = False
         # The classes of file objects that may be of the tree, by those that are made of `io.FileIO`.
         self._twins: Dict[type, type] = {}
@@ -107,7 +119,9 @@ class patch(OfC, contextlib.ContextDecorator):
         os.umask(mask)
         self._metadata().begin(self._clock, mask)
         self._files = Descriptors(self.tree)
-        self._places = Places(str(self.at), self._real, self._files, self._metadata)
+        if self.overlay is not None:
+            self._overlay = Overlay(self.tree, str(self.overlay), self._real)
+        self._places = Places(str(self.at), self._real, self._files, self._metadata, self._overlay)
         self._sandbox = Sandbox(self.tree, self._files, self._places, self._real, self._metadata)
         self._sandbox.enforce = self._enforce
         self._mirror = Mirror(self.tree, str(self.at), self._files, self._real) if self._with_processes else None
@@ -115,6 +129,8 @@ class patch(OfC, contextlib.ContextDecorator):
         self._door = Door(self, self._files, self._places)
         own = self._own()
         news = {name: self._made(name, real, own) for name, real in self._real.items()}
+        if self._overlay is not None:
+            self._overlay.begin()
         self._active = True
         try:
             self._replace([(real, news[name]) for name, real in self._real.items()])
@@ -132,6 +148,8 @@ class patch(OfC, contextlib.ContextDecorator):
             self._mirror.close()
         self._files.work_in(None, back=True)
         imports_again(str(self.at))
+        if self._overlay is not None:
+            self._overlay.end()
         self._metadata().begin(time.time_ns, self._metadata().mask)
 
     def __repr__(self) -> str:
@@ -139,6 +157,19 @@ class patch(OfC, contextlib.ContextDecorator):
 
     def __fspath__(self) -> str:
         return str(self.at)
+
+    def copy_up(self, path: Union[str, "os.PathLike[str]"] = "") -> None:
+        """Brings all that an overlay has at a path and below it into the tree now, or all that it has: then `tree.snapshot` has it too.
+
+        Raises `RuntimeError` if the patch has not begun, `ValueError` if the path is none of the tree, and `OSError` for what can't be read.
+        """
+        if not self._active:
+            raise RuntimeError("this patch is not there")
+        place = self._places.of(path or str(self.at))
+        if place.inside is None:
+            raise ValueError(f"{os.fspath(path)!r} is not below {str(self.at)!r}")
+        if self._overlay is not None:
+            self._overlay.all_below(place.inside)
 
     def _metadata(self) -> Metadata:
         return self.tree._metadata or metadata_of(self.tree)

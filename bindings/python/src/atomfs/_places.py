@@ -5,10 +5,13 @@ import errno
 import os
 import posixpath
 import re
-from typing import Any, Callable, Dict, List, NamedTuple, Optional, Set, Tuple
+from typing import TYPE_CHECKING, Any, Callable, Dict, List, NamedTuple, Optional, Set, Tuple
 
 from ._descriptors import Descriptors
 from ._metadata import Metadata
+
+if TYPE_CHECKING:
+    from ._overlay import Overlay
 
 Real = Dict[str, Callable[..., Any]]
 # How many links Linux follows in a path.
@@ -33,8 +36,17 @@ class Place(NamedTuple):
 class Places:
     """The paths below `at`, an absolute path of the disk, which need not be there. `real` has the functions of the disk."""
 
-    def __init__(self, at: str, real: Real, files: Descriptors, metadata: Callable[[], Metadata]) -> None:
+    def __init__(
+        self,
+        at: str,
+        real: Real,
+        files: Descriptors,
+        metadata: Callable[[], Metadata],
+        overlay: Optional[Overlay] = None,
+    ) -> None:
         self.at, self._real, self._files, self._metadata = at, real, files, metadata
+        #: What may have links that have not come to the tree yet.
+        self.overlay = overlay
         above, self._name = posixpath.split(at)
         self._roots = {at}
         # Directories of the disk that are no links, on the way to the tree.
@@ -71,8 +83,17 @@ class Places:
         for root in self._roots:
             if text.startswith(root):
                 rest = text[len(root) :]
-                return rest or "/" if not rest or (rest[0] == "/" and _PLAIN(rest)) else None
+                if rest and not (rest[0] == "/" and _PLAIN(rest)):
+                    return None
+                return rest or "/" if self.overlay is None or not self.has_links(rest) else None
         return None
+
+    def has_links(self, inside: str) -> bool:
+        """Whether there may be a link on the way to a path of the tree, or at its end."""
+        if self.overlay is not None:
+            with self._files.tree.lock:
+                self.overlay.way(inside)
+        return self._metadata().links > 0
 
     def outside(self, path: str) -> str:
         """The absolute path of one in the tree."""
@@ -93,7 +114,7 @@ class Places:
         if base is None or not text or not (self._shadows or moved or self._name in text or self._name in base):
             return Place(None, path)
         whole, asked = f"{base}/{text}", False
-        if self._shadows or ".." in text or self._metadata().links:
+        if self._shadows or ".." in text or self.overlay is not None or self._metadata().links:
             to_end = text.endswith("/.") or (text.endswith("/") if follow is None else follow)
             normal, through, asked = self.walked(whole, to_end)
             moved = moved or through
@@ -160,7 +181,7 @@ class Places:
         """Where the link at an absolute path without dots leads: none where no link is there."""
         inside = self.inside(at)
         if inside is not None:
-            inode = self._metadata().found(inside)
+            inode = self._metadata().found(inside) if self.has_links(inside) else None
             return inode.target if inode is not None else None
         if at in self._above:
             # Of these it is known.

@@ -213,7 +213,7 @@ class Sandbox(Attributes):
         return self.stat(Place(inside, inside))
 
     def _is_link(self, inside: str) -> bool:
-        if not self._metadata().links:
+        if not self._places.has_links(inside):
             return False
         inode = self._metadata().found(inside)
         return inode is not None and inode.target is not None
@@ -536,6 +536,8 @@ class Sandbox(Attributes):
         if mode.__class__ is not int:
             mode = _whole(mode)
         at = place.inside
+        if at is not None and self.tree._overlay is not None:
+            self.tree._overlay.opened(at, flags)
         if at is not None and not self.enforce and not place.of_directory:
             number = self._files.open_there(at, flags)
             if number is not None:

@@ -1,6 +1,7 @@
 """Trees, and seats on which calls are made step by step."""
 from __future__ import annotations
 
+import contextlib
 import ctypes
 import io
 import os
@@ -46,6 +47,7 @@ from ._values import NAME, Data, bytes_of, names_asked, number_of
 
 if TYPE_CHECKING:
     from ._calls import AnyCalls
+    from ._overlay import Overlay
 
 _Self = TypeVar("_Self", bound="Tree")
 Reply = Union[None, "Stat", List[str], bytes, int]
@@ -167,6 +169,8 @@ class Tree(Names):
         self._names: Dict[int, str] = {}
         # What a directory of the disk has besides, once the tree has stood at one.
         self._metadata: Optional[Metadata] = None
+        # What is read from the disk below it, while a patch has an overlay.
+        self._overlay: Optional[Overlay] = None
         if journal != ALL:
             self.keep(journal)
 
@@ -211,9 +215,22 @@ class Tree(Names):
     def _keep_beside(self, metadata: Optional[Metadata]) -> None:
         """Lets each change of the tree be told to what is kept of its nodes besides, or to nothing."""
         self._metadata = metadata
-        calls = calls_of(self, Stat, Step)
-        self._calls = calls if metadata is None else Noted(calls, metadata)
+        self._calls = calls = calls_of(self, Stat, Step)
+        if metadata is not None:
+            noted = Noted(calls, metadata)
+            self._calls = noted if self._overlay is None else self._overlay.over(noted, calls)
         self._called()
+
+    @contextlib.contextmanager
+    def _without_overlay(self) -> Iterator[None]:
+        """Lets calls go to the tree alone meanwhile. Its lock is held."""
+        overlay, self._overlay = self._overlay, None
+        self._keep_beside(self._metadata)
+        try:
+            yield
+        finally:
+            self._overlay = overlay
+            self._keep_beside(self._metadata)
 
     def _opened_again(self, opens: Callable[[int], int]) -> int:
         """Opens another handle, which comes in the place of that of a new tree. Where it stays closed, the tree is as before."""

@@ -15,8 +15,8 @@ picture and of a page that plays the calls: in the `tmp_path` of the test, or in
 `atomfs.explore`.
 
 `pytest --atomfs` runs tests that know nothing of this in trees: what is below `tmp_path`, temporary files, and the working directory, which
-begins empty. `--atomfs-at DIR` lets a directory of the disk be a tree besides, which begins as what is there; if the working directory is below, it
-stays. Each test's journals have to be lawful, and one that fails has its own beside the picture.
+begins empty. `--atomfs-at DIR` lets a directory of the disk be a tree besides, which begins as what is there. `--atomfs-overlay DIR` lets tests read
+a directory of the disk, and keeps every change of it in memory. If the working directory is below one of these, it stays. Each test's journals have to be lawful, and one that fails has its own beside the picture.
 """
 from __future__ import annotations
 
@@ -33,6 +33,7 @@ from typing import (
     Dict,
     Generator,
     Iterator,
+    List,
     Mapping,
     Optional,
     Tuple,
@@ -86,10 +87,20 @@ def pytest_addoption(parser: pytest.Parser) -> None:
         metavar="DIR",
         help="with --atomfs, let this directory of the disk be a tree too, which begins as what is there (again for more)",
     )
+    group.addoption(
+        "--atomfs-overlay",
+        action="append",
+        default=[],
+        metavar="DIR",
+        help="with --atomfs, read this directory of the disk, and keep each change of it in memory (again for more)",
+    )
 
 
 def pytest_configure(config: pytest.Config) -> None:
     config.addinivalue_line("markers", _MARK)
+    for path in config.getoption("atomfs_overlay"):
+        if not os.path.isdir(os.path.join(config.invocation_params.dir, path)):
+            raise pytest.UsageError(f"--atomfs-overlay: there is no directory {path}")
     if config.getoption("atomfs") and not config.getoption("collectonly"):
         config.pluginmanager.register(_InTrees(config), "atomfs-in-trees")
     loaded: Dict[Tuple[str, Optional[int], Limits], Snapshot] = {}
@@ -250,9 +261,7 @@ class _InTrees:
         self._folder = (
             factory.getbasetemp() if factory is not None else pathlib.Path(tempfile.mkdtemp(prefix="atomfs-"))
         )
-        with Inside(
-            [pathlib.Path(self._config.invocation_params.dir, path) for path in self._config.getoption("atomfs_at")]
-        ) as inside:
+        with Inside(*(self._paths(name) for name in ("atomfs_at", "atomfs_overlay"))) as inside:
             self._inside = inside
             was, capture.TemporaryFile = getattr(capture, "TemporaryFile", None), _scratch  # type: ignore[attr-defined]
             if factory is not None:
@@ -265,6 +274,10 @@ class _InTrees:
                 capture.TemporaryFile = was  # type: ignore[attr-defined]
                 if factory is not None:
                     factory._basetemp = self._folder
+
+    def _paths(self, option: str) -> List[pathlib.Path]:
+        """The directories that an option names."""
+        return [pathlib.Path(self._config.invocation_params.dir, path) for path in self._config.getoption(option)]
 
     @pytest.fixture(autouse=True)
     def _lawful(self) -> Iterator[None]:
