@@ -17,9 +17,10 @@ if TYPE_CHECKING:
     from . import _fast
     from ._metadata import Metadata
     from ._overlay import Overlaid
+    from ._pauses import Paused
     from ._tree import Stat, Step, Tree
 
-    AnyCalls = Union["ByCtypes", "Noted", Overlaid, _fast.Calls]
+    AnyCalls = Union["ByCtypes", "Noted", Overlaid, Paused, _fast.Calls]
 
 # What the extension calls.
 _FUNCTIONS = (

@@ -41,6 +41,7 @@ from ._metadata import Metadata
 from ._names import Names
 from ._page import Page
 from ._path import Path, class_of
+from ._pauses import Paused, Turns
 from ._texts import ROOM, Room, told, told_text
 from ._tools import Picture
 from ._values import NAME, Data, bytes_of, names_asked, number_of
@@ -119,6 +120,11 @@ class Tree(Names):
     for several calls. The calls of a thread are on a seat of its own, so the journal says which thread made each. Paths are absolute;
     those of `str` are UTF-8. `with` closes it.
 
+    Calls of threads come one after the other, unless `pauses` is a seed. Then a call lets the lock go between its events, and pauses after
+    some of them, as is drawn from the seed and the seat, so that calls of threads overlap. The same seed draws the same pauses, but the
+    system decides which calls meet: `explore` makes a run again. A thread that has `lock` makes whole calls, and finds none half-way; under
+    `atomfs.patch` all calls are whole.
+
     `room` is how many bytes a reply may have before the memory for replies grows. For example:
 
         with atomfs.Tree() as tree:
@@ -128,13 +134,21 @@ class Tree(Names):
 
     A call raises the `OSError` of its error, for example `FileNotFoundError`, and `OSError` with `EINVAL` or `ENAMETOOLONG` for what is no
     path. A method of a closed tree raises `ClosedError`. Where memory runs out it is `MemoryError`, and the tree is as before. A call that
-    needs a node which a call on another seat holds raises `WaitsError`. A limit of nodes that no tree has is a `ValueError`.
+    needs a node which a call on another seat holds raises `WaitsError`. A limit of nodes that no tree has, and a negative seed, is a `ValueError`.
     """
 
     def __init__(
-        self, limit: Optional[int] = None, *, limits: Limits = Limits.V3, room: int = ROOM, journal: Journal = ALL
+        self,
+        limit: Optional[int] = None,
+        *,
+        limits: Limits = Limits.V3,
+        room: int = ROOM,
+        journal: Journal = ALL,
+        pauses: Optional[int] = None,
     ) -> None:
-        self.lock = threading.RLock()
+        # The seed of the pauses, if calls have some.
+        self._seed = None if pauses is None else number_of(pauses, "seed")
+        self.lock: Union[threading.RLock, Turns] = threading.RLock() if pauses is None else Turns()
         # What keeps other threads off while a file or an entry and what is noted of it change together.
         self._door = self.lock
         self._handle = Handle()
@@ -163,7 +177,7 @@ class Tree(Names):
         self._nodes = ctypes.c_int64(1)
         # Whether a call was begun on a seat, of which any step may have made a node or taken one away.
         self._stepped = False
-        self._calls: AnyCalls = calls_of(self, Stat, Step)
+        self._calls: AnyCalls = self._new_calls()
         self._calls.on(self._handle, self._mine, self._standing, None, self._nodes)
         # The names of seats that have one.
         self._names: Dict[int, str] = {}
@@ -215,11 +229,18 @@ class Tree(Names):
     def _keep_beside(self, metadata: Optional[Metadata]) -> None:
         """Lets each change of the tree be told to what is kept of its nodes besides, or to nothing."""
         self._metadata = metadata
-        self._calls = calls = calls_of(self, Stat, Step)
-        if metadata is not None:
+        if metadata is None:
+            self._calls = self._new_calls()
+        else:
+            calls = calls_of(self, Stat, Step)
             noted = Noted(calls, metadata)
             self._calls = noted if self._overlay is None else self._overlay.over(noted, calls)
         self._called()
+
+    def _new_calls(self) -> AnyCalls:
+        """The calls of a tree beside which nothing is kept."""
+        calls = calls_of(self, Stat, Step)
+        return Paused(calls, self, self.lock, self._seed or 0) if isinstance(self.lock, Turns) else calls
 
     @contextlib.contextmanager
     def _without_overlay(self) -> Iterator[None]:
@@ -549,6 +570,10 @@ class Tree(Names):
             if not room.count.value:
                 return names
             names += _names(room.told())
+
+    def _own_seat(self) -> Seat:
+        """The seat of this thread's calls."""
+        return Seat(self, self._mine.number)
 
     # ---- What is made of these calls
 

@@ -48,12 +48,12 @@ class View(Tree):
         paths = (path,) if other is None or call is Call.LIST else (path, other)
         run, library, seat = me.run, self._library, me.seat
         run.turn(me)
-        self.lock.pass_by(me)  # type: ignore[attr-defined]
+        self.lock.pass_by(me)  # type: ignore[union-attr]
         request = Request(call, raw[0], len(raw[0]), second, len(second), offset, size, data, len(data))
         if status := library.begin_call(self._at, seat.number, ctypes.addressof(request), me.at_number):
             raise error_at(self, status, paths)
         seat._began(call, me.number.value, paths)
-        at = run.began(me, call, given_of(call, raw, offset, size, data), me.number.value, self._door.owner is me)  # type: ignore[attr-defined]
+        at = run.began(me, call, given_of(call, raw, offset, size, data), me.number.value, self._door.owner is me)  # type: ignore[union-attr]
         events, name, did = run.events, me.name, me.did
         events.append((name, at))
         held = False
