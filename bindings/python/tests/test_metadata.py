@@ -1,4 +1,4 @@
-"""What `atomfs.patch` keeps beside a tree: permissions, owners, times, numbers of nodes and symbolic links."""
+"""What `atomfs.patch` keeps beside a tree: permissions, owners, times, numbers of nodes, symbolic links and pipes."""
 import copy
 import errno
 import io
@@ -241,6 +241,103 @@ class Nodes(OfPatch):
             with copy.copy(self.tree) as other, pickle.loads(pickle.dumps(self.tree)) as another:
                 self.assertEqual((len(other), len(another)), (len(self.tree),) * 2)
             self.assertFalse(os.path.exists(path))
+
+
+class Pipes(OfPatch):
+    def test_pipes(self):
+        """Each row does the same on the disk."""
+        for at, row in enumerate(
+            (
+                lambda at: (os.mkfifo(f"{at}/p"), oct(os.stat(f"{at}/p").st_mode), os.stat(f"{at}/p").st_size),
+                lambda at: (os.mkfifo(f"{at}/p", 0o400), oct(os.lstat(f"{at}/p").st_mode)),
+                lambda at: (os.mknod(f"{at}/p", stat.S_IFIFO | 0o600), oct(os.stat(f"{at}/p").st_mode)),
+                lambda at: (
+                    pathlib.Path(os.mkfifo(f"{at}/p") or f"{at}/p").is_fifo(),
+                    pathlib.Path(at, "p").is_file(),
+                    pathlib.Path(at, "f").is_fifo(),
+                    os.path.isfile(f"{at}/p"),
+                    os.path.exists(f"{at}/p"),
+                ),
+                lambda at: (
+                    os.mkfifo(f"{at}/p"),
+                    sorted(
+                        (one.name, one.is_file(), one.is_dir(), one.is_symlink(), oct(one.stat().st_mode))
+                        for one in os.scandir(at)
+                    ),
+                ),
+                lambda at: (os.mkfifo(f"{at}/p"), os.chmod(f"{at}/p", 0o640), oct(os.stat(f"{at}/p").st_mode)),
+                lambda at: (
+                    os.mkfifo(f"{at}/p"),
+                    os.rename(f"{at}/p", f"{at}/d/q"),
+                    oct(os.stat(f"{at}/d/q").st_mode),
+                    os.symlink("d/q", f"{at}/l"),
+                    oct(os.stat(f"{at}/l").st_mode),
+                    [one.is_file() for one in os.scandir(at) if one.name == "l"],
+                ),
+                lambda at: (os.mkfifo(f"{at}/p"), os.unlink(f"{at}/p"), written(f"{at}/p"), text_of(f"{at}/p")),
+                lambda at: (os.mkfifo(f"{at}/p"), os.replace(f"{at}/f", f"{at}/p"), oct(os.stat(f"{at}/p").st_mode)),
+                lambda at: (os.mkfifo(f"{at}/p"), os.mkfifo(f"{at}/p")),
+                lambda at: os.mkfifo(f"{at}/f"),
+                lambda at: os.mkfifo(f"{at}/none/p"),
+                lambda at: os.mkfifo(f"{at}/f/p"),
+                lambda at: (os.mkfifo(f"{at}/p"), os.listdir(f"{at}/p")),
+                lambda at: (os.mkfifo(f"{at}/p"), os.truncate(f"{at}/p", 0)),
+                lambda at: (os.mkfifo(f"{at}/p"), os.open(f"{at}/p", os.O_WRONLY | os.O_NONBLOCK)),
+                lambda at: (os.mkfifo(f"{at}/p"), os.open(f"{at}/p", os.O_WRONLY | os.O_CREAT | os.O_EXCL)),
+                lambda at: (os.mkfifo(f"{at}/p"), os.open(f"{at}/p", os.O_RDONLY | os.O_DIRECTORY)),
+                lambda at: (
+                    os.mkfifo(f"{at}/d/p"),
+                    shutil.rmtree(f"{at}/d"),
+                    os.mkdir(f"{at}/d"),
+                    os.listdir(f"{at}/d"),
+                ),
+            )
+        ):
+            with self.subTest(at):
+                self.compare(row)
+
+    def test_no_copy(self):
+        """`shutil` copies no pipe, and says so."""
+        with atomfs.patch(self.tree, at=AT):
+            filled(AT)
+            os.mkfifo(f"{AT}/d/p")
+            with self.assertRaisesRegex(shutil.SpecialFileError, "is a named pipe"):
+                shutil.copyfile(f"{AT}/d/p", f"{AT}/q")
+            with self.assertRaisesRegex(shutil.Error, "is a named pipe"):
+                shutil.copytree(f"{AT}/d", f"{AT}/e")
+
+    def test_no_bytes(self):
+        """Whoever opens one is refused as by Linux where nobody reads, and no entry of the journal says that it was emptied."""
+        with atomfs.patch(self.tree, at=AT):
+            os.mkfifo(f"{AT}/p")
+            before = self.tree.calls
+            for mode in ("r", "w", "a", "r+"):
+                self.assertEqual(number_of(open, f"{AT}/p", mode), errno.ENXIO)
+            self.assertEqual(number_of(pathlib.Path(AT, "p").read_text), errno.ENXIO)
+            self.assertFalse([one for one in self.tree.last_calls(self.tree.calls - before) if "truncate" in one])
+
+    def test_kept(self):
+        """Copies, snapshots and pickles have it, and a directory that is made of the tree."""
+        with tempfile.TemporaryDirectory() as disk, atomfs.patch(self.tree, at=AT):
+            os.mkfifo(f"{AT}/p", 0o600)
+            for other in (copy.copy(self.tree), pickle.loads(pickle.dumps(self.tree))):
+                with other, atomfs.patch(other, at=f"{AT}2"):
+                    self.assertEqual(oct(os.stat(f"{AT}2/p").st_mode), "0o10600")
+            self.tree.to_directory(f"{disk}/out")
+            self.assertEqual(oct(os.stat(f"{disk}/out/p").st_mode), "0o10600")
+            snapshot = self.tree.snapshot()
+            os.unlink(f"{AT}/p")
+            written(f"{AT}/p")
+            self.assertEqual(text_of(f"{AT}/p"), "text")
+            self.tree.restore(snapshot)
+            self.assertTrue(stat.S_ISFIFO(os.stat(f"{AT}/p").st_mode))
+
+    def test_devices(self):
+        """A tree has none, and neither has it sockets."""
+        with atomfs.patch(self.tree, at=AT):
+            for kind in (stat.S_IFCHR, stat.S_IFBLK, stat.S_IFSOCK):
+                self.assertEqual(number_of(os.mknod, f"{AT}/p", kind | 0o600), errno.EPERM)
+            self.assertEqual(os.listdir(AT), [])
 
 
 class Links(OfPatch):

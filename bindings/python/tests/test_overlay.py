@@ -363,7 +363,7 @@ class Refused(OfOverlay):
                 for mode in ("r", "w", "a", "r+"):
                     self.fails(errno.ENXIO, open, f"{self.at}/{name}", mode)
                 self.assertRaises(OSError, self.tree.read, f"/{name}")
-                self.fails(errno.ENXIO, os.truncate, f"{self.at}/{name}", 0)
+                self.fails(errno.EINVAL, os.truncate, f"{self.at}/{name}", 0)
             patched.copy_up()
             os.rename(f"{self.at}/pipe", f"{self.at}/a/pipe")
             self.fails(errno.ENXIO, open, f"{self.at}/a/pipe")

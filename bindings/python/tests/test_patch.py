@@ -515,6 +515,7 @@ ROWS = {
     "os.getcwdb": in_folder(lambda at: os.getcwdb()),
     "os.fchdir": in_folder(lambda at: (with_descriptor(lambda number: os.fchdir(number), 0, "d/e")(at), os.getcwd())),
     "os.mkdir": changed(lambda at: (os.mkdir(f"{at}/n"), os.mkdir(f"{at}/n/m/", 0o700), os.mkdir(path=f"{at}/k"))),
+    "os.mkfifo": lambda at: (os.mkfifo(f"{at}/p"), oct(os.stat(f"{at}/p").st_mode)),
     "os.mknod": changed(lambda at: os.mknod(f"{at}/n", stat.S_IFREG | 0o600)),
     "os.unlink": changed(lambda at: os.unlink(f"{at}/f")),
     "os.remove": changed(lambda at: os.remove(f"{at}/d/g")),
@@ -692,7 +693,6 @@ ROWS = {
 REFUSALS = {
     "os.chroot": lambda at: os.chroot(f"{at}/d"),
     "os.link": lambda at: os.link(f"{at}/f", f"{at}/l"),
-    "os.mkfifo": lambda at: os.mkfifo(f"{at}/p"),
     "os.execv": lambda at: os.execv(f"{at}/f", ["f"]),
     "os.execve": lambda at: os.execve(f"{at}/f", ["f"], {}),
     "os.posix_spawn": lambda at: os.posix_spawn(f"{at}/f", ["f"], {}),
@@ -793,7 +793,7 @@ class Table(OfPatch):
                 before = self.tree.tree()
                 with self.assertRaises(OSError) as raised:
                     call(AT)
-                number = errno.EPERM if name in ("os.link", "os.mkfifo", "socket.socket.bind") else errno.ENOTSUP
+                number = errno.EPERM if name in ("os.link", "socket.socket.bind") else errno.ENOTSUP
                 self.assertEqual((raised.exception.errno, self.tree.tree()), (number, before))
                 self.assertIn(f": a tree {atomfs.patch.refused[name]}", str(raised.exception))
 

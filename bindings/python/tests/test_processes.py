@@ -74,6 +74,22 @@ class Mirrored(OfPatch):
         self.assertEqual((os.readlink(f"{AT}/k"), oct(os.stat(f"{AT}/f").st_mode)), ("n/m", oct(stat.S_IFREG | 0o700)))
         self.assertFalse(self.seen())
 
+    def test_pipes(self):
+        """A program sees the pipes of the tree, and the tree those that it made; what has become another kind is so on both sides."""
+        os.mkfifo(f"{AT}/p", 0o640)
+        told = by_shell("stat -c '%F %a' p; rm f; mkfifo -m 600 f q; rm -r d/e; echo e > d/e", cwd=AT)
+        self.assertEqual(told, "fifo 640\n")
+        self.assertEqual(
+            [oct(os.stat(f"{AT}/{name}").st_mode) for name in ("p", "f", "q")], ["0o10640", "0o10600", "0o10600"]
+        )
+        self.assertEqual(text_of(f"{AT}/d/e"), "e\n")
+        for name in ("f", "q"):
+            os.unlink(f"{AT}/{name}")
+        os.mkdir(f"{AT}/q")
+        os.unlink(f"{AT}/d/e")
+        os.mkfifo(f"{AT}/d/e")
+        self.assertEqual(by_shell("stat -c %F q d/e p", cwd=AT), "directory\nfifo\nfifo\n")
+
     def test_files(self):
         """Files of the tree as what a program reads and writes."""
         with open(f"{AT}/f") as source, open(f"{AT}/out", "w") as target, tempfile.TemporaryFile(dir=AT) as errors:

@@ -320,6 +320,8 @@ def to_directory(tree: Tree, top: StrPath, exist_ok: bool, above: str = "") -> N
             os.makedirs(below + path, exist_ok=exist_ok)
         elif inode is not None and inode.target is not None:
             os.symlink(os.fsencode(inode.target), below + path)
+        elif inode is not None and inode.is_pipe:
+            os.mkfifo(below + path)
         else:
             with open(below + path, "wb" if exist_ok else "xb") as file:
                 file.write(data)

@@ -1,4 +1,4 @@
-"""What a directory of the disk has besides names and bytes: permissions, owners, times, numbers of nodes, and symbolic links.
+"""What a directory of the disk has besides names and bytes: permissions, owners, times, numbers of nodes, symbolic links and pipes.
 
 A tree has none of these. They are kept beside it, in Python, once the tree has stood at a directory of the disk, and nothing of it is proved.
 Each node has one `Inode`: it moves with the node, goes away with it, and stands in snapshots, copies and pickles.
@@ -74,6 +74,15 @@ class Inode:
         # What was answered last, and of what.
         self._told: Optional[Tuple[Tuple[int, ...], os.stat_result]] = None
 
+    @property
+    def is_pipe(self) -> bool:
+        return stat.S_ISFIFO(self.mode)
+
+    @property
+    def is_marked(self) -> bool:
+        """Whether the door shows this file of the tree as something else: a symbolic link, a pipe, or a socket or device of an overlay."""
+        return not (stat.S_ISREG(self.mode) or stat.S_ISDIR(self.mode))
+
     def wrote(self, now: int) -> None:
         """Its bytes or its entries have changed."""
         self.modified = self.changed = now
@@ -147,7 +156,7 @@ class Metadata:
         self.clock: Clock = time.time_ns
         #: The bits that a new node does not get.
         self.mask = 0o022
-        #: How many symbolic links there are.
+        #: How many symbolic links, pipes and so on there are: files of the tree that the door shows as something else.
         self.links = 0
         #: The directory of the disk that an overlay has put below the tree last.
         self.lower: Optional[str] = None
@@ -255,13 +264,13 @@ class Metadata:
     def _gone(self, one: Inode) -> None:
         """A node went away, and so did all below it that was known."""
         one.links = 0
-        if one.target is not None:
+        if one.is_marked:
             self.links -= 1
         if not one.entries:
             return
         for below in list(one.entries.values()):
             # What was changed past the door alone has something below it.
-            self.links -= sum(link.target is not None for link in _all_of(below))
+            self.links -= sum(other.is_marked for other in _all_of(below))
 
     # ---- What calls of the tree do
 

@@ -21,6 +21,7 @@ if TYPE_CHECKING:
 
 Real = Dict[str, Callable[..., Any]]
 _PIECE = 1 << 20
+_kind = stat.S_IFMT
 
 
 class Seen(NamedTuple):
@@ -172,10 +173,12 @@ class Mirror:
     def _push(self) -> None:
         metadata = metadata_of(self._tree)
         rows = {_rows.told(path): data for path, data in _rows.rows_of(self._tree.tree())[1:]}
-        for path in [path for path in reversed(self._seen) if path not in rows]:
-            with contextlib.suppress(OSError):
-                self._real["os.rmdir" if stat.S_ISDIR(self._seen[path].mode) else "os.unlink"](self._at + path)
         was, self._seen = self._seen, {}
+        for path in list(reversed(was)):
+            if path not in rows or _kind(was[path].mode) != _kind(metadata.of(path, rows[path] is None).mode):
+                gone = was.pop(path)
+                with contextlib.suppress(OSError):
+                    self._real["os.rmdir" if stat.S_ISDIR(gone.mode) else "os.unlink"](self._at + path)
         for path, data in rows.items():
             inode = metadata.of(path, data is None)
             if path not in was or (data is not None and self._differs(path, data, inode)):
@@ -185,8 +188,8 @@ class Mirror:
             self._seen[path] = Seen.of(self._real["os.lstat"](self._at + path))
 
     def _differs(self, path: str, data: bytes, inode: Inode) -> bool:
-        if inode.target is not None:
-            return True
+        if inode.is_marked:
+            return inode.target is not None
         return self._bytes_of(path) != data
 
     def _put(self, path: str, data: Optional[bytes], inode: Inode) -> None:
@@ -197,6 +200,8 @@ class Mirror:
             with contextlib.suppress(FileNotFoundError):
                 self._real["os.unlink"](at)
             self._real["os.symlink"](inode.target, at)
+        elif inode.is_pipe:
+            self._real["os.mkfifo"](at, 0o600)
         else:
             number: int = self._real["os.open"](at, os.O_WRONLY | os.O_CREAT | os.O_TRUNC | os.O_NOFOLLOW, 0o600)
             try:
@@ -221,11 +226,11 @@ class Mirror:
     def _pull(self) -> None:
         now = dict(self._below())
         for path in reversed(self._seen):
-            if path not in now or stat.S_IFMT(now[path].mode) != stat.S_IFMT(self._seen[path].mode):
+            if path not in now or _kind(now[path].mode) != _kind(self._seen[path].mode):
                 self._take_away(path, self._seen[path])
         for path, seen in now.items():
             was = self._seen.get(path)
-            if was != seen and stat.S_IFMT(seen.mode) in (stat.S_IFDIR, stat.S_IFREG, stat.S_IFLNK):
+            if was != seen and _kind(seen.mode) in (stat.S_IFDIR, stat.S_IFREG, stat.S_IFLNK, stat.S_IFIFO):
                 self._take(path, seen, was)
         self._seen = now
 
@@ -238,7 +243,7 @@ class Mirror:
 
     def _take(self, path: str, seen: Seen, was: Optional[Seen]) -> None:
         """Lets the tree have a node as the disk has it."""
-        metadata, kind = metadata_of(self._tree), stat.S_IFMT(seen.mode)
+        metadata, kind = metadata_of(self._tree), _kind(seen.mode)
         if not self._tree.exists(parent_of(path)):
             return
         if kind == stat.S_IFDIR:
@@ -246,6 +251,10 @@ class Mirror:
                 self._tree.mkdir(path)
         elif kind == stat.S_IFLNK:
             self._take_link(path)
+        elif kind == stat.S_IFIFO:
+            if not self._tree.exists(path):
+                self._tree.mknod(path)
+                metadata.links += 1
         elif was is None or was[1:] != seen[1:]:
             data = self._bytes_of(path)
             if not self._tree.is_file(path) or self._tree.read(path) != data:

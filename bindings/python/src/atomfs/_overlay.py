@@ -198,7 +198,7 @@ class Overlay:
         inode.mode = kind | stat.S_IMODE(inode.mode)
         if target is not None:
             inode.mode, inode.target = LINK, target
-            metadata.links += 1
+        metadata.links += inode.is_marked
 
     def _look(self, one: Inode, at: str, sizes: bool = True) -> bool:
         """Takes the permissions, owners, times and attributes of a node of the disk, and the size of a file. Whether more is to come."""

@@ -65,7 +65,7 @@ class patch(OfC, contextlib.ContextDecorator):
 
     `covered` names what goes to the tree, `refused` what raises `OSError` below `at`, and why.
 
-    Permissions, owners, times and symbolic links are kept beside the tree. Permissions are enforced with `enforce`: nobody asks them
+    Permissions, owners, times, symbolic links and pipes are kept beside the tree. Permissions are enforced with `enforce`: nobody asks them
     of a process of root, as tests in containers are, and so a suite behaves the same for every user. `clock` is what answers the time,
     in nanoseconds since 1970. With `processes` a program of the disk may work in the tree: while it runs, a real directory at `at` is
     as the tree, and what it has changed comes back once it has ended.

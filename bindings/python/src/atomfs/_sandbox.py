@@ -218,6 +218,11 @@ class Sandbox(Attributes):
         inode = self._metadata().found(inside)
         return inode is not None and inode.target is not None
 
+    def _special(self, inside: str) -> int:
+        """The kind of a file of the tree that is shown as something else, as in `st_mode`: 0 of any other."""
+        inode = self._metadata().found(inside) if self._metadata().links else None
+        return stat.S_IFMT(inode.mode) if inode is not None and inode.is_marked else 0
+
     def kind(self, inside: str, follow: bool) -> int:
         """The kind of what stands at a path of the tree, as in `st_mode`: 0 where nothing does."""
         if self._is_link(inside):
@@ -228,7 +233,7 @@ class Sandbox(Attributes):
             except FileNotFoundError:
                 return 0
         is_dir = _walk.kind(self.tree, inside)
-        return 0 if is_dir is None else stat.S_IFDIR if is_dir else stat.S_IFREG
+        return 0 if is_dir is None else stat.S_IFDIR if is_dir else self._special(inside) or stat.S_IFREG
 
     def access(self, place: Place, mode: int = os.F_OK, **named: Any) -> bool:
         """Whether something is there that the permissions let be read, written or run: all but the last is permitted anyway, if they are
@@ -326,14 +331,22 @@ class Sandbox(Attributes):
 
     @together
     def mknod(self, place: Place, mode: int = 0o600, device: int = 0, **named: Any) -> None:
-        if stat.S_IFMT(_whole(mode)) not in (0, stat.S_IFREG):
-            self._refused_entry("os.mkfifo", place)
+        kind = stat.S_IFMT(_whole(mode))
+        if kind == stat.S_IFIFO:
+            self._make_pipe(place, mode)
+            return
+        if kind not in (0, stat.S_IFREG):
+            self._refused_entry("os.mknod", place)
+        self._make_file(place)
+        self._made(place, stat.S_IFREG | mode & 0o7777)
+
+    def _make_file(self, place: Place) -> None:
+        """Makes a file of the tree without bytes."""
         if place.of_directory:
             self.go_to(place)
             failed(errno.EEXIST if self.tree.exists(_at(place)) else errno.ENOENT)
         self.check_above(place)
         self.tree.mknod(_at(place))
-        self._made(place, stat.S_IFREG | mode & 0o7777)
 
     def _made(self, place: Place, mode: int) -> None:
         """A node was made with these permissions."""
@@ -353,11 +366,7 @@ class Sandbox(Attributes):
             failed(errno.ENOENT)
         if "\0" in text:
             raise ValueError("embedded null byte")
-        if place.of_directory:
-            self.go_to(place)
-            failed(errno.EEXIST if self.tree.exists(_at(place)) else errno.ENOENT)
-        self.check_above(place)
-        self.tree.mknod(_at(place))
+        self._make_file(place)
         metadata = self._metadata()
         inode = metadata.of(_at(place), False)
         inode.mode, inode.target = LINK, text
@@ -369,8 +378,14 @@ class Sandbox(Attributes):
         self._refused_entry("os.link", new)
 
     @together
-    def mkfifo(self, place: Place, *given: Any, **named: Any) -> None:
-        self._refused_entry("os.mkfifo", place)
+    def mkfifo(self, place: Place, mode: int = 0o666, **named: Any) -> None:
+        """Makes a pipe with a name: it is listed, looked at, moved and removed, and who opens it is refused."""
+        self._make_pipe(place, _whole(mode))
+
+    def _make_pipe(self, place: Place, mode: int) -> None:
+        self._make_file(place)
+        self._made(place, stat.S_IFIFO | mode & 0o7777)
+        self._metadata().links += 1
 
     def _refused_entry(self, name: str, place: Place) -> NoReturn:
         """Says that there is something already, or that a tree has nothing of the kind."""
@@ -452,6 +467,8 @@ class Sandbox(Attributes):
         if length < 0:
             failed(errno.EINVAL, place.path)
         self.check(place, os.W_OK)
+        if self._special(_at(place)):
+            failed(errno.EINVAL, place.path)
         self.tree.truncate(_at(place), length)
 
     # ---- Permissions, owners and times
@@ -585,6 +602,9 @@ class Sandbox(Attributes):
             failed(errno.EISDIR, place.path)
         if not is_dir and flags & os.O_DIRECTORY:
             failed(errno.ENOTDIR, place.path)
+        if self._special(at):
+            # As Linux says of a pipe that nobody reads: no bytes go through a pipe of a tree.
+            failed(errno.ENXIO, place.path)
         if flags & os.O_TRUNC:
             self.tree.truncate(at, 0)
         return Description(self._files.named(at, is_dir), flags)

@@ -38,7 +38,7 @@ NAMES = {"os.lockf": "lock_section"}
 # Those that follow a link at the end of a path only where a slash is behind it.
 OF_LINKS = {"os.lstat", "os.readlink", "os.lchmod", "os.lchown", "os.lchflags"}
 # Those whose errors have no path.
-PATHLESS = {"os.mknod", "os.utime"}
+PATHLESS = {"os.mkfifo", "os.mknod", "os.utime"}
 # Those that start a program, which would work in a directory that the system does not know.
 EXECS, SPAWNS = ("os.execv", "os.execve"), ("os.posix_spawn", "os.posix_spawnp")
 # What says that a program has ended: nothing of it is of a tree.
@@ -90,7 +90,7 @@ REPLACED = (*OF_PATH, *OF_PATHS, *OF_DESCRIPTORS, *_OWN, *WAITS, *DATABASES, *TR
 _NO_PROGRAM = "is of this process, and no program sees it without patch(processes=True)"
 # What raises below the directory, and why: "a tree ..".
 REFUSED: Dict[str, str] = {
-    **{"os.link": "has no hard links", "os.mkfifo": "has no pipes and no devices"},
+    "os.link": "has no hard links",
     **dict.fromkeys(("os.chflags", "os.lchflags"), "keeps no flags"),
     **dict.fromkeys((*EXECS, *SPAWNS, "os.system", "os._spawnvef", "_posixsubprocess.fork_exec"), _NO_PROGRAM),
     **{"os.chroot": _NO_PROGRAM, "subprocess.Popen": _NO_PROGRAM},
@@ -100,13 +100,17 @@ REFUSED: Dict[str, str] = {
         ("sqlite3.connect", "sqlite3.Connection", *DATABASES), "has no files that a database opens by itself"
     ),
 }
+# What raises for some of its arguments.
+_REFUSED_IN_PART = {"os.mknod": "has no devices and no sockets"}
 # The numbers of these errors; that of all others is `ENOTSUP`.
-NUMBERS: Dict[str, int] = dict.fromkeys(("os.link", "os.mkfifo", "socket.socket.bind"), errno.EPERM)
+NUMBERS: Dict[str, int] = dict.fromkeys(("os.link", "os.mknod", "socket.socket.bind"), errno.EPERM)
 
 
 def refusal(name: str, *paths: Any) -> OSError:
     """The error of what is refused."""
-    return OSError(NUMBERS.get(name, errno.ENOTSUP), f"{name}: a tree {REFUSED[name]}", *paths)
+    return OSError(
+        NUMBERS.get(name, errno.ENOTSUP), f"{name}: a tree {REFUSED.get(name) or _REFUSED_IN_PART[name]}", *paths
+    )
 
 
 _PATHLIB = "exists is_dir is_file is_symlink is_mount stat lstat iterdir glob rglob mkdir rmdir touch unlink rename replace open"
