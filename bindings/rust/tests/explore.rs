@@ -5,7 +5,7 @@ use std::sync::atomic::{AtomicUsize, Ordering};
 use std::time::Duration;
 
 use atomfs::{
-    explore, explore_on, replay, Draws, Errno, Error, ErrorKind, Plan, ScheduleError, ScheduleFault, ThreadTree,
+    explore, explore_on, replay, Call, Draws, Errno, Error, ErrorKind, Plan, ScheduleError, ScheduleFault, ThreadTree,
 };
 
 const DRAWS: [Draws; 3] = [Draws::Both, Draws::Uniform, Draws::Pct { depth: 3 }];
@@ -437,6 +437,27 @@ fn a_function_that_catches_panics() {
         plan.check(|_, _| ());
     });
     assert!(fault.starts_with("thread b: dies ("), "{fault}");
+}
+
+/// What prepares the tree may die, and lets its lock go; so may the check, between the begin and the return of a call.
+#[test]
+fn before_and_check_that_die() {
+    let fault = fault_of(|plan: &mut Plan<'_, ()>| {
+        plan.before(|tree| {
+            let locked = Locked::of(tree);
+            assert!(locked.0.stat("/n").is_ok(), "nothing is there");
+        });
+        plan.thread("a", |tree| tree.mkdir("/a").unwrap()).check(|_, _| ());
+    });
+    assert!(fault.starts_with("thread before: nothing is there ("), "{fault}");
+    let fault = fault_of(|plan: &mut Plan<'_, ()>| {
+        plan.thread("a", |tree| tree.mkdir("/a").unwrap()).check(|tree, _| {
+            let seat = tree.seat().unwrap();
+            tree.begin(seat, &Call::mkdir("/b")).unwrap();
+            assert!(tree.step(seat).is_err(), "between begin and return");
+        });
+    });
+    assert!(fault.starts_with("between begin and return ("), "{fault}");
 }
 
 fn fault_of<R: Send + 'static>(plan: impl FnMut(&mut Plan<'_, R>)) -> String {
