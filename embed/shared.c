@@ -729,11 +729,11 @@ uint8_t atomfs_shared_finish(atomfs_shared *shared, uint64_t *count) {
         if (refused(status = atomfs_step_any(&shared->fs, &seat, &did, &about)) || did == ATOMFS_DID_IDLE) break;
         struct place *place = place_of_seat(shared, seat);
         if (place == NULL) continue;
+        /* It may have slept for a node that is free, since one at a time is woken for that. */
+        int slept = place->is_asleep;
+        if (slept) leave_bed(shared, place);
         note(shared, place, did, about);
-        if (place->is_asleep) {
-            leave_bed(shared, place);
-            wakes(shared, place);
-        }
+        if (slept) wakes(shared, place);
         go_on_with_left(shared);
     }
     let_go(shared, cancel);
