@@ -17,16 +17,16 @@ SCRIPTS = 200
 MOST = 20_000
 
 
-def text_of(*lines):
+def text_of(*lines: str) -> bytes:
     return "".join(f"{line}\n" for line in lines).encode()
 
 
-def script(*lines, version=1):
+def script(*lines: str, version: int = 1) -> bytes:
     """A script whose blocks and schedule are these lines."""
     return text_of(f"atomfs {version}", *lines)
 
 
-def under_way(call):
+def under_way(call: int) -> Outcome:
     return Outcome(1, b"", f"atomfs: call {call} under way\n".encode())
 
 
@@ -81,14 +81,14 @@ ROWS = {
 }  # fmt: skip
 
 
-def in_pieces(pieces, last_word=""):
+def in_pieces(pieces: list[list[str]], last_word: str = "") -> bytes:
     """A script of which each thread makes the calls of a piece."""
     blocks = [line for number, calls in enumerate(pieces) for line in (f"thread t{number}", *calls)]
     words = " !checkpoint ".join(f"t{number}*{MOST}" for number in range(len(pieces)))
     return script(*blocks, "schedule", f"{words} {last_word}".rstrip())
 
 
-def piece_text(pieces):
+def piece_text(pieces: list[list[str]]) -> bytes:
     """The text of its run, by the model."""
     tree = model.Tree()
     for calls in pieces[:-1]:
@@ -103,18 +103,18 @@ def piece_text(pieces):
     return text_of(*head, *entries, *tree.text(), f"begun {count} committed {count} returned {count}")
 
 
-def drawn_pieces(number):
+def drawn_pieces(number: int) -> list[list[str]]:
     """The calls of a few pieces, some of which have none."""
     draw = random.Random(f"pieces {number}")
     return [[drawn.crowded_call(draw) for _ in range(draw.choice((0, 1, 5, 30)))] for _ in range(draw.randint(2, 6))]
 
 
-def chain(name, names):
+def chain(name: str, names: int) -> list[str]:
     """The calls that make directories, each in the one before."""
     return [f"mkdir {('/' + name) * depth}" for depth in range(1, names + 1)]
 
 
-def deep():
+def deep() -> list[list[str]]:
     """A tree of 120 directories, each in the one before, made of two branches by a rename; behind it an empty directory."""
     return [
         [*chain("a", 60), *chain("b", 60), f"rename /b {'/a' * 60}/c", "mkdir /z"],
@@ -122,7 +122,7 @@ def deep():
     ]
 
 
-def full():
+def full() -> list[list[str]]:
     """A directory with as many entries as it may have, and a file with as many bytes."""
     return [
         [f"mknod /f{number}" for number in range(model.ENTRIES[1])] + [f"truncate /f9 {model.BYTES[1]}"],
@@ -131,15 +131,15 @@ def full():
 
 
 class Checkpoints(harness.Case):
-    def look(self, given, wanted):
+    def look(self, given: bytes, wanted: Outcome) -> None:
         self.same(given, run(given, "run"), harness.with_line(wanted, given))
         if wanted.output:
             self.same(wanted.output, run(wanted.output, "check"), Outcome(0, b"lawful\n"))
 
-    def test_rows(self):
+    def test_rows(self) -> None:
         self.each(((name, script(*lines), wanted) for name, (lines, wanted) in ROWS.items()), self.look)
 
-    def shown(self, given, wanted):
+    def shown(self, given: bytes, wanted: Outcome) -> None:
         """A trace and a picture have each checkpoint, and end as the run does; where that has no text they have none."""
         checkpoints = given.count(b"!checkpoint") if wanted.output else 0
         for words in (("trace",), ("trace", "--every"), ("draw",)):
@@ -156,10 +156,10 @@ class Checkpoints(harness.Case):
                 if words[0] == "trace":
                     self.same(given, came.output.partition(b"\ntree\n")[2], wanted.output.partition(b"\ntree\n")[2])
 
-    def test_rows_are_shown(self):
+    def test_rows_are_shown(self) -> None:
         self.each(((name, script(*lines), wanted) for name, (lines, wanted) in ROWS.items()), self.shown)
 
-    def test_second_version(self):
+    def test_second_version(self) -> None:
         """Each piece begins with its start tree, also where that is the root alone."""
         opening = "atomfs-journal 3", "start", "dir /"
         end = "begun 0 committed 0 returned 0"
@@ -179,19 +179,19 @@ class Checkpoints(harness.Case):
             ((name, script(*lines, version=2), Outcome(0, text_of(*wanted))) for name, lines, wanted in rows), self.look
         )
 
-    def test_drawn_pieces(self):
+    def test_drawn_pieces(self) -> None:
         """What is drawn has a stream of its own."""
         rows = ((f"script_{number}", drawn_pieces(number), ("", "finish")[number % 2]) for number in range(SCRIPTS))
         self.each(
             ((name, in_pieces(pieces, word), Outcome(0, piece_text(pieces))) for name, pieces, word in rows), self.look
         )
 
-    def test_large_trees(self):
+    def test_large_trees(self) -> None:
         self.each(
             ((tree.__name__, in_pieces(tree()), Outcome(0, piece_text(tree()))) for tree in (deep, full)), self.look
         )
 
-    def test_other_schedules(self):
+    def test_other_schedules(self) -> None:
         """They take no words, and so no checkpoint."""
         words = (("run", "--robin"), ("run", "--seed", "7"), ("seeds", "--seed", "7", "--runs", "3"), ("threads",))
         given, without = (script(*TWO_THREADS, "schedule", *word) for word in (("t*2", "!checkpoint"), ()))
@@ -200,7 +200,7 @@ class Checkpoints(harness.Case):
             lambda asked: self.same(given, run(given, *asked), run(without, *asked)),
         )
 
-    def test_a_million(self):
+    def test_a_million(self) -> None:
         """Where no call has begun since the last one, a checkpoint copies no tree."""
         harness.takes_a_process()
         pieces = deep()

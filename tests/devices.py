@@ -8,6 +8,7 @@ import resource
 import signal
 import tempfile
 import unittest
+from typing import Any, Callable, Sequence
 
 import harness
 from harness import DATA, ROOT, Case, Outcome, compiled, spawned, takes_a_process
@@ -15,7 +16,7 @@ from harness import DATA, ROOT, Case, Outcome, compiled, spawned, takes_a_proces
 ONE_CALL = DATA / "worked" / "runs" / "first_mkdir"
 SCRIPT, TEXT = (ONE_CALL.with_suffix(ending).read_bytes() for ending in (".script", ".text"))
 # Words, an input, and what is written.
-READING = (
+READING: tuple[tuple[tuple[str, ...], bytes, bytes], ...] = (
     (("run",), SCRIPT, TEXT),
     (("seeds", "--seed", "7", "--runs", "3"), SCRIPT, b"seed 7 lawful\nseed 8 lawful\nseed 9 lawful\n"),
     (("threads",), SCRIPT.replace(b"t*5", b"t*2"), b"lawful calls 1\n"),
@@ -49,40 +50,48 @@ PRINTING = (*WRITING, (("--help",), b"", (DATA / "help" / "atomfs").read_bytes()
 READ_FAILED, WRITE_FAILED = b"atomfs: read failed\n", b"atomfs: write failed\n"
 
 
-def setUpModule():
+def setUpModule() -> None:
     takes_a_process()
+
+
+def limited() -> None:
+    """Lets a process write files of five bytes, and ignore the signal of that limit."""
+    signal.signal(signal.SIGXFSZ, signal.SIG_IGN)
+    resource.setrlimit(resource.RLIMIT_FSIZE, (5, 5))
 
 
 class ByteByByte(Case):
     """Each read and each write moves one byte."""
 
+    devices: str
+
     @classmethod
-    def setUpClass(cls):
+    def setUpClass(cls) -> None:
         folder = tempfile.TemporaryDirectory()
         cls.addClassCleanup(folder.cleanup)
         cls.devices = compiled(folder.name, "devices.c")
 
-    def ends(self, words, given, wanted, **devices):
+    def ends(self, words: Sequence[str], given: bytes, wanted: Outcome, **devices: int | str) -> None:
         """The outcome over devices of which so many `READS` and `WRITES` go well."""
         named = {name: str(value) for name, value in devices.items()}
         came = spawned(words, given, env=os.environ | {"LD_PRELOAD": self.devices} | named)
         self.same(f"atomfs {' '.join(words)} with {named}\n{given.decode()}", came, wanted)
 
-    def well(self, words, given, written):
+    def well(self, words: Sequence[str], given: bytes, written: bytes) -> None:
         """One read for each byte and one for the end, and one write for each byte, are enough."""
         told = b"atomfs: seed 7\n" if words[0] == "find" else b""
         self.ends(words, given, Outcome(0, written, told), READS=len(given) + 1, WRITES=len(written))
 
-    def read_fails(self, words, given, good):
+    def read_fails(self, words: Sequence[str], given: bytes, good: int) -> None:
         self.ends(words, given, Outcome(5, b"", READ_FAILED), READS=good)
 
-    def write_fails(self, words, given, written, good):
+    def write_fails(self, words: Sequence[str], given: bytes, written: bytes, good: int) -> None:
         self.ends(words, given, Outcome(5, written[:good], WRITE_FAILED), WRITES=good)
 
-    def write_takes_nothing(self, words, given, written, good):
+    def write_takes_nothing(self, words: Sequence[str], given: bytes, written: bytes, good: int) -> None:
         self.ends(words, given, Outcome(5, written[:good], WRITE_FAILED), WRITES=good, TAKES_NOTHING="")
 
-    def of_each_write(self, look):
+    def of_each_write(self, look: Callable[[Sequence[str], bytes, bytes, int], None]) -> None:
         self.each(
             (
                 (f"{words[0]} {good}", words, given, written, good)
@@ -92,10 +101,10 @@ class ByteByByte(Case):
             look,
         )
 
-    def test_that_all_is_well(self):
+    def test_that_all_is_well(self) -> None:
         self.each(((words[0], words, given, written) for words, given, written in PRINTING), self.well)
 
-    def test_each_read_that_fails(self):
+    def test_each_read_that_fails(self) -> None:
         """The one at the end of the input too."""
         self.each(
             (
@@ -106,64 +115,60 @@ class ByteByByte(Case):
             self.read_fails,
         )
 
-    def test_each_write_that_fails(self):
+    def test_each_write_that_fails(self) -> None:
         self.of_each_write(self.write_fails)
 
-    def test_each_write_that_takes_nothing(self):
+    def test_each_write_that_takes_nothing(self) -> None:
         self.of_each_write(self.write_takes_nothing)
 
 
 class OfTheSystem(Case):
     """Devices as a system has them."""
 
-    def write_fails(self, words, given, **other):
+    def write_fails(self, words: Sequence[str], given: bytes, **other: Any) -> None:
         self.same(
             f"atomfs {' '.join(words)}\n{given.decode()}", spawned(words, given, **other), Outcome(5, b"", WRITE_FAILED)
         )
 
-    def read_fails(self, words, **other):
+    def read_fails(self, words: Sequence[str], **other: Any) -> None:
         self.same(f"atomfs {' '.join(words)}", spawned(words, None, **other), Outcome(5, b"", READ_FAILED))
 
-    def each_printing(self, **other):
+    def each_printing(self, **other: Any) -> None:
         self.each(
             ((words[0], words, given) for words, given, _ in PRINTING),
             lambda words, given: self.write_fails(words, given, **other),
         )
 
-    def each_reading(self, **other):
+    def each_reading(self, **other: Any) -> None:
         self.each(((words[0], words) for words, *_ in READING), lambda words: self.read_fails(words, **other))
 
-    def test_output_that_is_full(self):
+    def test_output_that_is_full(self) -> None:
         with open("/dev/full", "wb") as full:
             self.each_printing(stdout=full)
 
-    def test_output_that_is_closed(self):
+    def test_output_that_is_closed(self) -> None:
         self.each_printing(stdout=None, preexec_fn=lambda: os.close(1))
 
-    def test_output_that_nobody_reads(self):
+    def test_output_that_nobody_reads(self) -> None:
         reader, writer = os.pipe()
         os.close(reader)
         self.addCleanup(os.close, writer)
         self.each_printing(stdout=writer)
 
-    def test_a_limit_of_files(self):
+    def test_a_limit_of_files(self) -> None:
         """Where the signal of that limit is ignored, what fits is written."""
         for words, given, written in PRINTING:
             with tempfile.TemporaryFile() as file:
-                limited = lambda: (
-                    signal.signal(signal.SIGXFSZ, signal.SIG_IGN),
-                    resource.setrlimit(resource.RLIMIT_FSIZE, (5, 5)),
-                )
                 self.write_fails(words, given, stdout=file, preexec_fn=limited)
                 file.seek(0)
                 self.same(f"atomfs {' '.join(words)}", file.read(), written[:5])
 
-    def test_input_that_is_a_folder(self):
+    def test_input_that_is_a_folder(self) -> None:
         folder = os.open(ROOT, os.O_RDONLY)
         self.addCleanup(os.close, folder)
         self.each_reading(stdin=folder)
 
-    def test_input_that_is_closed(self):
+    def test_input_that_is_closed(self) -> None:
         self.each_reading(stdin=None, preexec_fn=lambda: os.close(0))
 
 

@@ -22,36 +22,45 @@ REPLY = b"a REPLY is that of a journal, or `failed` for any error"
 LINE = b"a LINE is `dir PATH` or `file PATH HEX`, as a tree text has it"
 
 
+# A call by its thread and its place there.
+Call = tuple[str, int]
+
+
 class Seen(typing.NamedTuple):
     """What a run showed: by the thread and the place of a call its reply, when it began, committed and returned, whether it was helped and whether it waited; and the lines of its tree."""
 
-    replies: dict
-    begins: dict
-    commits: dict
-    returns: dict
-    helped: set
-    waited: set
-    lines: set
+    replies: dict[Call, str]
+    begins: dict[Call, int]
+    commits: dict[Call, int]
+    returns: dict[Call, int]
+    helped: set[Call]
+    waited: set[Call]
+    lines: set[str]
 
 
 class Script(typing.NamedTuple):
     """The threads of a script with their calls, and its words."""
 
-    threads: dict
-    words: list
+    threads: dict[str, list[str]]
+    words: list[str]
 
-    def text(self):
+    def text(self) -> bytes:
         blocks = "".join(
             f"thread {name}\n" + "".join(f"{call}\n" for call in calls) for name, calls in self.threads.items()
         )
         return f"atomfs 1\n{blocks}schedule\n{' '.join(self.words)}\n".encode()
 
 
-def seen(names, text, trace):
+def seen(names: list[str], text: bytes, trace: bytes) -> Seen:
     """What a run of one piece showed by its run text and its trace."""
     lines = text.decode().splitlines()
     at = lines.index("tree")
-    calls, begun, replies, begins, commits, returns = {}, {}, {}, {}, {}, {}
+    calls: dict[str, Call] = {}
+    begun: dict[str, int] = {}
+    replies: dict[Call, str] = {}
+    begins: dict[Call, int] = {}
+    commits: dict[Call, int] = {}
+    returns: dict[Call, int] = {}
     for place, line in enumerate(lines[1:at]):
         kind, number, *rest = line.split()
         if kind == "begin":
@@ -69,12 +78,12 @@ def seen(names, text, trace):
     return Seen(replies, begins, commits, returns, helped, waited, set(lines[at + 1 : -1]))
 
 
-def call_of(word):
+def call_of(word: str) -> Call:
     name, place = word.split("#")
     return name, int(place)
 
 
-def holds(clause, run):
+def holds(clause: str, run: Seen) -> bool:
     """Whether a run has what a clause says."""
     words = clause.split()
     if words[0] == "not":
@@ -100,14 +109,14 @@ def holds(clause, run):
     raise ValueError(clause)
 
 
-def has(what, run):
+def has(what: str, run: Seen) -> bool:
     return all(holds(clause, run) for clause in what.split(" and "))
 
 
-def drawn_clause(draw, threads):
+def drawn_clause(draw: random.Random, threads: dict[str, list[str]]) -> str:
     """A clause about calls of these threads."""
 
-    def call():
+    def call() -> str:
         name = draw.choice([name for name in threads if threads[name]])
         return f"{name}#{draw.randint(1, len(threads[name]))}"
 
@@ -123,7 +132,7 @@ def drawn_clause(draw, threads):
     return clause if draw.randrange(4) else f"not {clause}"
 
 
-def drawn_script(draw):
+def drawn_script(draw: random.Random) -> tuple[Script, str]:
     """A small script, and something that a run of it may have."""
     if draw.randrange(2):
         calls = [[drawn.crowded_call(draw) for _ in range(draw.randint(1, 4))] for _ in range(3)]
@@ -135,7 +144,7 @@ def drawn_script(draw):
 
 
 class Finds(Case):
-    def look(self, number):
+    def look(self, number: int) -> None:
         draw = random.Random(number)
         script, what = drawn_script(draw)
         text, first, names = script.text(), draw.randrange(1000), list(script.threads)
@@ -152,18 +161,18 @@ class Finds(Case):
                 break
         self.same(f"atomfs find --where '{what}' --seed {first} --runs {SEEDS}\n{text.decode()}", came, wanted)
 
-    def test_first_seed(self):
+    def test_first_seed(self) -> None:
         self.each(((f"script_{number}", number) for number in range(rows_of(SCRIPTS))), self.look)
 
 
 class Words(Case):
-    def ends(self, words, given, wanted):
+    def ends(self, words: tuple[str, ...], given: bytes, wanted: Outcome) -> None:
         self.same(f"atomfs {shlex.join(words)}\n{given.decode()}", run(given, *words), wanted)
 
-    def all_end(self, rows):
+    def all_end(self, rows: typing.Iterable[tuple[str, str, bytes, Outcome]]) -> None:
         self.each(((name, tuple(shlex.split(words)), *rest) for name, words, *rest in rows), self.ends)
 
-    def test_found(self):
+    def test_found(self) -> None:
         self.all_end(
             (
                 (
@@ -181,10 +190,10 @@ class Words(Case):
             )
         )
 
-    def test_bad_words(self):
+    def test_bad_words(self) -> None:
         """Before any run, and nothing is written."""
 
-        def bad(why):
+        def bad(why: bytes) -> Outcome:
             return Outcome(2, b"", b"atomfs: --where: " + why + b"\n")
 
         rows = (
@@ -219,7 +228,7 @@ class Words(Case):
                 self.ends,
             )
 
-    def test_two_lines(self):
+    def test_two_lines(self) -> None:
         takes_a_process()
         self.ends(
             ("find", "--where", "reply m#1 ok\nand helped m#1", "--seed", "1", "--runs", "5"),
@@ -227,7 +236,7 @@ class Words(Case):
             Outcome(2, b"", b"atomfs: --where: " + WORDS + b"\n"),
         )
 
-    def test_readable(self):
+    def test_readable(self) -> None:
         """What words may be."""
         self.each(((what, ("find", "--where", what, "--seed", "1", "--runs", "1"), b"atomfs 1\nthread m\nreaddir /\nschedule\n", Outcome(0, b"atomfs 1\nthread m\nreaddir /\nschedule\nm*5\n", b"atomfs: seed 1\n")) for what in (
             "reply m#1 names", "not reply m#1 failed", "not reply m#1 names a %61nd b", "tree dir /", "not tree file /f -", "not helped m#1 and not before m#1 m#1", "not waits m#1 and overlap m#1 m#1", "not reply m#1 bytes -", "not reply m#1 stat file 3",

@@ -160,7 +160,7 @@ def told(ask: typing.Callable[[bytes], object], given: bytes) -> object:
         return error.status, error.about
 
 
-def spawned(words: typing.Sequence[str], given: bytes, **other: typing.Any) -> Outcome:
+def spawned(words: typing.Sequence[str], given: bytes | None, **other: typing.Any) -> Outcome:
     """The outcome of a process of its own, in which some of what `subprocess.run` takes may be other."""
     pipes: dict[str, typing.Any] = {"stdout": subprocess.PIPE, "stderr": subprocess.PIPE}
     # Help and usage errors name the program `atomfs`, whatever it is called by.

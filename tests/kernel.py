@@ -34,7 +34,7 @@ TOLD = re.compile(
 STACK = 24 * 1024
 
 
-def core():
+def core() -> pathlib.Path:
     """Where the library is, once it is known that it may be looked at."""
     harness.library()
     return pathlib.Path(
@@ -42,13 +42,13 @@ def core():
     )
 
 
-def symbols(*words):
+def symbols(*words: str) -> list[list[str]]:
     """The symbols of the library, each with its kind."""
     told = subprocess.run(("nm", *words, core()), capture_output=True, text=True, check=True).stdout
     return [line.split()[-2:] for line in told.splitlines() if len(line.split()) > 1]
 
 
-def booted(script):
+def booted(script: pathlib.Path) -> subprocess.CompletedProcess[bytes]:
     """What the kernel writes that plays a script, and its status."""
     if not shutil.which("qemu-system-x86_64"):
         raise unittest.SkipTest("the kernel is booted where qemu-system-x86_64 is on the path")
@@ -62,18 +62,18 @@ def booted(script):
 
 
 class Library(harness.Case):
-    def test_undefined(self):
+    def test_undefined(self) -> None:
         """It asks for memory and for what compilers call on their own, and for nothing else."""
         asked = {name for kind, name in symbols("--undefined-only")}
         self.same("libatomfs-core.a", sorted(asked - OF_COMPILERS), sorted(OF_HOSTS))
 
-    def test_no_thread_locals(self):
+    def test_no_thread_locals(self) -> None:
         told = subprocess.run(
             ("readelf", "--syms", "--wide", core()), capture_output=True, text=True, check=True
         ).stdout
         self.same("libatomfs-core.a", [line for line in told.splitlines() if " TLS " in line], [])
 
-    def test_exports(self):
+    def test_exports(self) -> None:
         """It has what atomfs.h declares, but for trees that threads share."""
         header = (harness.ROOT / "embed" / "atomfs.h").read_text()
         declared = set(re.findall(r"\b(atomfs_\w+)\((?!\*)", header.split("enum {", 1)[1]))
@@ -86,17 +86,17 @@ class Library(harness.Case):
 
 
 class Kernel(harness.Case):
-    def test_lines(self):
+    def test_lines(self) -> None:
         lines = sum(
             len(path.read_text().splitlines()) for path in KERNEL.iterdir() if path.suffix in (".c", ".h", ".S")
         )
         self.same("examples/kernel", max(lines, MOST_LINES), MOST_LINES)
 
-    def test_scripts(self):
+    def test_scripts(self) -> None:
         """The kernel prints the journal and the tree that the program prints, and has every growth of memory refused."""
         self.each(((name, name) for name in SCRIPTS), self.plays)
 
-    def plays(self, name):
+    def plays(self, name: str) -> None:
         script = harness.ROOT / "examples" / f"{name}.script"
         done = booted(script)
         self.same(script, (done.returncode, done.stderr), (0, b""))
@@ -105,12 +105,13 @@ class Kernel(harness.Case):
         self.same(script, printed, wanted[: wanted.rindex(b"begun ")])
         numbers = TOLD.fullmatch(b"verdict " + told)
         self.same(script, (b"verdict " + told, numbers is not None), (b"verdict " + told, True))
+        assert numbers is not None
         growths, most, runs, refused, lawful, stack = map(int, numbers.groups())
         self.same("runs in which a growth was refused, and those that were lawful", runs, lawful)
         self.assertTrue(0 < refused <= runs <= growths)
         self.assertLess(stack, STACK)
 
-    def test_faults(self):
+    def test_faults(self) -> None:
         """What is no script is told, and the kernel stops."""
         with tempfile.TemporaryDirectory(prefix="atomfs-") as folder:
             for name, text in (("empty", b""), ("header", b"atomfs 9\nthread t\nmkdir /a\nschedule\n")):
@@ -119,9 +120,9 @@ class Kernel(harness.Case):
                 done = booted(script)
                 self.same(text, (done.returncode, done.stdout.splitlines()), (1, [b"the script is none"]))
 
-    def test_missing(self):
+    def test_missing(self) -> None:
         """Without the library, or without a script that can be read, one line says so."""
-        rows = (
+        rows: tuple[tuple[str, dict[str, str], tuple[str, ...], bytes], ...] = (
             (
                 "library",
                 {"ATOMFS_CORE": "/nowhere"},
@@ -132,7 +133,7 @@ class Kernel(harness.Case):
         )
         self.each(rows, self.ends)
 
-    def ends(self, variables, words, wanted):
+    def ends(self, variables: dict[str, str], words: tuple[str, ...], wanted: bytes) -> None:
         if not shutil.which("qemu-system-x86_64"):
             self.skipTest("the kernel is booted where qemu-system-x86_64 is on the path")
         done = subprocess.run((KERNEL / "run", *words), env=os.environ | variables, capture_output=True)

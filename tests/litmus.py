@@ -2,10 +2,12 @@
 
 Of drawn scripts each assertion is decided here once more, by the runs of `atomfs find`: the first run that has WHAT, or has it not.
 """
+import pathlib
 import random
 import re
 import shlex
 import unittest
+from typing import Sequence
 
 import find
 from harness import ROOT, Case, Outcome, asks_of_answers, rows_of, run
@@ -15,7 +17,7 @@ SCRIPTS, RUNS = 200, 8
 RACE = find.RACE
 
 
-def head(path):
+def head(path: pathlib.Path) -> tuple[list[str], int, bytes]:
     """The words of the command that the head of a text has, its status, and the message that it has to write."""
     text = path.read_text()
     indented = re.findall(r"^#     (.*)$", text, re.MULTILINE)
@@ -28,7 +30,7 @@ def head(path):
 
 
 class Texts(Case):
-    def look(self, path):
+    def look(self, path: pathlib.Path) -> None:
         words, status, message = head(path)
         self.same(path, words[:2] + words[-1:], ["atomfs", "outcomes", str(path.relative_to(ROOT))])
         came = run(b"", *words[1:-1], str(path))
@@ -36,17 +38,17 @@ class Texts(Case):
         self.same(shlex.join(words), (came.status, came.message), (status, message))
         self.same(f"the lines of {path.name}", came.output, plain.output)
 
-    def test_each_text(self):
+    def test_each_text(self) -> None:
         """Its status and its message are those that its head says, and the lines are those without assertions."""
         self.each(((path.stem, path) for path in sorted(FOLDER.glob("*.script"))), self.look)
 
-    def test_both_statuses(self):
+    def test_both_statuses(self) -> None:
         """Some texts hold, and some are broken: a program that answers one status to all is found out."""
         statuses = [head(path)[1] for path in FOLDER.glob("*.script")]
         self.same("texts", len(statuses), 12)
         self.same("statuses", set(statuses), {0, 1})
 
-    def test_page(self):
+    def test_page(self) -> None:
         """The page has a line for each text, with its status."""
         rows = re.findall(r"^\| `(\w+)` \| .* \| ([01]) \|$", (FOLDER / "README.md").read_text(), re.MULTILINE)
         self.same(
@@ -56,7 +58,9 @@ class Texts(Case):
         )
 
 
-def broken(quantifier, what, first, runs, seeds_with, seeds_without):
+def broken(
+    quantifier: str, what: str, first: int, runs: int, seeds_with: Sequence[int], seeds_without: Sequence[int]
+) -> str:
     """How a message names an assertion that does not hold; nothing if it holds."""
     match quantifier:
         case "never" if seeds_with:
@@ -69,10 +73,10 @@ def broken(quantifier, what, first, runs, seeds_with, seeds_without):
 
 
 class Asserts(Case):
-    def outcomes(self, text, first, *words):
+    def outcomes(self, text: bytes, first: int, *words: str) -> Outcome:
         return run(text, "outcomes", "--seed", str(first), "--runs", str(RUNS), *words)
 
-    def look(self, number):
+    def look(self, number: int) -> None:
         """A drawn script, and some of what `find` may look for, under drawn quantifiers."""
         draw = random.Random(number)
         script, what = find.drawn_script(draw)
@@ -103,14 +107,14 @@ class Asserts(Case):
         wanted = Outcome(1 if told else 0, self.outcomes(text, first).output, told.encode())
         self.same(f"atomfs outcomes {shlex.join(words)}\n{text.decode()}", self.outcomes(text, first, *words), wanted)
 
-    def test_drawn_scripts(self):
+    def test_drawn_scripts(self) -> None:
         asks_of_answers()
         self.each(((f"script_{number}", number) for number in range(rows_of(SCRIPTS))), self.look)
 
-    def ends(self, words, wanted):
+    def ends(self, words: str, wanted: Outcome) -> None:
         self.same(f"atomfs {words}", run(RACE, *shlex.split(words)), wanted)
 
-    def test_each_quantifier(self):
+    def test_each_quantifier(self) -> None:
         """What holds and what is broken, of each quantifier; several at once; and with the other forms of the lines."""
         seeds = "outcomes --seed 1 --runs 50"
         lines = run(RACE, *seeds.split()).output
@@ -137,7 +141,7 @@ class Asserts(Case):
             self.ends,
         )
 
-    def test_first_seed(self):
+    def test_first_seed(self) -> None:
         """The first seed that breaks an assertion is the one that `atomfs find` finds."""
         asks_of_answers()
         for what in ("reply r#1 ok", "reply m#2 failed ENOENT", "before r#1 m#2"):
@@ -145,12 +149,12 @@ class Asserts(Case):
             told = run(RACE, "outcomes", "--seed", "1", "--runs", "100", "--never", what)
             self.same(what, told.message.decode(), f"atomfs: never {what}: {found[8:-1]} has it\n")
 
-    def test_bad_words(self):
+    def test_bad_words(self) -> None:
         """They are read before any run, and the message names the option."""
         seeds = "outcomes --seed 1 --runs 5"
         no_call = Outcome(2, b"", b"atomfs: the script has no such call\n")
 
-        def bad(option, why):
+        def bad(option: bytes, why: bytes) -> Outcome:
             return Outcome(2, b"", b"atomfs: --" + option + b": " + why + b"\n")
 
         self.each(

@@ -5,6 +5,7 @@ What the words are is looked at in the tests of each command; here what `--json`
 import json
 import random
 import unittest
+from typing import Callable, Sequence
 
 import drawn
 import harness
@@ -24,7 +25,7 @@ BYTES = (
 SHORT = {'"': '\\"', "\\": "\\\\", "\n": "\\n"}
 
 
-def written(value):
+def written(value: object) -> str:
     """A value of JSON as the program writes it: without spaces, in ASCII, and each byte of a string as the character of its number."""
     if isinstance(value, dict):
         return "{" + ",".join(f"{written(name)}:{written(member)}" for name, member in value.items()) + "}"
@@ -37,17 +38,17 @@ def written(value):
     return json.dumps(value)
 
 
-def objects(*values):
+def objects(*values: object) -> bytes:
     return "".join(f"{written(value)}\n" for value in values).encode()
 
 
-def script_of(number):
+def script_of(number: int) -> bytes:
     if number >= SCRIPTS:
         return drawn.script(drawn.listing(random.Random(f"listing {number}")), version=3).encode()
     return drawn.script(DRAWN[number % len(DRAWN)](random.Random(number))).encode()
 
 
-def of_check(outcome):
+def of_check(outcome: Outcome) -> dict[str, object]:
     """The object of a verdict, with what was told of it."""
     words = outcome.output.decode().split()
     if words == ["lawful"]:
@@ -56,11 +57,11 @@ def of_check(outcome):
     return {"lawful": False, "place": int(words[1]), "kind": words[2], "reason": reason}
 
 
-def of_row(line, tree):
+def of_row(line: str, tree: str) -> dict[str, object]:
     """The object of a line of `outcomes`, and of the tree behind it."""
     head, *parts = line.split(" | ")
     times, _, seed, _, digest = head.split(" ")
-    replies = dict(part.split(" ", 1) for part in parts)
+    replies = {name: reply for name, _, reply in (part.partition(" ") for part in parts)}
     return {
         "times": int(times),
         "seed": int(seed),
@@ -70,9 +71,9 @@ def of_row(line, tree):
     }
 
 
-def rows_of(text):
+def rows_of(text: bytes) -> list[list[str]]:
     """The lines of `outcomes`, each with its tree behind it."""
-    rows = []
+    rows: list[list[str]] = []
     for line in text.decode().splitlines(keepends=True):
         if line.startswith(("tree\n", "dir ", "file ")):
             rows[-1][1] += line
@@ -82,7 +83,7 @@ def rows_of(text):
 
 
 class Objects(Case):
-    def ends_alike(self, given, words, object_of):
+    def ends_alike(self, given: bytes, words: Sequence[str], object_of: Callable[[Outcome], bytes]) -> None:
         """With `--json` a command ends as without, and writes the objects of what it writes in words."""
         plain, told = run(given, *words), run(given, *words, "--json")
         if not harness.compares:
@@ -92,14 +93,14 @@ class Objects(Case):
         for line in told.output.decode("ascii").splitlines():
             self.same("it is JSON", written(json.loads(line)), line)
 
-    def each_script(self, look):
+    def each_script(self, look: Callable[[int], None]) -> None:
         self.each(((f"script_{number}", number) for number in range(SCRIPTS + LISTING)), look)
 
-    def test_check(self):
+    def test_check(self) -> None:
         """Of journals that are lawful, and of those that lack an entry."""
         asks_of_answers()
 
-        def look(number):
+        def look(number: int) -> None:
             draw, journal = random.Random(number), run(script_of(number), "run", "--seed", str(number)).output
             entries = journal.partition(b"tree\n")[0].splitlines(keepends=True)
             self.ends_alike(journal, ("check",), lambda plain: objects(of_check(plain)))
@@ -112,8 +113,8 @@ class Objects(Case):
 
         self.each_script(look)
 
-    def test_seeds(self):
-        def look(number):
+    def test_seeds(self) -> None:
+        def look(number: int) -> None:
             seeds = "seeds", "--seed", str(number), "--runs", str(RUNS)
             self.ends_alike(
                 script_of(number),
@@ -125,8 +126,8 @@ class Objects(Case):
 
         self.each_script(look)
 
-    def test_outcomes(self):
-        def look(number):
+    def test_outcomes(self) -> None:
+        def look(number: int) -> None:
             draw = random.Random(number)
             words = (
                 "outcomes",
@@ -142,11 +143,11 @@ class Objects(Case):
 
         self.each_script(look)
 
-    def test_added_outcomes(self):
+    def test_added_outcomes(self) -> None:
         """Of lines that are added up the digits stand for the trees."""
         asks_of_answers()
 
-        def look(number):
+        def look(number: int) -> None:
             pieces = b"".join(
                 run(script_of(number), "outcomes", "--seed", seed, "--runs", str(RUNS), "--all").output
                 for seed in ("1", "100")
@@ -160,15 +161,15 @@ class Objects(Case):
 
         self.each_script(look)
 
-    def test_find(self):
+    def test_find(self) -> None:
         """The seed and the script; where no run has it, no seed."""
 
-        def found(plain):
+        def found(plain: Outcome) -> bytes:
             if plain.status:
                 return objects({"seed": None})
             return objects({"seed": int(plain.message.split()[-1]), "script": plain.output.decode("latin-1")})
 
-        def look(given, what):
+        def look(given: bytes, what: str) -> None:
             self.ends_alike(given, ("find", "--where", what, "--seed", "1", "--runs", "50"), found)
 
         scripts = [
@@ -178,7 +179,7 @@ class Objects(Case):
         ]
         self.each((*scripts, ("bytes", BYTES, "reply r#1 failed"), ("other bytes", BYTES, 'tree dir /"\\"')), look)
 
-    def test_faults(self):
+    def test_faults(self) -> None:
         """What cannot be read is told as without, and no object is written."""
         rows = (
             ("a script is checked", BYTES, "check"),
@@ -194,7 +195,7 @@ class Objects(Case):
             lambda given, words: self.ends_alike(given, words, lambda plain: plain.output),
         )
 
-    def test_a_fault_of_a_journal(self):
+    def test_a_fault_of_a_journal(self) -> None:
         """The words of the fault stand in the object, and on standard error."""
         reason = "line 4: return 1 failed EEXIST; call 1 is mkdir /a on seat 0; due: ok"
         wanted = b'{"lawful":false,"place":3,"kind":"WrongReply","reason":"' + reason.encode() + b'"}\n'

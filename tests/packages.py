@@ -524,12 +524,28 @@ class ForRust(Installed):
 
 class Layout(Case):
     """The sources in Rust, Python and C are laid out by rustfmt, black and clang-format, with one line length: by rustfmt.toml, .clang-format and the tables
-    in pyproject.toml. Another version than the one named here may lay out otherwise, and is not asked. What the tests share has types.
+    in pyproject.toml. Another version than the one named here may lay out otherwise, and is not asked. What the tests share has types, and so have many
+    of the tests.
     """
 
     VERSIONS = {"black": "23.1", "clang-format": "14.0"}
-    # The modules of tests/ that are typed: what the others share. None goes from here, and a further one comes where it has its types.
-    TYPED = "atomfs", "costs", "drawn", "events", "grammar", "harness", "model", "standin"
+    # The modules of tests/ that are typed. None goes from here, and a further one comes where it has its types.
+    TYPED = (
+        *(
+            "atomfs",
+            "checkpoints",
+            "costs",
+            "devices",
+            "drawn",
+            "events",
+            "find",
+            "grammar",
+            "harness",
+            "kernel",
+            "litmus",
+        ),
+        *("model", "objects", "progress", "replay", "schedules", "scripts", "shrink", "standin"),
+    )
 
     def formatter(self, command):
         """A formatter of the version by which the sources are laid out."""
@@ -561,7 +577,7 @@ class Layout(Case):
             return not path.suffix and file.readline().endswith(b"python3\n")
 
     def test_types(self):
-        """The types of what the tests share are right."""
+        """The types of the tests that have some are right."""
         wanted("mypy")
         with tempfile.TemporaryDirectory(prefix="atomfs-") as cache:
             words = "mypy", "--strict", "--python-version", "3.11", "--cache-dir", cache

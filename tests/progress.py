@@ -10,6 +10,7 @@ import re
 import subprocess
 import tempfile
 import unittest
+from typing import Sequence
 
 from harness import DATA, MOST_SECONDS, Case, program, run, takes_a_process
 
@@ -19,14 +20,14 @@ DEEP = b"/a" * 60
 RENAME = b"rename %s/x /y\n" % DEEP
 
 
-def renames(threads, calls):
+def renames(threads: int, calls: int) -> bytes:
     """A script whose first thread makes the directories, and in which each other thread has so many such renames."""
     first = b"".join(b"mkdir %s\n" % DEEP[: 2 * depth] for depth in range(1, 61))
     others = b"".join(b"thread t%d\n" % number + calls * RENAME for number in range(1, threads))
     return b"atomfs 1\nthread t0\n" + first + others + b"schedule\nfinish\n"
 
 
-def exchanges(rounds, histories=1):
+def exchanges(rounds: int, histories: int = 1) -> bytes:
     """Histories in which the first of ten exchanges of two directories returns while all are under way, again and again: of each round a thousand orders
     are looked at."""
     lines = ["atomfs-journal 2", "start", "dir /", "dir /a", "dir /b", "entries"]
@@ -39,7 +40,7 @@ def exchanges(rounds, histories=1):
 
 # Each takes longer than the quarter of a second after which something is shown first.
 SHORT = b"atomfs 1\nthread a\nmkdir /a\nschedule\nfinish\n"
-ROWS = (
+ROWS: tuple[tuple[str, bytes, tuple[str, ...]], ...] = (
     ("run", renames(200, 100), ("run",)),
     ("run_drawn", renames(200, 100), ("run", "--seed", "7")),
     ("seeds", renames(4, 100), ("seeds", "--seed", "1", "--runs", "1000")),
@@ -49,7 +50,7 @@ ROWS = (
 )
 
 
-def told_on(terminal):
+def told_on(terminal: int) -> bytes:
     """What is told on a terminal until nobody has it any more."""
     told = b""
     with contextlib.suppress(OSError):
@@ -58,11 +59,15 @@ def told_on(terminal):
     return told
 
 
-def on_terminal(given, *words):
+def spoken_to(words: Sequence[str], out: int, err: int, given: int = subprocess.PIPE) -> subprocess.Popen[bytes]:
+    """The program with these words."""
+    return subprocess.Popen([program(), *words], stdin=given, stdout=out, stderr=err)
+
+
+def on_terminal(given: bytes, *words: str) -> tuple[int, bytes, bytes]:
     """The status, standard output, and what stood on the terminal that standard error was."""
     ours, theirs = pty.openpty()
-    pipes = {"stdin": subprocess.PIPE, "stdout": subprocess.PIPE, "stderr": theirs}
-    with concurrent.futures.ThreadPoolExecutor(1) as pool, subprocess.Popen([program(), *words], **pipes) as process:
+    with concurrent.futures.ThreadPoolExecutor(1) as pool, spoken_to(words, subprocess.PIPE, theirs) as process:
         os.close(theirs)
         # A terminal holds few bytes: a program of which nobody reads what it tells stands still.
         told = pool.submit(told_on, ours)
@@ -75,11 +80,10 @@ def on_terminal(given, *words):
     return process.returncode, output, told.result()
 
 
-def on_one_terminal(given, *words):
+def on_one_terminal(given: bytes, *words: str) -> tuple[int, list[bytes], bytes]:
     """What stands at last, line by line, on the terminal that standard output and standard error both were, and all that was told there."""
     ours, theirs = pty.openpty()
-    pipes = {"stdin": subprocess.PIPE, "stdout": theirs, "stderr": theirs}
-    with concurrent.futures.ThreadPoolExecutor(1) as pool, subprocess.Popen([program(), *words], **pipes) as process:
+    with concurrent.futures.ThreadPoolExecutor(1) as pool, spoken_to(words, theirs, theirs) as process:
         os.close(theirs)
         told = pool.submit(told_on, ours)
         process.communicate(given, timeout=MOST_SECONDS)
@@ -87,7 +91,7 @@ def on_one_terminal(given, *words):
     return process.returncode, screen_of(told.result()), told.result()
 
 
-def screen_of(told):
+def screen_of(told: bytes) -> list[bytes]:
     """The lines of a terminal: what is written behind a carriage return stands in the place of what stood there."""
     lines, at = [bytearray()], 0
     for byte in told:
@@ -102,22 +106,22 @@ def screen_of(told):
     return [bytes(line).rstrip(b" ") for line in lines]
 
 
-def shown(told):
+def shown(told: bytes) -> bytes:
     """The texts of a line that is written anew, each once where it is repeated, with every number as N and without the spaces that fill it."""
     texts = [re.sub(rb"\d+", b"N", text).rstrip() for text in told.split(b"\r")]
     return b"".join(text + b"\n" for place, text in enumerate(texts) if place == 0 or text != texts[place - 1])
 
 
-def numbers(told):
+def numbers(told: bytes) -> list[int]:
     """How much was done, as each text of the line says."""
     return [int(done) for done in re.findall(rb"(\d+) of \d+ ", told)]
 
 
 class Progress(Case):
-    def setUp(self):
+    def setUp(self) -> None:
         takes_a_process()
 
-    def test_terminal(self):
+    def test_terminal(self) -> None:
         for name, given, words in ROWS:
             with self.subTest(name):
                 status, output, told = on_terminal(given, *words)
@@ -130,7 +134,7 @@ class Progress(Case):
                 self.assertTrue(name == "threads" or done == sorted(done), done)
                 self.assertLessEqual(max(len(text) for text in told.split(b"\r")), 72)
 
-    def test_one_terminal(self):
+    def test_one_terminal(self) -> None:
         """Where output goes to the same terminal, the line is away before the first byte, and never comes back."""
         for name, given, words in ROWS:
             with self.subTest(name):
@@ -139,7 +143,7 @@ class Progress(Case):
                 self.assertGreater(len(numbers(told)), 1)
                 self.assertEqual((status, lines), (silent.status, silent.output.split(b"\n")))
 
-    def test_a_fault_on_one_terminal(self):
+    def test_a_fault_on_one_terminal(self) -> None:
         """The line is away before the message of a fault that comes late."""
         words = ["t0*4000", *(f"t{number}*4999" for number in range(1, 200)), "!checkpoint"]
         given = renames(200, 100).replace(b"schedule\nfinish\n", f"schedule\n{' '.join(words)}\n".encode())
@@ -150,14 +154,13 @@ class Progress(Case):
         if not numbers(told):
             self.skipTest("this machine plays a million events before the line is shown")
 
-    def test_standard_input(self):
+    def test_standard_input(self) -> None:
         """Where standard input is a terminal and no file is named, one line says that it is read."""
         row = b"atomfs: reading standard input; end it with Ctrl-D\n"
         for words, told in ((("run",), row), (("run", "-"), b""), (("check",), row), (("explain", "Dot"), b"")):
             with self.subTest(" ".join(words)):
                 ours, theirs = pty.openpty()
-                pipes = {"stdin": theirs, "stdout": subprocess.PIPE, "stderr": subprocess.PIPE}
-                with subprocess.Popen([program(), *words], **pipes) as process:
+                with spoken_to(words, subprocess.PIPE, subprocess.PIPE, theirs) as process:
                     os.close(theirs)
                     given = SHORT if words[0] == "run" else b"atomfs-journal 1\n"
                     # The end of standard input is this byte at the begin of a line.
@@ -167,7 +170,7 @@ class Progress(Case):
                 wanted = run(given, *words)
                 self.assertEqual((process.returncode, output, message), (wanted.status, wanted.output, told))
 
-    def test_a_picture_on_a_terminal(self):
+    def test_a_picture_on_a_terminal(self) -> None:
         """It is refused, and read is nothing; a file takes it."""
         with tempfile.TemporaryDirectory(prefix="atomfs-") as folder:
             script = pathlib.Path(folder, "script")
@@ -181,7 +184,7 @@ class Progress(Case):
             self.assertEqual(run(b"", "draw", str(script)), run(SHORT, "draw"))
         self.assertEqual(on_one_terminal(SHORT, "trace")[1], run(SHORT, "trace").output.split(b"\n"))
 
-    def test_short(self):
+    def test_short(self) -> None:
         """What ends at once tells nothing, nor does a command that is none of these."""
         for words in (
             ("run",),
@@ -195,7 +198,7 @@ class Progress(Case):
                 self.assertEqual(on_terminal(SHORT, *words)[2], b"")
         self.assertEqual(on_terminal(exchanges(1), "linearize")[2], b"")
 
-    def test_fault(self):
+    def test_fault(self) -> None:
         """The message of a fault stands alone."""
         status, output, told = on_terminal(b"atomfs 1\nthread t\nmkdir /a/\nschedule\n", "run")
         self.assertEqual((status, output), (3, b""))

@@ -5,6 +5,7 @@ number of commits, every call and every path is asked about. A script whose thre
 """
 import random
 import unittest
+from typing import Iterable
 
 import drawn
 import harness
@@ -18,38 +19,43 @@ CALL_WORDS = (
     b"atomfs: CALL is THREAD#NUMBER: m#3 is the third call of thread m, and of a journal 0#3 the third on seat 0\n"
 )
 NO_CALL = b"atomfs: there is no such call, or it does not commit\n"
+# The schedules of a run: its own words, and two others.
+OTHERS: tuple[tuple[str, ...], ...] = ((), ("--robin",), ("--seed", "7"))
 
 
-def text_of(lines):
+def text_of(lines: Iterable[str]) -> bytes:
     return "".join(f"{line}\n" for line in lines).encode()
 
 
 class Commits:
     """The commits of a timeline, played one by one: the trees behind them, and whose calls they are."""
 
-    def __init__(self):
-        self.tree, self.trees, self.looks, self.calls = model.Tree(), [], [], []
+    def __init__(self) -> None:
+        self.tree = model.Tree()
+        self.trees: list[bytes] = []
+        self.looks: list[dict[model.Path, model.File | None]] = []
+        self.calls: list[tuple[int, str, str]] = []
         self.keep()
 
-    def keep(self):
+    def keep(self) -> None:
         self.trees.append(text_of(self.tree.text()))
         # A directory is the same whatever is in it.
         self.looks.append(
             {path: node if isinstance(node, model.File) else None for path, node in self.tree.nodes.items()}
         )
 
-    def commit(self, number, who, call):
+    def commit(self, number: int, who: str, call: str) -> str:
         """The reply of a call that commits."""
         self.calls.append((number, who, call))
         reply = self.tree.apply(call.split(" "))
         self.keep()
         return reply
 
-    def before(self, who):
+    def before(self, who: str) -> bytes:
         """The tree before the commit of a call."""
-        return next((self.trees[place] for place, (_, other, _) in enumerate(self.calls) if other == who), None)
+        return next(self.trees[place] for place, (_, other, _) in enumerate(self.calls) if other == who)
 
-    def last(self, path):
+    def last(self, path: str) -> bytes | None:
         """The line of the last commit that changed what stands at a path."""
         key, absent = model.path_of(path), object()
         for place in range(len(self.calls), 0, -1):
@@ -58,35 +64,42 @@ class Commits:
                 return f"commit {place} call {number} {who} {call}\n".encode()
         return None
 
-    def paths(self):
+    def paths(self) -> list[str]:
         """The root, each path that a call names, and one that none names."""
         named = {word for _, _, call in self.calls for word in call.split(" ")[1:] if word.startswith("/")}
         return ["/", "/none", *sorted(named)]
 
 
-def journal(draw):
+# What a call of a seat has come to: begun with its words, or committed with its reply.
+Stage = tuple[str, int, str] | None
+
+
+def journal(draw: random.Random) -> tuple[bytes, Commits, list[str]]:
     """A lawful journal without a tree, with its commits and the calls that have not committed."""
     lists, commits, lines = drawn.moving(draw), Commits(), ["atomfs-journal 1"]
     left = [list(calls) for calls in lists]
-    turn, stage, number = [0] * len(lists), [None] * len(lists), 0
+    turn, number = [0] * len(lists), 0
+    stage: list[Stage] = [None] * len(lists)
     for _ in range(draw.randint(60, 200)):
         seat = draw.randrange(len(lists))
-        match stage[seat]:
-            case None if left[seat]:
+        at = stage[seat]
+        if at is None:
+            if left[seat]:
                 number, turn[seat] = number + 1, turn[seat] + 1
-                stage[seat] = ("begun", number, left[seat].pop(0))
-                lines.append(f"begin {number} {seat} {stage[seat][2]}")
-            case "begun", begun, call:
-                stage[seat] = ("committed", begun, commits.commit(begun, f"{seat}#{turn[seat]}", call))
-                lines.append(f"commit {begun}")
-            case "committed", begun, reply:
-                stage[seat] = None
-                lines.append(f"return {begun} {reply}")
-    uncommitted = [f"{seat}#{turn[seat]}" for seat in range(len(lists)) if stage[seat] and stage[seat][0] == "begun"]
+                call = left[seat].pop(0)
+                stage[seat] = ("begun", number, call)
+                lines.append(f"begin {number} {seat} {call}")
+        elif at[0] == "begun":
+            stage[seat] = ("committed", at[1], commits.commit(at[1], f"{seat}#{turn[seat]}", at[2]))
+            lines.append(f"commit {at[1]}")
+        else:
+            stage[seat] = None
+            lines.append(f"return {at[1]} {at[2]}")
+    uncommitted = [f"{seat}#{turn[seat]}" for seat, one in enumerate(stage) if one and one[0] == "begun"]
     return text_of(lines), commits, uncommitted
 
 
-def in_order(draw):
+def in_order(draw: random.Random) -> tuple[bytes, Commits]:
     """A script whose threads go one behind the other, and its commits."""
     lists, commits, number = drawn.moving(draw), Commits(), 0
     names = [chr(ord("a") + seat) for seat in range(len(lists))]
@@ -100,7 +113,7 @@ def in_order(draw):
 
 
 class Replays(Case):
-    def look(self, given, commits, uncommitted, *words):
+    def look(self, given: bytes, commits: Commits, uncommitted: list[str], *words: str) -> None:
         """All that can be asked is answered as the model says."""
         whole = run(given, "tree", *words)
         self.same(given, whole, Outcome(0, commits.trees[-1]))
@@ -131,18 +144,18 @@ class Replays(Case):
             wanted = Outcome(0, line) if line else Outcome(1, b"nobody\n")
             self.same(f"--who {path}\n{given.decode()}", run(given, "tree", "--who", path, *words), wanted)
 
-    def test_drawn_journals(self):
+    def test_drawn_journals(self) -> None:
         rows = ((f"journal_{number}", *journal(random.Random(number))) for number in range(harness.rows_of(JOURNALS)))
         self.each(rows, self.look)
 
-    def test_scripts_in_order(self):
+    def test_scripts_in_order(self) -> None:
         rows = (
             (f"script_{number}", *in_order(random.Random(f"in order {number}")), ["a#1000", "z#1", "0#1"])
             for number in range(harness.rows_of(SCRIPTS))
         )
         self.each(rows, self.look)
 
-    def same_as_its_journal(self, given, *words):
+    def same_as_its_journal(self, given: bytes, *words: str) -> None:
         """What is asked of a script's run is answered as of the journal of that run, but for the names of threads."""
         text = run(given, "run", *words).output
         lines = text.partition(b"tree\n")[0]
@@ -163,15 +176,15 @@ class Replays(Case):
             )
             self.alike(given, ("of the script", of_script), ("of its journal", of_journal))
 
-    def test_runs_and_their_journals(self):
+    def test_runs_and_their_journals(self) -> None:
         harness.asks_of_answers()
         rows = (
-            (f"run_{number}", drawn.script(drawn.moving(random.Random(f"run {number}"))).encode(), *words)
+            (f"run_{number}", drawn.script(drawn.moving(random.Random(f"run {number}"))).encode(), words)
             for number in range(RUNS)
-            for words in ((), ("--robin",), ("--seed", "7"))
+            for words in OTHERS
         )
         self.each(
-            ((f"{name} {' '.join(words)}", given, *words) for name, given, *words in rows), self.same_as_its_journal
+            ((f"{name} {' '.join(words)}", given, *words) for name, given, words in rows), self.same_as_its_journal
         )
 
 
@@ -186,10 +199,10 @@ STARTED = b"atomfs-journal 3\nstart\ndir /\ndir /a\nfile /a/f 61\nentries\nbegin
 
 
 class Rows(Case):
-    def look(self, words, given, wanted):
+    def look(self, words: str, given: bytes, wanted: Outcome) -> None:
         self.same(given, run(given, "tree", *words.split(" ")), with_line(wanted, given))
 
-    def test_faults(self):
+    def test_faults(self) -> None:
         self.each(
             (
                 (f"{words} {number}", words, given, wanted)

@@ -6,6 +6,7 @@ import collections
 import os
 import random
 import unittest
+from typing import Callable
 
 import harness
 import atomfs
@@ -31,16 +32,23 @@ EVENTS = {
 }  # fmt: skip
 
 
-def limit(number):
+def limit(number: int) -> int:
     """How many nodes a tree may have: few in every eighth script, so that calls are refused."""
     return 1_000 if number % 8 else 12
 
 
 class Schedules(harness.Case):
-    def setUp(self):
-        self.library, self.counts = harness.library(), collections.Counter()
+    def setUp(self) -> None:
+        self.library = harness.library()
+        self.counts: collections.Counter[str] = collections.Counter()
 
-    def look(self, threads_of, number, order, version=1):
+    def look(
+        self,
+        threads_of: Callable[[random.Random], list[list[str]]],
+        number: int,
+        order: events.Order,
+        version: int = 1,
+    ) -> None:
         """The run of the threads that are drawn from a number, in an order that is."""
         draw = random.Random(number)
         threads = threads_of(draw)
@@ -49,10 +57,10 @@ class Schedules(harness.Case):
             self.counts += run.counts
             self.same(f"{drawn.script(threads, order.__name__, version)}limit {limit(number)}", run.fault(), None)
 
-    def came(self, stored):
+    def came(self, stored: dict[str, int]) -> None:
         """In all rows each event came about as often as is stored."""
 
-        def wanted(event, count):
+        def wanted(event: str, count: int) -> int:
             often = stored.get(event, 0)
             return count if abs(count - often) <= often / 8 else often
 
@@ -60,12 +68,12 @@ class Schedules(harness.Case):
             came = {event: self.counts[event] for event in (*events.BEGINS, *events.STEPS)}
             self.same("the events of all rows", came, {event: wanted(event, count) for event, count in came.items()})
 
-    def test_mkdir_and_stat(self):
+    def test_mkdir_and_stat(self) -> None:
         rows = ((f"script_{number}", drawn.narrow, number, events.drawn) for number in range(NARROW_SCRIPTS))
         self.each(rows, self.look)
         self.came(NARROW_EVENTS)
 
-    def test_exchanges(self):
+    def test_exchanges(self) -> None:
         """Each event comes that comes with the other calls."""
         orders = events.rounds, events.drawn, events.words
         rows = (
@@ -77,7 +85,7 @@ class Schedules(harness.Case):
         if "ROW" not in os.environ:
             self.same("the events that did not come", [event for event in EVENTS if not self.counts[event]], [])
 
-    def test_third_limits(self):
+    def test_third_limits(self) -> None:
         rows = (
             (f"script_{number}_{order.__name__}", drawn.listing, number, order, 3)
             for number in range(LISTING_SCRIPTS)
@@ -85,7 +93,7 @@ class Schedules(harness.Case):
         )
         self.each(rows, self.look)
 
-    def test_all_calls(self):
+    def test_all_calls(self) -> None:
         orders = events.rounds, events.drawn, events.words
         rows = (
             (f"script_{number}_{order.__name__}", drawn.moving, number, order)

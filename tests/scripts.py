@@ -7,6 +7,7 @@ import collections
 import os
 import random
 import unittest
+from typing import Callable, Iterator
 
 import harness
 import drawn
@@ -20,7 +21,7 @@ REPLIES = "ok stat names bytes wrote ENOENT ENOTDIR EEXIST ENOTEMPTY EISDIR EINV
 KINDS = {*(f"begin {call}" for call in drawn.CROWDED), *(f"return {reply}" for reply in REPLIES), "overtaken"}
 
 
-def scripted(number):
+def scripted(number: int) -> tuple[list[list[str]], str]:
     """The threads that are drawn from a number, and their script: drawn words, and rounds to the end."""
     draw = random.Random(number)
     threads = drawn.crowded(draw)
@@ -28,7 +29,7 @@ def scripted(number):
     return threads, drawn.script(threads, " ".join([*words, "finish"]))
 
 
-def kinds(text):
+def kinds(text: str) -> Iterator[str]:
     """What a run text has, entry by entry."""
     latest = 0
     for line in text.splitlines():
@@ -46,11 +47,11 @@ def kinds(text):
 
 
 class Scripts(harness.Case):
-    def runs(self, words):
+    def runs(self, words: Callable[[int], tuple[str, ...]]) -> None:
         """Runs all scripts by some words of the program, behind which a number may stand."""
-        came = collections.Counter()
+        came: collections.Counter[str] = collections.Counter()
 
-        def look(number):
+        def look(number: int) -> None:
             threads, script = scripted(number)
             outcome = harness.run(script.encode(), *words(number))
             text = outcome.output.decode()
@@ -63,14 +64,14 @@ class Scripts(harness.Case):
         if "ROW" not in os.environ:
             self.same("what has not come in all rows", sorted(KINDS - set(came)), [])
 
-    def test_words(self):
+    def test_words(self) -> None:
         self.runs(lambda number: ("run",))
 
-    def test_third_limits(self):
+    def test_third_limits(self) -> None:
         """By drawn words, round robin, a drawn schedule and real threads; the call that lists a directory in pieces comes, with names and without."""
-        came = collections.Counter()
+        came: collections.Counter[str] = collections.Counter()
 
-        def look(number, *words):
+        def look(number: int, *words: str) -> None:
             threads = drawn.listing(random.Random(f"listing {number}"))
             script, calls = drawn.script(threads, version=3), dict(enumerate(threads))
             outcome = harness.run(script.encode(), *words)
@@ -93,14 +94,14 @@ class Scripts(harness.Case):
                 [],
             )
 
-    def test_robin(self):
+    def test_robin(self) -> None:
         self.runs(lambda number: ("run", "--robin"))
 
-    def test_seed(self):
+    def test_seed(self) -> None:
         self.runs(lambda number: ("run", "--seed", str(number)))
 
-    def test_threads(self):
-        def look(number):
+    def test_threads(self) -> None:
+        def look(number: int) -> None:
             threads, script = scripted(number)
             count = sum(map(len, threads))
             self.same(
@@ -109,11 +110,11 @@ class Scripts(harness.Case):
 
         self.each(((f"script_{number}", number) for number in range(SCRIPTS)), look)
 
-    def test_journals_of_threads(self):
+    def test_journals_of_threads(self) -> None:
         """They are lawful, also by the model, and on the seat of each thread's number its calls have begun, in order."""
         harness.asks_of_answers()
 
-        def look(number):
+        def look(number: int) -> None:
             threads, script = scripted(number)
             journal = harness.run(script.encode(), "threads", "--journal")
             self.same(script, journal._replace(output=b""), harness.Outcome(0))
@@ -133,7 +134,7 @@ class Scripts(harness.Case):
 FILES, FEW = 240, 32
 
 
-def priority(node):
+def priority(node: int) -> int:
     """By which the entries of a large directory stand above one another in the tree beside them (`fs_nodes`): the number of a node, mixed."""
     word = (node ^ node >> 16) * 0x7FEB352D % 2**32
     word = (word ^ word >> 15) * 0x846CA68B % 2**32
@@ -143,7 +144,7 @@ def priority(node):
 class Ordered(harness.Case):
     """Names that are made against the tree beside the entries of a directory."""
 
-    def test_an_entry_that_stays_in_the_tree(self):
+    def test_an_entry_that_stays_in_the_tree(self) -> None:
         """It is too far down to be found where it goes to another directory. A search that meets it begins in its own directory all the same."""
         nodes = sorted(range(4, 4 + FILES), key=priority)
         name = {node: f"{FILES - at:03}" for at, node in enumerate(nodes)}

@@ -6,6 +6,7 @@ import random
 import re
 import shlex
 import unittest
+from typing import Iterable, Iterator
 
 from find import CALL, LINE, REPLY, WORDS, Script, drawn_script, has, seen
 from harness import Case, Outcome, asks_of_answers, run, takes_a_process
@@ -15,17 +16,18 @@ RACE = b"atomfs 1\n# two threads\nthread m\nmkdir /a\nmkdir /a/d\nmkdir /e\nthre
 TOLD = re.compile(rb"atomfs: calls (\d+), words (\d+), where (.*)\n")
 
 
-def has_it(script, what):
+def has_it(script: Script, what: str) -> bool:
     """Whether the run of a script by its own words has what is said."""
     text = script.text()
     output, trace = (run(text, command).output for command in ("run", "trace"))
     return bool(output) and has(what, seen(list(script.threads), output, trace))
 
 
-def read(text):
+def read(text: bytes) -> Script:
     """The script of a text."""
     blocks, _, words = text.decode().partition("\nschedule\n")
-    threads = {}
+    threads: dict[str, list[str]] = {}
+    calls: list[str] = []
     for line in blocks.splitlines()[1:]:
         if line.startswith("thread "):
             calls = threads.setdefault(line.removeprefix("thread "), [])
@@ -34,32 +36,32 @@ def read(text):
     return Script(threads, words.split())
 
 
-def is_sublist(few, many):
+def is_sublist(few: list[str], many: list[str]) -> bool:
     left = iter(many)
     return all(item in left for item in few)
 
 
-def without_call(script, name, at):
+def without_call(script: Script, name: str, at: int) -> Script:
     threads = {other: list(calls) for other, calls in script.threads.items()}
     del threads[name][at]
     return Script(threads, script.words)
 
 
-def without_word(script, at):
+def without_word(script: Script, at: int) -> Script:
     return Script(script.threads, script.words[:at] + script.words[at + 1 :])
 
 
-def moved(what, name, place):
+def moved(what: str, name: str, place: int) -> str:
     """What is said, where a call of a thread goes."""
 
-    def call(found):
+    def call(found: re.Match[str]) -> str:
         other, number = found.group(1), int(found.group(2))
         return f"{other}#{number - (other == name and number > place)}"
 
     return re.sub(r"\b(\w+)#(\d+)", call, what)
 
 
-def smaller(script, what):
+def smaller(script: Script, what: str) -> Iterator[tuple[Script, str]]:
     """The scripts with one call or one word less, and what is said of each; a call that is named stays."""
     named = re.findall(r"\b(\w+)#(\d+)", what)
     for name, calls in script.threads.items():
@@ -71,7 +73,7 @@ def smaller(script, what):
 
 
 class Shrinks(Case):
-    def look(self, number):
+    def look(self, number: int) -> None:
         draw = random.Random(number)
         script, what = drawn_script(draw)
         if draw.randrange(2):
@@ -82,6 +84,7 @@ class Shrinks(Case):
             return self.same(given, came, Outcome(1, b"", b"atomfs: its run has it not\n"))
         told = TOLD.fullmatch(came.message)
         self.assertTrue(came.status == 0 and told, f"{given}\n{came}")
+        assert told is not None
         shrunk, now = read(came.output), told.group(3).decode()
         self.assertEqual(
             (sum(map(len, shrunk.threads.values())), len(shrunk.words)), (int(told.group(1)), int(told.group(2))), given
@@ -98,19 +101,19 @@ class Shrinks(Case):
         for less, said in smaller(shrunk, now):
             self.assertFalse(has_it(less, said), f"{given}\n{came}\nand less\n{less.text().decode()}")
 
-    def test_drawn(self):
+    def test_drawn(self) -> None:
         asks_of_answers()
         self.each(((f"script_{number}", number) for number in range(SCRIPTS)), self.look)
 
 
 class Rows(Case):
-    def ends(self, words, given, wanted):
+    def ends(self, words: tuple[str, ...], given: bytes, wanted: Outcome) -> None:
         self.same(f"atomfs {shlex.join(words)}\n{given.decode()}", run(given, *words), wanted)
 
-    def all_end(self, rows):
+    def all_end(self, rows: Iterable[tuple[str, str, bytes, Outcome]]) -> None:
         self.each(((name, ("shrink", "--where", what), *rest) for name, what, *rest in rows), self.ends)
 
-    def test_shrunk(self):
+    def test_shrunk(self) -> None:
         nothing = b"atomfs 1\n# two threads\nthread m\nthread r\nschedule\n# the rest\n"
         self.all_end(
             (
@@ -179,19 +182,19 @@ class Rows(Case):
             )
         )
 
-    def test_not_had(self):
+    def test_not_had(self) -> None:
         """Nothing is written."""
         rows = ("reply m#2 ok", "tree dir /none", "not tree dir /", "before m#2 m#1")
         self.all_end((what, what, RACE, Outcome(1, b"", b"atomfs: its run has it not\n")) for what in rows)
 
-    def test_no_run(self):
+    def test_no_run(self) -> None:
         under_way = b"atomfs 1\nthread m\nmkdir /a\nschedule\nm !checkpoint\n"
         self.all_end((("under way", "tree dir /", under_way, run(under_way, "run")),))
 
-    def test_bad_input(self):
+    def test_bad_input(self) -> None:
         """Before any run."""
 
-        def bad(why):
+        def bad(why: bytes) -> Outcome:
             return Outcome(2, b"", b"atomfs: " + why + b"\n")
 
         rows = (("", WORDS), ("and", WORDS), ("helped m", CALL), ("reply m#1", REPLY), ("tree dir", LINE))
@@ -205,7 +208,7 @@ class Rows(Case):
         malformed = b"atomfs 1\nthread m\nmkdir a\nschedule\n"
         self.all_end((("no script", "tree dir /", malformed, run(malformed, "run")),))
 
-    def test_arguments(self):
+    def test_arguments(self) -> None:
         takes_a_process()
         for words in (("shrink",), ("shrink", "--where"), ("shrink", "--where", "tree dir /", "--seed", "1")):
             came = run(RACE, *words)
