@@ -430,7 +430,7 @@ class Shown(Page):
         ("docs/FIRST-RACE.md", "", 3, "tests/tutorials.py"),
         ("docs/FIRST-RACE.md", "python", 5, "tests/tutorials.py"),
         ("docs/FIRST-RACE.md", "sh", 1, None),
-        ("docs/EMBEDDING.md", "c", 1, "examples/embed/run"),
+        ("docs/EMBEDDING.md", "c", 2, "examples/embed/run"),
         ("bindings/python/README.md", "python", 1, "examples/embed/run"),
         ("bindings/rust/README.md", "rust", 1, "examples/embed/run"),
         ("docs/RATTLE.md", "rust", 2, "tests/documents.py"),
@@ -466,7 +466,12 @@ class Shown(Page):
         self.agrees(
             "those that are run",
             sorted(runs),
-            sorted((page, language) for page, language, _, by in self.BLOCKS if by == "examples/embed/run"),
+            sorted(
+                (page, language)
+                for page, language, number, by in self.BLOCKS
+                for _ in range(number)
+                if by == "examples/embed/run"
+            ),
         )
 
     def test_headline(self):

@@ -48,6 +48,7 @@ c_sanitized: lawful, 11 calls returned
 rust: lawful, 410 calls returned
 python: lawful, 11 calls returned
 example_c: as docs/EMBEDDING.md says
+threads_c: as docs/EMBEDDING.md says
 example_rust: as bindings/rust/README.md says
 example_python: as bindings/python/README.md says
 readme_c: as README.md says
