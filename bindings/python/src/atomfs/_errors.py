@@ -22,7 +22,7 @@ AnyPath = Union[StrPath, bytes, "os.PathLike[bytes]"]
 
 
 class Error(Exception):
-    """A status that is no error of a call. `about` is the line of a text's fault, the number of a call, or 0."""
+    """A status that is not the error of a call. `about` is the line of a text's fault, the number of a call, or 0."""
 
     def __init__(self, status: int, words: str, about: int = 0) -> None:
         super().__init__(words)

@@ -52,9 +52,10 @@ _TELLS = {Call.STAT: "stat", Call.READDIR: "names", Call.LIST: "names", Call.REA
 
 
 class Answer:
-    """What a call answered. Of those that answer nothing, as `mkdir`, there is nothing to tell: where their block ends, they are done.
+    """The reply of a call, which the block of a `with` reports. A call without a result, such as `mkdir`, needs no report: it is done when its
+    block ends.
 
-    To tell the reply of another call is a `TypeError`, and so is a second reply.
+    To report the reply of another kind of call is a `TypeError`, and so is a second reply.
     """
 
     def __init__(self, call: Call, limits: Limits) -> None:
@@ -76,7 +77,7 @@ class Answer:
             self._tell("stat", f"stat file {number_of(size, 'size')}")
 
     def names(self, names: Iterable[AnyPath]) -> None:
-        """Of `readdir` and `list`: the names, in any order. `ValueError` tells what is no name."""
+        """Reports the names of a `readdir` or a `list`, in any order. Raises `ValueError` if one of them is not a name."""
         if isinstance(names, (str, bytes)):
             raise TypeError(f"names takes several names, and this is {type(names).__name__}")
         raw = sorted(map(encoded, names))
@@ -95,7 +96,7 @@ class Answer:
         self._tell("wrote", f"wrote {number_of(count, 'count')}")
 
     def failed(self, number: Optional[int] = None) -> None:
-        """Of a call that tells its error by what it returns: the number of the error, or none for an error that others do not have."""
+        """Reports the error of a call that returns it in place of raising it: its number, or None for an error that this tree does not have."""
         self._tell("failed", f"failed {_word(number, self._call, self._limits)}")
 
     def _tell(self, what: str, reply: str) -> None:
@@ -189,11 +190,11 @@ class History:
 
         print(history.linearize())
 
-    At first the tree has its root alone, or what `start` has. Names and files are by the limits of `start`, or by `limits`.
+    The tree begins with its root alone, or as `start`. Names and files have the limits of `start`, or `limits`.
 
-    An `OSError` that leaves the block is the reply of the call, and so is an error of PyFilesystem2, or of a class in `errors`, which has
-    its number from `errno`, or none for an error that others do not have: it ends the block, and stands in `answer.error`. Behind timeouts,
-    broken connections and all other exceptions, which are raised on, the call stays pending: it may have taken effect, or not.
+    An `OSError` that leaves the block is the reply of the call. So is an error of PyFilesystem2, or of a class in `errors`, a dictionary from classes
+    to error numbers, or to None for an error that this tree does not have. Such an error ends the block, and is in `answer.error`. After a timeout, a
+    broken connection or any other exception, which is raised on, the call stays pending: it may have taken effect, or not.
 
     Record one thread first: what nothing explains there is another kind of tree, and no race.
     """
@@ -224,9 +225,11 @@ class History:
     def call(self, call: str, *words: Any) -> ContextManager[Answer]:
         """Records a call, which is made in the block of a `with`: `call("mkdir /a")`, as in a script, or `call("mkdir", "/a")`.
 
-        After its name comes what the method of `Tree` takes: `call("write", "/f", 0, b"x")`; `ValueError` and `TypeError` tell what is no
-        call. The replies of `stat`, `readdir`, `list`, `read` and `write` are reported in the block through what it is given; what is no reply raises these,
-        and so does the end of a block in which none was told. The call stays pending then.
+        After its name come the arguments of the method of `Tree`: `call("write", "/f", 0, b"x")`. In the block, report the reply of a `stat`,
+        `readdir`, `list`, `read` or `write` to the `Answer` that the block gets.
+
+        Raises `ValueError` or `TypeError` if this is not a call, if what is reported is not a reply, or if the block ends without a report. The
+        call stays pending then.
         """
         return _Recorded(self, *self._read(call, words))
 
@@ -237,9 +240,10 @@ class History:
         return "".join(f"{line}\n" for line in (*self._opening, *(line for _, line in entries)))
 
     def linearize(self, limit: Optional[int] = None) -> Linearized:
-        """An order in which the calls so far took effect, or the first return up to which no order explains them, as the function `linearize`.
+        """Finds an order in which the calls so far can have taken effect, or the first return up to which no order explains them, like the
+        function `linearize`.
 
-        Raises `ValueError` for a text that is no history, and `MemoryError`.
+        Raises `ValueError` if this is not a history, and `MemoryError`.
         """
         return linearize(self.text(), limit)
 

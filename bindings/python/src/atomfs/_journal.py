@@ -21,7 +21,7 @@ NONE = Journal(0)
 
 
 def LAST(most: int) -> Journal:
-    """The last calls: where more than `most` stand and none is under way, all are forgotten before the next begins."""
+    """The last calls: if the journal has more than `most` and none is pending, all are forgotten before the next call begins."""
     most = operator.index(most)
     if not 0 <= most < KEEP_ALL:
         raise ValueError(f"a journal keeps 0 to {KEEP_ALL - 1:,} calls")

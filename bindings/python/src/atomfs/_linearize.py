@@ -83,16 +83,17 @@ Linearized = Union[Lawful, NoOrder, NoHistory, Unknown]
 def linearize(
     history: Union[str, bytes], limit: Optional[int] = None, *, progress: Optional[Progress] = None
 ) -> Linearized:
-    """An order in which the calls of a history took effect, or the first return up to which no order explains the entries.
+    """Finds an order in which the calls of a history can have taken effect, or the first return up to which no order explains the entries.
 
-    A history is a journal without its lines `commit`, in which `return 3 failed ?` fits any error of call 3, and `return 3 stat dir ?`
-    any number of entries; `History` records one. The search makes at most `limit` configurations, 1 to 1,000,000,000, or else
-    10,000,000; other threads run meanwhile. `Error` tells the line of what is no history, `ValueError` that there
-    is no such limit, and `MemoryError` that there is no memory left.
+    A history is a journal without its lines `commit`, in which `return 3 failed ?` fits any error of call 3, and `return 3 stat dir ?` any
+    number of entries; `History` records one. The search makes at most `limit` configurations, 1 to 1,000,000,000; without it, 10,000,000. Other
+    threads run meanwhile.
 
-    The search goes by slices, each four times as long as the one before. `progress(configurations, place)` is called behind each that
-    found nothing yet, and ends the search by an error. A signal whose handler raises, as `KeyboardInterrupt`, ends it at once; a slice
-    that is under way ends by itself, on a thread of its own.
+    Raises `Error` with the line of a fault if the text is not a history, `ValueError` if there is no such limit, and `MemoryError`.
+
+    The search goes in slices, each four times as long as the one before. `progress(configurations, place)` is called after each slice that has found
+    nothing yet, and can end the search by raising an error. A signal whose handler raises, such as `KeyboardInterrupt`, ends the search at once; the
+    current slice then ends by itself, on a thread of its own.
     """
     found, told = _found(history, limit, Tell.WORDS, progress)
     if found == Found.LAWFUL:

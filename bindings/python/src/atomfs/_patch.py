@@ -57,22 +57,22 @@ _found: Dict[str, _Known] = {}
 
 
 class patch(OfC, contextlib.ContextDecorator):
-    """Lets a tree stand at a directory of the disk, within `with`, or while the function runs that it decorates.
+    """Puts a tree at a directory of the disk, within `with`, or while the function runs that it decorates.
 
         with atomfs.patch(tree, at="/sandbox"):
             os.makedirs("/sandbox/a")
             pathlib.Path("/sandbox/a/f").write_text("in the tree")
 
-    `covered` names what goes to the tree, `refused` what raises `OSError` below `at`, and why.
+    `covered` names the functions that go to the tree, `refused` those that raise `OSError` below `at`, and why.
 
-    Permissions, owners, times, symbolic links and pipes are kept beside the tree. Permissions are enforced with `enforce`: nobody asks them
-    of a process of root, as tests in containers are, and so a suite behaves the same for every user. `clock` is what answers the time,
-    in nanoseconds since 1970. With `processes` a program of the disk may work in the tree: while it runs, a real directory at `at` is
-    as the tree, and what it has changed comes back once it has ended.
+    Permissions, owners, times, symbolic links and pipes are kept beside the tree. Permissions are enforced only with `enforce`, because tests
+    often run as root, for whom the system enforces none. So a suite behaves the same for every user. `clock` is called for the time, in
+    nanoseconds since 1970. With `processes` a program of the disk may work in the tree: while it runs, a real directory at `at` takes the place
+    of the tree, and its changes come back when it has ended.
 
     `overlay` is a directory of the disk whose files are read there until they are changed: names, sizes and bytes come to the tree when
-    they are asked for, and every change stays in the tree. The tree stands at that directory, if no `at` is given. A directory that is not
-    there is a `FileNotFoundError` where the patch begins.
+    they are asked for, and every change stays in the tree. If no `at` is given, the tree is at that directory. If the directory is not there,
+    the patch raises `FileNotFoundError` when it begins.
     """
 
     covered: Tuple[str, ...] = _table.COVERED

@@ -206,7 +206,7 @@ class Path(pathlib.PurePosixPath):
         return self._of(f"/{self}") if not self.is_absolute() else self
 
     def resolve(self: _Self, strict: bool = False) -> _Self:
-        """The path from the root on, without `..`; where it is strict, something has to stand there."""
+        """The path from the root on, without `..`. If it is strict, something has to be there."""
         parts: List[str] = []
         for part in self.absolute().parts[1:]:
             parts[-1:] = [] if part == ".." else [*parts[-1:], part]

@@ -43,12 +43,16 @@ def told(library: Library, room: Room, function: Any, *given: Any, more: Tuple[A
 
 
 def check(journal: Union[str, bytes]) -> str:
-    """The verdict on a journal: `lawful`, or the first entry at fault. `Error` tells the line of what is no journal."""
+    """The verdict on a journal: `lawful`, or the first entry at fault.
+
+    Raises `Error` with the line of a fault if the text is not a journal."""
     return _of_text("check", journal).rstrip("\n")
 
 
 def run(script: Union[str, bytes]) -> str:
-    """The journal, the tree and the counts of a script, run by its own schedule. `Error` tells the line of what is no script."""
+    """The journal, the tree and the counts of a script that is run with its own schedule.
+
+    Raises `Error` with the line of a fault if the text is not a script."""
     return _of_text("run", script)
 
 

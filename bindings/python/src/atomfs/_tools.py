@@ -79,7 +79,7 @@ class Picture:
 
 
 class SeedVerdict(NamedTuple):
-    """The verdict on a run by a seed: `lawful`, or the first entry at fault, as `check` tells it."""
+    """The verdict on the run of a seed: `lawful`, or the first entry at fault, as from `check`."""
 
     seed: int
     verdict: str
@@ -107,13 +107,14 @@ def draw(
 def draw(
     text: Text, around: Optional[int] = None, *, seed: Optional[int] = None, robin: bool = False, html: bool = False
 ) -> Union[Picture, Page]:
-    """The picture of a journal, or of a run of a script: by its own schedule, by one that `seed` draws, or round robin.
+    """The picture of a journal, or of a run of a script: with its own schedule, with a random one from `seed`, or round robin.
 
-    `around` is the number of a call: then only this one is drawn, and those that overlap it or help. Calls that are left, and the fault
-    of a journal that is not lawful, are in the picture. `Error` tells the line of what is no script and no journal, `ValueError` that
-    there is no such call.
+    `around` is the number of a call: then only this call is drawn, and those that overlap it or help. Calls that did not return, and the fault of a
+    journal that is not lawful, are in the picture.
 
     With `html` it is a page that plays the whole run, event by event: one file, which needs no network and no other file.
+
+    Raises `Error` with the line of a fault if the text is neither a script nor a journal, and `ValueError` if there is no such call.
     """
     given, by = _bytes_of(text, "draw"), _drawn(seed, robin)
     if not html:
@@ -138,18 +139,18 @@ def _picture(text: bytes, by: Tuple[By, int], around: Optional[int]) -> Picture:
 
 
 def trace(script: Text, *, seed: Optional[int] = None, robin: bool = False, every: bool = False) -> str:
-    """What each event of a run of a script did, in words: by its own schedule, by one that `seed` draws, or round robin.
+    """What each event of a run of a script did, in words: with its own schedule, with a random one from `seed`, or round robin.
 
-    With `every` idle turns and repeated waits have a line, too. `Error` tells the line of what is no script.
+    With `every`, idle turns and repeated waits have a line too. Raises `Error` with the line of a fault if the text is not a script.
     """
     return _told("trace", _bytes_of(script, "trace"), *_drawn(seed, robin), int(every))
 
 
 def schedule(script: Text, *, seed: Optional[int] = None, robin: bool = False) -> str:
-    """The script with the events of a run as its schedule: of one that `seed` draws, or round robin; one of both has to be given.
+    """The script with the events of a run as its schedule: of a random run from `seed`, or of one in round robin. One of the two has to be given.
 
-    `run` of what comes back is that run. `Error` tells the line of what is no script, and with `Status.TOO_LARGE` that the run takes more
-    events than a script gives.
+    `run` of the result is that run. Raises `Error` with the line of a fault if the text is not a script, and with `Status.TOO_LARGE` if the run takes
+    more events than a script can have.
     """
     by = _drawn(seed, robin)
     if by[0] == By.GIVEN:
@@ -158,10 +159,10 @@ def schedule(script: Text, *, seed: Optional[int] = None, robin: bool = False) -
 
 
 def seeds(script: Text, seed: int, runs: int) -> List[SeedVerdict]:
-    """The verdicts on so many runs of a script, of which the first is drawn by `seed`, and each other by the next number.
+    """The verdicts on so many random runs of a script. The first has the seed `seed`, and each other run the next number.
 
-    `run` of `schedule` with the seed of one is that run. `Error` tells the line of what is no script, `ValueError` that there are not 1
-    to 10,000 runs.
+    `run` of `schedule` with the seed of one is that run. Raises `Error` with the line of a fault if the text is not a script, and `ValueError`
+    if `runs` is not 1 to 10,000.
     """
     first, count = number_of(seed, "seed"), number_of(runs, "number of runs")
     if first >= _SEEDS:

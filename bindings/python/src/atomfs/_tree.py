@@ -111,14 +111,14 @@ def _names(told: bytes) -> List[bytes]:
 
 
 class Tree(Names):
-    """A tree of at most `limit` nodes, its root included, with the journal of its calls. `limits` bounds its names, paths, directories and
-    files, and `limit` is its most nodes where none is given.
+    """A tree of at most `limit` nodes, including its root, with the journal of its calls. `limits` bounds its names, paths, directories and files.
+    Without `limit` it may have as many nodes as `limits` allow.
 
     `journal` says how many calls it keeps: `ALL`, `LAST(10_000)` or `NONE`. A tree that keeps all grows with every call.
 
-    Threads may share it: each method holds `lock`, which is re-entrant, so that `with tree.lock:` keeps the other threads off
-    for several calls. The calls of a thread are on a seat of its own, so the journal says which thread made each. Paths are absolute;
-    those of `str` are UTF-8. `with` closes it.
+    Threads may share it: each method holds `lock`, which is re-entrant, so `with tree.lock:` keeps other threads away for several calls. Each
+    thread has a seat of its own, so the journal says which thread made a call. Paths are absolute; a `str` is encoded as UTF-8. `with` closes
+    the tree.
 
     Calls of threads come one after the other, unless `pauses` is a seed. Then a call lets the lock go between its events, and pauses after
     some of them, as is drawn from the seed and the seat, so that calls of threads overlap. The same seed draws the same pauses, but the
@@ -132,9 +132,9 @@ class Tree(Names):
             tree.write_text("/a/b/f", "hello")
             print(tree.check())
 
-    A call raises the `OSError` of its error, for example `FileNotFoundError`, and `OSError` with `EINVAL` or `ENAMETOOLONG` for what is no
-    path. A method of a closed tree raises `ClosedError`. Where memory runs out it is `MemoryError`, and the tree is as before. A call that
-    needs a node which a call on another seat holds raises `WaitsError`. A limit of nodes that no tree has, and a negative seed, is a `ValueError`.
+    A call raises the `OSError` of its error, for example `FileNotFoundError`, and `OSError` with `EINVAL` or `ENAMETOOLONG` if an argument is not a
+    path. A method of a closed tree raises `ClosedError`. If memory runs out, it raises `MemoryError`, and the tree is as before. A call that needs a
+    node which a call on another seat holds raises `WaitsError`. An impossible limit of nodes, or a negative seed, is a `ValueError`.
     """
 
     def __init__(
@@ -273,11 +273,11 @@ class Tree(Names):
     def from_dict(
         cls: Type[_Self], files: Mapping[str, Any], limit: Optional[int] = None, *, limits: Limits = Limits.V3
     ) -> _Self:
-        """A tree of these files: by paths, with or without the first slash, `bytes` or `str`, as UTF-8.
+        """A tree of these files: a dictionary from paths, with or without the first slash, to `bytes` or to `str`, which is encoded as UTF-8.
 
-        None is an empty directory, and a dictionary what is in one.
+        None is an empty directory, and a dictionary is a directory with its contents.
 
-        Raises `OSError` with `EINVAL` or `ENAMETOOLONG` for what is no path, and `TypeError` for what are no bytes.
+        Raises `OSError` with `EINVAL` or `ENAMETOOLONG` if a key is not a path, and `TypeError` if a value is of another type.
         """
         with _load.into(cls(limit, limits=limits)) as tree:
             _load.from_dict(tree, files)
@@ -294,8 +294,8 @@ class Tree(Names):
     ) -> _Self:
         """A tree of what is below a directory of the disk. A link to a file is that file; one to a directory is an error.
 
-        An error is raised with the path on the disk. With `on_error="skip"` what it speaks of is left out; a function is told it,
-        and the rest comes.
+        An error is raised with the path on the disk. With `on_error="skip"` what it is about is left out. With a function as `on_error` it is
+        left out too, and the function is called with the error.
         """
         with _load.into(cls(limit, limits=limits)) as tree:
             _load.from_directory(tree, path, on_error)
@@ -305,7 +305,7 @@ class Tree(Names):
     def from_zip(
         cls: Type[_Self], file: Union[StrPath, IO[bytes]], limit: Optional[int] = None, *, limits: Limits = Limits.V3
     ) -> _Self:
-        """A tree of what is in a zip, given by its path or as a file object. A name that is no path is refused.
+        """A tree of what is in a zip, given by its path or as a file object. A name that is not a path is refused.
 
         Raises `OSError` with `EINVAL` or `ENAMETOOLONG` for such a name, and what the module zipfile raises.
         """
@@ -347,9 +347,9 @@ class Tree(Names):
             return Snapshot(self.limits, self.tree(), self._metadata and self._metadata.copied())
 
     def restore(self, snapshot: Snapshot) -> None:
-        """Lets the tree be as it was, by the calls that this takes: for what has changed one, two or three a node.
+        """Makes the tree as it was, with the calls that this takes: one to three for each node that has changed.
 
-        A snapshot by other limits is a `ValueError`, and `UnderWayError` is raised while a call is under way.
+        A snapshot with other limits is a `ValueError`. While a call is pending, `UnderWayError` is raised.
         """
         _load.restore(self, snapshot)
 
@@ -441,9 +441,9 @@ class Tree(Names):
         ...
 
     def readdir(self, path: AnyPath) -> Union[List[str], List[bytes]]:
-        """The names of a directory, in byte order: of `bytes` where the path is.
+        """The names of a directory, in byte order: `bytes` if the path is.
 
-        `OSError` with `EOVERFLOW` is raised where they are more than 256, as they may be by `Limits.V3`: `listdir` tells these.
+        Raises `OSError` with `EOVERFLOW` if there are more than 256, which only `Limits.V3` allows: use `listdir` then.
         """
         return self._calls.readdir(self, path)
 
@@ -644,7 +644,7 @@ class Tree(Names):
     def copy(self, source: AnyPath, target: AnyPath) -> None:
         """Copies a file, whose bytes replace those of a file at `target`, or a directory with all below it: several calls.
 
-        `target` is the path of the copy, at which no directory may be. Of a directory that is not copied whole nothing stays.
+        `target` is the path of the copy, and no directory may be there. If a directory cannot be copied whole, nothing of the copy stays.
 
         Raises `FileNotFoundError` if there is no source, and the errors of the calls that it makes.
         """
@@ -701,9 +701,9 @@ class Tree(Names):
     def write_text(
         self, path: AnyPath, text: str, encoding: str = "utf-8", errors: str = "strict", newline: Optional[str] = None
     ) -> int:
-        """As `write_bytes` of the bytes of a text: several calls. It answers how many characters were written.
+        """Writes the bytes of a text, like `write_bytes`: several calls. It returns how many characters were written.
 
-        Raises what `write_bytes` does, and `TypeError` for what is no `str`.
+        Raises what `write_bytes` does, and `TypeError` if it is not a `str`.
         """
         if not isinstance(text, str):
             raise TypeError(f"write_text takes str, and this is {type(text).__name__}")
@@ -772,9 +772,9 @@ class Tree(Names):
             self._called()
 
     def forget(self) -> int:
-        """Lets the journal begin again at the current tree, and answers how many calls are forgotten.
+        """Lets the journal begin again at the current tree, and returns how many calls are forgotten.
 
-        It raises `UnderWayError` while a call is under way.
+        Raises `UnderWayError` while a call is pending.
         """
         with self.lock:
             if status := self._library.forget(self._at, self._at_number):
@@ -783,7 +783,7 @@ class Tree(Names):
             return self._number.value
 
     def journal(self) -> str:
-        """The journal: what `check` of the package reads. Its first call is the one behind `calls_before` others.
+        """The journal, which `atomfs.check` reads. Its first call is the one after `calls_before` others.
 
         Raises `ClosedError`, and `MemoryError`.
         """
@@ -806,9 +806,9 @@ class Tree(Names):
     ) -> Union[Picture, Page]:
         """The picture of the journal so far, as `atomfs.draw` makes it; notebooks show one of the last 100 calls.
 
-        `around` is the number of a call: then only this one is drawn, and those that overlap it. With `last` only the last calls are, at
-        most so many, which takes the calls before to be made again on another tree. A text of more than 16 MiB, by `Limits.V3` 1 GiB, is an `Error`.
-        With `html` it is a page that plays these calls, for example `tree.draw(html=True).save("run.html")`.
+        `around` is the number of a call: then only this call is drawn, and those that overlap it. `last` is how many of the last calls are drawn at
+        most; the calls before them are made again on another tree for that. A text of more than 16 MiB, with `Limits.V3` 1 GiB, is an `Error`. With
+        `html` it is a page that plays these calls, for example `tree.draw(html=True).save("run.html")`.
         """
         text = self.journal()
         if last is not None:
@@ -845,9 +845,9 @@ class Tree(Names):
         return f"fault {place.value} {Fault(kind.value).kind}" if kind.value else "lawful"
 
     def checkpoint(self) -> str:
-        """Hands the journal out, and lets it begin again at the current tree, which frees its memory.
+        """Returns the journal, and lets it begin again at the current tree, which frees its memory.
 
-        It raises `UnderWayError` while a call is under way.
+        Raises `UnderWayError` while a call is pending.
         """
         with self.lock:
             room = self._room
@@ -886,9 +886,9 @@ class Tree(Names):
         return Seat(self, number, name)
 
     def step_any(self) -> Optional[Tuple[int, Step]]:
-        """Makes one step of a call that does not wait, whichever it is: the number of its seat, and what the step did.
+        """Makes one step of some call that does not wait, and returns the number of its seat and what the step did.
 
-        It is `None` where no call is under way, and only there: in a loop it brings every call to its return.
+        It returns `None` if no call is pending, and only then. So calling it in a loop completes every call.
 
         Raises `ClosedError`.
         """
@@ -1023,9 +1023,9 @@ class Seat:
 
 
 class Begin:
-    """The begins of the twelve calls on a seat. Each answers the number of its call.
+    """The begins of the twelve calls on a seat. Each returns the number of its call.
 
-    Each raises `Error` with `SEAT_BUSY` if the seat has a pending call, `OSError` for what is no path, and `MemoryError`. Errors of the
+    Each raises `Error` with `SEAT_BUSY` if the seat has a pending call, `OSError` if an argument is not a path, and `MemoryError`. Errors of the
     call itself come with its reply.
     """
 

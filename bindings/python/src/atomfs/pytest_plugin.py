@@ -1,4 +1,4 @@
-"""The plugin of pytest, which is there where `atomfs` is installed.
+"""The plugin for pytest, which comes with the package `atomfs`.
 
     def test_a_tool(atom_tree):
         atom_tree.write_text("/in.txt", "hello")
@@ -8,15 +8,16 @@
     def test_with_data(atom_path):
         assert (atom_path / "in.txt").is_file()
 
-`atom_tree` is a tree of the test's own, `atom_fs` the same as a file system of PyFilesystem2, `atom_path` its root as a path. By
-`atom_patch` it stands at a directory of the disk, `/sandbox` where the mark has no other by `at`, for `open`, `os` and so on. At
+`atom_tree` is a tree of the test's own, `atom_fs` the same as a file system of PyFilesystem2, `atom_path` its root as a path. With `atom_patch` the
+tree is at a directory of the disk for `open`, `os` and so on: at `/sandbox`, unless the mark has another one as `at`. At
 the end the journal of the tree has to be lawful. The report of a test that fails shows the tree, its last 30 calls, and the paths of a
 picture and of a page that plays the calls: in the `tmp_path` of the test, or in a folder of its own beside those; and so it does of a run of
 `atomfs.explore`.
 
-`pytest --atomfs` runs tests that know nothing of this in trees: what is below `tmp_path`, temporary files, and the working directory, which
-begins empty. `--atomfs-at DIR` lets a directory of the disk be a tree besides, which begins as what is there. `--atomfs-overlay DIR` lets tests read
-a directory of the disk, and keeps every change of it in memory. If the working directory is below one of these, it stays. Each test's journals have to be lawful, and one that fails has its own beside the picture.
+`pytest --atomfs` runs tests that know nothing of this in trees: `tmp_path`, temporary files and the working directory, which begins empty, are in
+memory. `--atomfs-at DIR` adds a tree at a directory of the disk, which begins as what is there. `--atomfs-overlay DIR` lets tests read a directory
+of the disk, and keeps every change of it in memory. If the working directory is below one of these, it stays. Each test's journals have to be lawful,
+and the report of a test that fails names its journal beside the picture.
 """
 from __future__ import annotations
 

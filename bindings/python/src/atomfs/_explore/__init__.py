@@ -175,7 +175,7 @@ def explore(
     patience: float = _PATIENCE,
     executor: Any = None,
 ) -> Seen:
-    """Runs functions, each on a thread of its own, in interleavings that are drawn, and looks behind each run; answers how many there were.
+    """Runs functions, each on a thread of its own, in random interleavings, checks each run, and returns how many runs there were.
 
         def create(tree):
             if not tree.exists("/lock"):
@@ -184,20 +184,19 @@ def explore(
 
         atomfs.explore({"ann": create, "bob": create}, lambda tree, replies: list(replies.values()).count("won") == 1)
 
-    One thread goes at a time. Whose turn it is, is drawn before each begin and each step of a call of the tree, and at `atomfs.turn()`,
-    `time.sleep`, which takes no time, and the locks, conditions, events and queues that are made within the run. Each run has a new tree.
-    A function takes the tree. With `patch` it takes nothing, and the tree stands at `/sandbox`, or at the directory that is given:
-    `open`, `os`, `pathlib` and `shutil` go there. `before` is a function that prepares the tree, or calls.
+    One thread runs at a time. The seed decides whose turn is next before each begin and each step of a call of the tree. It also does so at
+    `atomfs.turn()`, at `time.sleep`, which takes no time, and at locks, conditions, events and queues that are made within the run. Each run
+    has a new tree. A function takes the tree. With `patch` it takes nothing, and the tree is at `/sandbox`, or at the directory that is given:
+    `open`, `os`, `pathlib` and `shutil` go there. `before` is a function that prepares the tree, or a list of calls.
 
-    A list of calls in the place of a function, lines of a script or tuples, is one that makes these.
+    In place of a function, a list of calls makes these calls: lines of a script, or tuples.
 
-    `check` takes the tree and by thread what its function returned or raised; of a list the reply of each call. With `patch` its `open`
-    and `os` go to the tree too. Where it raises, or answers False, or a run comes to no end, `ScheduleError` is raised with the run, cut
-    down. `budget` is how many turns a run takes at most, `patience` how many seconds a function stays away from the tree at most. `draws`
-    is `"uniform"`, `PCT(depth)`, or both by turns. The first run has the seed that is given, and each other the next: the same seed gives
-    the same run.
+    `check` takes the tree, and a dictionary with what each thread's function returned or raised, or with the replies of its calls. With `patch`
+    its `open` and `os` go to the tree too. If it raises or returns False, or if a run does not end, `ScheduleError` is raised, with the run cut
+    down. A run takes at most `budget` turns, and a function stays away from the tree for at most `patience` seconds. `draws` is `"uniform"` or
+    `PCT(depth)`; without it they take turns. The first run has the given seed, and each other run the next one: the same seed gives the same run.
 
-    `executor` is any of `concurrent.futures`: its workers make the runs, a range of seeds at a time, and what comes of it is the same.
+    `executor` is any executor of `concurrent.futures`: its workers make the runs, a range of seeds at a time, and the result is the same.
     """
     __tracebackhide__ = True
     options: Dict[str, Any] = {

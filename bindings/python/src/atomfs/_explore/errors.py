@@ -53,7 +53,7 @@ class Line(NamedTuple):
 
     @property
     def text(self) -> str:
-        """What stands in the line."""
+        """The text of the line."""
         return linecache.getline(self.file, self.number).strip()
 
 
@@ -85,10 +85,10 @@ def without_addresses(value: object) -> str:
 
 
 class ScheduleError(AssertionError):
-    """A run failed: its check did, or it came to no end. The error that was raised is the cause.
+    """A run failed: its check failed, or the run did not end. The error that was raised is the cause.
 
-    What it has is of the cut-down run: the one of the fewest switches between threads that was found, and then of the fewest calls, which
-    fails at the same place. `explore` with this seed and `runs=1` makes the drawn run again, and `replay` the cut-down one.
+    It describes the cut-down run, which fails at the same place: the one with the fewest switches between threads that was found, and then with
+    the fewest calls. `explore` with this seed and `runs=1` makes the run again as it was at first, and `replay` makes the cut-down one.
     """
 
     def __init__(self, seed: int, told: str, script: str, journal: str, replies: Replies, **more: Any) -> None:
@@ -142,7 +142,7 @@ class ScheduleError(AssertionError):
         return traced(self.script) if self.script else ""
 
     def draw(self) -> Picture:
-        """The picture of the run, with who waits for whom, and who helps."""
+        """The picture of the run, with the waits and the helped calls."""
         return draw(self.script or self.journal)
 
     def page(self) -> Page:
@@ -155,10 +155,10 @@ class ScheduleError(AssertionError):
         return self.page().html
 
     def replay(self, debug: bool = False) -> ScheduleError:
-        """Makes the cut-down run again, and answers its error; for functions no patience is lost meanwhile, so a debugger may stop in them.
+        """Makes the cut-down run again, and returns its error. Functions may take as long as they want, so a debugger can stop in them.
 
-        With `debug`, `pdb` stops at each line of `events`. Where the run does not fail again it raises `RuntimeError`: then something
-        besides the tree has changed, or is drawn by other means.
+        With `debug`, `pdb` stops at each line of `events`. If the run does not fail again, it raises `RuntimeError`: something that a seed does not
+        hold fixed has changed.
         """
         if self._again is None:
             raise RuntimeError("a run is made again in the process that found it: explore with this seed and runs=1")

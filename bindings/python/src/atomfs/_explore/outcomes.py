@@ -118,14 +118,14 @@ def outcomes(
     executor: Any = None,
     **options: Any,
 ) -> Outcomes:
-    """Runs functions as `explore` does, and counts what `observe` answers behind each run, which takes the tree and the replies.
+    """Runs functions as `explore` does, and counts what `observe` returns after each run. `observe` takes the tree and the replies.
 
         found = atomfs.outcomes({"ann": add, "bob": add}, lambda tree, replies: tree.read_text("/n"), before=zero)
         print(found)
         found.never("0").sometimes("2")
 
-    Two values are one outcome where their `repr` is the same, but for addresses. The other arguments are those of `explore`. A run that
-    comes to no end, or in which `observe` raises, raises `ScheduleError`.
+    Two values are one outcome if their `repr` is the same, apart from addresses. The other arguments are those of `explore`. If a run does not
+    end, or `observe` raises, `ScheduleError` is raised.
     """
     __tracebackhide__ = True
     before = options.get("before", ())
