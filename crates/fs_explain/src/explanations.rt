@@ -321,7 +321,7 @@ it shows            a journal that explains the entries before the return, and t
 ";
 
 const UNKNOWN: &str = "\
-unknown: `--limit` configurations were made
+unknown: `--limit` different configurations were made
 
 next                atomfs linearize --limit 1000000000 < FILE
 it makes            as many as can be asked for

@@ -1,6 +1,6 @@
 //! Entries of a tree, which copies share.
 
-ghost use Rattle.std.specs.Prelude.{◌≡◌, true, IfOk};
+ghost use Rattle.std.specs.Prelude.{◌≡◌, ◌↔◌, true, IfOk};
 ghost use Rattle.fs_calls.specs.Replies.{same_kind};
 ghost use Rattle.fs_names.specs.Names.{same_bytes};
 ghost use Rattle.fs_rows.specs.Rows.{row_of};
@@ -42,9 +42,9 @@ fn same_contents(bytes: &[u8], others: &[u8]) -> bool
     bytes == others
 }
 
-/// Whether both are one entry.
+/// Whether both are one entry: of directories no bytes count.
 fn same_row(row: &Row, other: &Row) -> bool
-    ensures { result ≡ true → row_of row.now ≡ row_of other.now }
+    ensures { result ≡ true ↔ row_of row.now ≡ row_of other.now }
 {
     if !same_key(&row.key, &other.key) {
         return false;
@@ -52,7 +52,10 @@ fn same_row(row: &Row, other: &Row) -> bool
     if !same_kinds(row.kind, other.kind) {
         return false;
     }
-    same_contents(&row.bytes, &other.bytes)
+    match row.kind {
+        Kind::Dir => true,
+        Kind::File => same_contents(&row.bytes, &other.bytes),
+    }
 }
 
 impl Cell {
@@ -98,9 +101,9 @@ impl Cell {
         }
     }
 
-    /// Whether both were found to be one entry.
+    /// Whether both are one entry.
     pub fn same(&self, other: &Cell) -> bool
-        ensures { result ≡ true → self.now ≡ other.now }
+        ensures { result ≡ true ↔ self.now ≡ other.now }
     {
         same_row(&self.row, &other.row)
     }

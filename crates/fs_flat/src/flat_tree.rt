@@ -1,6 +1,6 @@
 //! The tree.
 
-ghost use Rattle.std.specs.Prelude.{◌≡◌, true, length, IfOk, IsTrue};
+ghost use Rattle.std.specs.Prelude.{◌≡◌, ◌↔◌, true, length, IfOk, IsTrue};
 ghost use Rattle.std.specs.FinMap.{is_sorted};
 ghost use Rattle.fs_names.specs.Keys.{key_cmp};
 ghost use Rattle.fs_calls.specs.Outcomes.{after, called, reply, reply_at};
@@ -86,10 +86,10 @@ fn cells_of(alloc: Global, tree: &SeqTree) -> Result<Vec<Cell>, AllocError>
     Ok(cells)
 }
 
-/// Whether the entries were found to be the same.
+/// Whether the entries are the same.
 #[tactic(auto, using(crate::proofs::KeyLemmas::same_next, crate::proofs::KeyLemmas::same_all))]
 fn are_same(cells: &[Cell], others: &[Cell]) -> bool
-    ensures { result ≡ true → cells.now ≡ others.now }
+    ensures { result ≡ true ↔ cells.now ≡ others.now }
 {
     if cells.len() != others.len() {
         return false;
@@ -141,9 +141,9 @@ impl FlatTree {
         self.cells.len()
     }
 
-    /// Whether both were found to be one tree.
+    /// Whether both are one tree.
     pub fn same(&self, other: &FlatTree) -> bool
-        ensures { result ≡ true → self.now ≡ other.now }
+        ensures { result ≡ true ↔ self.now ≡ other.now }
     {
         self.limits == other.limits && are_same(&self.cells, &other.cells)
     }

@@ -16,7 +16,7 @@ use Rattle.fs_histories.specs.Early.{SettlesIn}
 use Rattle.fs_histories.specs.Paths.{LeadsTo}
 use Rattle.fs_histories.specs.Laws.{IsClosed}
 use Rattle.fs_histories.proofs.Reaching.{closed_set_reaches, closed_set_refutes}
-use Rattle.fs_linearize.specs.Limited.{WasLimited}
+use Rattle.fs_linearize.specs.Limited.{AreApart, WasLimited}
 use Rattle.fs_linearize.specs.code.Calls.{AreEach, AreUnderWay}
 use Rattle.fs_linearize.specs.code.Ways.{GoesBy, GoesBack, IsLed, AllLed, configurations}
 use Rattle.fs_linearize.specs.code.Searching.{AllAt, IsReady, WidensFor, HasPassed, PassesAll, IsFirst}
@@ -25,6 +25,7 @@ use Rattle.fs_linearize.specs.declared.steps.Link.{Link}
 use Rattle.fs_linearize.specs.declared.steps.Step.{Step}
 use Rattle.fs_linearize.specs.declared.under_way.UnderWay.{UnderWay}
 use Rattle.fs_linearize.proofs.CallLemmas.{can_now, none_under_way}
+use Rattle.fs_linearize.proofs.LayerLemmas.{apart_append}
 use Rattle.fs_linearize.proofs.NearLemmas.{near_numbers, near_found, is_near, led_tree}
 use Rattle.fs_linearize.proofs.SearchLemmas.{none_there}
 use Rattle.fs_linearize.proofs.WayLemmas.{led_start, contains_configuration, contains_way}
@@ -55,6 +56,7 @@ pub record Stands (start : Start) (h : List Heard) (limit place : ℕ) (us : Lis
   pub starts : SettlesIn h (gone ++ configurations layer) (at_start start)
   pub followed : (x : Configuration) → Contains gone x → IsFollowed h (SettlesIn h (gone ++ configurations layer)) x
   pub before : (x : Configuration) → Contains gone x → x.at < place
+  pub apart : AreApart gone
   pub made : (x : Configuration) → Contains gone x → (es : List Entry) × LeadsTo start h es x
   pub there : AllAt place layer
   pub led : AllLed start h links layer
@@ -72,6 +74,7 @@ stands_first start h limit us links layer tree none first =
       starts = (at_start start, [], refl, subst (Contains (configurations layer)) first.2 (contains_configuration layer r mine));
       followed = λ x k. absurd (let small = k.1 in omega (arith, small));
       before = λ x k. absurd (let small = k.1 in omega (arith, small));
+      apart = tt;
       made = λ x k. absurd (let small = k.1 in omega (arith, small));
       there = λ s k. subst (λ (z : Reached). z.configuration.at ≡ 0) (one s k) (ap (λ z. z.at) first.2);
       led = λ s k. subst (IsLed start h links) (one s k) (led_start start h links r first.2 first.3);
@@ -81,6 +84,14 @@ stands_first start h limit us links layer tree none first =
   where
     only : (a b : Reached) → Contains (a ∷ []) b → a ≡ b
     only a b there = ⊎_elim (λ none. none_there b none) (λ same. same) (Contains-push_cases [] a b there)
+
+-- what went by and what stands before an entry are apart
+apart_on : (place : ℕ) (gone : List Configuration) (wide : List Reached) → ((x : Configuration) → Contains gone x → x.at < place) → AllAt place wide → AreApart gone → AreApart (configurations wide) → AreApart (gone ++ configurations wide)
+apart_on place gone wide before there apart once = apart_append gone (configurations wide) apart once (λ x was now.
+    let way = contains_way wide x now in
+    let at : x.at ≡ place = subst (λ (z : Configuration). z.at ≡ place) way.2 (there way.0 way.1) in
+    let small = before x was in
+    omega (arith, at, small))
 
 -- ---- what follows a layer
 
@@ -148,8 +159,8 @@ closes start h limit place e us links mid new layer wide behind most gone here s
 
 pub stands_on : (start : Start) (h : List Heard) (limit place : ℕ) (e : Heard) (us vs : List UnderWay) (links mid new : List Link) (layer wide behind : List Reached) (most left : ℕ) (gone : List Configuration)
     → slice_get h place ≡ Some e → Stands start h limit place us links layer most gone → WidensFor h e place us links mid layer wide true most → PassesAll h e place mid new wide behind → AreUnderWay h (place + 1) vs
-    → most ≤ left + length wide → 0 < length behind → Stands start h limit (place + 1) vs new behind left (gone ++ configurations wide)
-stands_on start h limit place e us vs links mid new layer wide behind most left gone here s w p calls room some =
+    → most ≤ left + length wide → 0 < length behind → AreApart (configurations wide) → Stands start h limit (place + 1) vs new behind left (gone ++ configurations wide)
+stands_on start h limit place e us vs links mid new layer wide behind most left gone here s w p calls room some once =
     let k = closes start h limit place e us links mid new layer wide behind most gone here s w p in
     let long = length-append gone (configurations wide) in
     let many = length-map wide (λ (r : Reached). r.configuration) in
@@ -160,6 +171,7 @@ stands_on start h limit place e us vs links mid new layer wide behind most left 
       starts = k.starts;
       followed = k.followed;
       before = k.before;
+      apart = apart_on place gone wide s.before w.widens.there s.apart once;
       made = k.made;
       there = p.there;
       led = p.led start (w.widens.led start s.led);
@@ -198,14 +210,15 @@ before_place start h limit place us links layer most gone s =
     (l.es, l.leads.explains, ap (λ n. n + 1) (sym l.leads.place ∙ s.there s.some.0 s.some.1))
 
 pub was_limited : (start : Start) (h : List Heard) (limit place : ℕ) (e : Heard) (us : List UnderWay) (links mid : List Link) (layer wide : List Reached) (most : ℕ) (gone : List Configuration)
-    → Stands start h limit place us links layer most gone → WidensFor h e place us links mid layer wide false most → WasLimited start h limit (place + 1)
-was_limited start h limit place e us links mid layer wide most gone s w =
+    → Stands start h limit place us links layer most gone → WidensFor h e place us links mid layer wide false most → AreApart (configurations wide) → WasLimited start h limit (place + 1)
+was_limited start h limit place e us links mid layer wide most gone s w once =
     let long = length-append gone (configurations wide) in
     let many = length-map wide (λ (r : Reached). r.configuration) in
     let enough = s.many in
     let more = w.many refl in
     record {
       made = gone ++ configurations wide;
+      apart = apart_on place gone wide s.before w.widens.there s.apart once;
       many = omega (arith, long, many, enough, more);
       led = λ x k. ⊎_elim
           (λ was. s.made x was)

@@ -1,5 +1,7 @@
 mod NumberLemmas
 mod CodeLemmas
+mod ChainLemmas
+mod LayerLemmas
 mod CallLemmas
 mod NearLemmas
 mod WayLemmas

@@ -12,11 +12,11 @@ use Rattle.fs_histories.specs.declared.heard.Heard.TheVariants.{Begin, Return}
 use Rattle.fs_histories.specs.declared.heard.Pattern.{Pattern}
 use Rattle.fs_histories.specs.Histories.{IsHistory}
 use Rattle.fs_histories.specs.Meeting.{HasRoom}
-use Rattle.fs_histories.specs.Configurations.{Configuration, is_in, placed, passed, returned, committed, CanCommit}
+use Rattle.fs_histories.specs.Configurations.{Configuration, at_start, is_in, placed, passed, returned, committed, CanCommit}
 use Rattle.fs_histories.specs.Early.{SettlesBy, SettlesIn}
 use Rattle.fs_linearize.specs.code.Calls.{IsUnderWay, AreEach, AreNear, CanCommitNow, CanCommitQuietly}
 use Rattle.fs_linearize.specs.code.Ways.{IsLedBy, IsLed, AllLed, Keeps, configurations}
-use Rattle.fs_linearize.specs.code.Searching.{SettlesTo, AllAt, Grows, Adds, IsTried, AddsCommit, AddsCommits, AreTried, Follows, Widens, WidensBefore, WidensFor, HasPassed, Passes, PassesAll}
+use Rattle.fs_linearize.specs.code.Searching.{SettlesTo, AddsIfNew, AllAt, Grows, Adds, IsTried, AddsCommit, AddsCommits, AreTried, Follows, Widens, WidensBefore, WidensFor, HasPassed, Passes, PassesAll, IsFirst}
 use Rattle.fs_linearize.specs.declared.reached.Reached.{Reached}
 use Rattle.fs_linearize.specs.declared.steps.Link.{Link}
 use Rattle.fs_linearize.specs.declared.under_way.UnderWay.{UnderWay}
@@ -106,14 +106,20 @@ settles_still h x old more new is s =
 
 -- ---- what a configuration settles to
 
-pub adds_seen : (h : List Heard) (r s : Reached) (old new : List Link) (layer : List Reached) → SettlesTo h old new r s → Contains (configurations layer) s.configuration → Adds h r old new layer layer
+adds_seen : (h : List Heard) (r s : Reached) (old new : List Link) (layer : List Reached) → SettlesTo h old new r s → Contains (configurations layer) s.configuration → Adds h r old new layer layer
 adds_seen h r s old new layer k there = record { grows = grows_none h r.configuration.at r old new layer k.keeps; settles = (s.configuration, k.settles.0, k.settles.1, there) }
 
-pub adds_new : (h : List Heard) (r s : Reached) (old new : List Link) (before behind : List Reached) → SettlesTo h old new r s → behind ≡ before ++ s ∷ [] → Adds h r old new before behind
+adds_new : (h : List Heard) (r s : Reached) (old new : List Link) (before behind : List Reached) → SettlesTo h old new r s → behind ≡ before ++ s ∷ [] → Adds h r old new before behind
 adds_new h r s old new before behind k is = record {
   grows = grows_one h r.configuration.at r s old new before behind is (same_place h old new r s k) k.keeps k.led;
   settles = (s.configuration, k.settles.0, k.settles.1, contains_configuration behind s (subst (λ (rs : List Reached). Contains rs s) (sym is) (Contains-push before s)));
 }
+
+pub adds_if_new : (h : List Heard) (r s : Reached) (old new : List Link) (before behind : List Reached) → SettlesTo h old new r s → AddsIfNew s before behind → Adds h r old new before behind
+adds_if_new h r s old new before behind k added = ⊎_elim
+    (λ seen. subst (λ (rs : List Reached). Adds h r old new before rs) (sym seen.1) (adds_seen h r s old new before k seen.0))
+    (λ is. adds_new h r s old new before behind k is)
+    added
 
 -- ---- calls that commit
 
@@ -299,29 +305,47 @@ widens_return h c at p us a b x y whole most k = record { widens = k.widens; rea
 pub widens_begin : (h : List Heard) (c seat at : ℕ) (call : Call) (us : List UnderWay) (most : ℕ) (whole : Bool) (links : List Link) (layer : List Reached) → (whole ≡ false → most ≤ length layer) → AllAt at layer → WidensFor h (Begin c seat call) at us links links layer layer whole most
 widens_begin h c seat at call us most whole links layer many there = record { widens = widens_same h at links layer there; ready = λ yes x k. tt; many = many }
 
+-- the layer before the first entry
+pub first_added : (start : Start) (r : Reached) (layer : List Reached) → r.configuration ≡ at_start start → r.last ≡ 0 → AddsIfNew r [] layer → IsFirst start layer
+first_added start r layer first none added = ⊎_elim (λ seen. absurd (let small = seen.0.1 in omega (arith, small))) (λ is. (r, is, first, none)) added
+
 -- ---- a layer that passes an entry
 
 pub passes_begin : (h : List Heard) (c seat : ℕ) (call : Call) (r s t : Reached) (old new : List Link) (before behind : List Reached) → IsHistory h → slice_get h r.configuration.at ≡ Some (Begin c seat call)
-    → s.configuration ≡ passed r.configuration → s.last ≡ r.last → SettlesTo h old new s t → behind ≡ before ++ t ∷ [] → Passes h (Begin c seat call) r old new before behind
-passes_begin h c seat call r s t old new before behind history here is last k pushed =
-    let x = r.configuration in
-    let at : s.configuration.at ≡ x.at + 1 = ap (λ z. z.at) is in
-    record {
-      grows = grows_one h (x.at + 1) r t old new before behind pushed (same_place h old new s t k ∙ at) k.keeps
-          (λ start l. k.led start (led_at start h old s (passed x) r.last is last (led_begin start h old x r.last c seat call history here l)));
-      passed = subst (SettlesIn h (configurations behind)) is
-          (t.configuration, k.settles.0, k.settles.1, contains_configuration behind t (subst (λ (rs : List Reached). Contains rs t) (sym pushed) (Contains-push before t)));
-    }
+    → s.configuration ≡ passed r.configuration → s.last ≡ r.last → SettlesTo h old new s t → AddsIfNew t before behind → Passes h (Begin c seat call) r old new before behind
+passes_begin h c seat call r s t old new before behind history here is last k added =
+    ⊎_elim (λ seen. subst (λ (rs : List Reached). Passes h (Begin c seat call) r old new before rs) (sym seen.1) (there seen.0)) (λ pushed. more pushed) added
+  where
+    there : Contains (configurations before) t.configuration → Passes h (Begin c seat call) r old new before before
+    there seen = record { grows = grows_none h (r.configuration.at + 1) r old new before k.keeps; passed = subst (SettlesIn h (configurations before)) is (t.configuration, k.settles.0, k.settles.1, seen) }
+
+    more : behind ≡ before ++ t ∷ [] → Passes h (Begin c seat call) r old new before behind
+    more pushed =
+        let x = r.configuration in
+        let at : s.configuration.at ≡ x.at + 1 = ap (λ z. z.at) is in
+        record {
+          grows = grows_one h (x.at + 1) r t old new before behind pushed (same_place h old new s t k ∙ at) k.keeps
+              (λ start l. k.led start (led_at start h old s (passed x) r.last is last (led_begin start h old x r.last c seat call history here l)));
+          passed = subst (SettlesIn h (configurations behind)) is
+              (t.configuration, k.settles.0, k.settles.1, contains_configuration behind t (subst (λ (rs : List Reached). Contains rs t) (sym pushed) (Contains-push before t)));
+        }
 
 pub passes_return : (h : List Heard) (c : ℕ) (p : Pattern) (r s : Reached) (links : List Link) (before behind : List Reached) → IsHistory h → slice_get h r.configuration.at ≡ Some (Return c p) → is_in c r.configuration.held ≡ true
-    → s.configuration ≡ returned r.configuration c → s.last ≡ r.last → behind ≡ before ++ s ∷ [] → Passes h (Return c p) r links links before behind
-passes_return h c p r s links before behind history here held is last pushed =
-    let x = r.configuration in
-    record {
-      grows = grows_one h (x.at + 1) r s links links before behind pushed (ap (λ z. z.at) is) (keeps_same links)
-          (λ start l. led_at start h links s (returned x c) r.last is last (led_return start h links x r.last c p history here held l));
-      passed = λ yes. (returned x c, [], refl, subst (Contains (configurations behind)) is (contains_configuration behind s (subst (λ (rs : List Reached). Contains rs s) (sym pushed) (Contains-push before s))));
-    }
+    → s.configuration ≡ returned r.configuration c → s.last ≡ r.last → AddsIfNew s before behind → Passes h (Return c p) r links links before behind
+passes_return h c p r s links before behind history here held is last added =
+    ⊎_elim (λ seen. subst (λ (rs : List Reached). Passes h (Return c p) r links links before rs) (sym seen.1) (there seen.0)) (λ pushed. more pushed) added
+  where
+    there : Contains (configurations before) s.configuration → Passes h (Return c p) r links links before before
+    there seen = record { grows = grows_none h (r.configuration.at + 1) r links links before (keeps_same links); passed = λ yes. (returned r.configuration c, [], refl, subst (Contains (configurations before)) is seen) }
+
+    more : behind ≡ before ++ s ∷ [] → Passes h (Return c p) r links links before behind
+    more pushed =
+        let x = r.configuration in
+        record {
+          grows = grows_one h (x.at + 1) r s links links before behind pushed (ap (λ z. z.at) is) (keeps_same links)
+              (λ start l. led_at start h links s (returned x c) r.last is last (led_return start h links x r.last c p history here held l));
+          passed = λ yes. (returned x c, [], refl, subst (Contains (configurations behind)) is (contains_configuration behind s (subst (λ (rs : List Reached). Contains rs s) (sym pushed) (Contains-push before s))));
+        }
 
 pub passes_not : (h : List Heard) (c : ℕ) (p : Pattern) (r : Reached) (links : List Link) (layer : List Reached) → is_in c r.configuration.held ≡ false → Passes h (Return c p) r links links layer layer
 passes_not h c p r links layer not_held = record { grows = grows_none h (r.configuration.at + 1) r links links layer (keeps_same links); passed = λ held. absurd (both_ways _ not_held held) }

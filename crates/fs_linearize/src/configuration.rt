@@ -1,11 +1,12 @@
 //! Configurations of the search.
 
-ghost use Rattle.std.specs.Prelude.{◌≡◌, true, IfOk};
+ghost use Rattle.std.specs.Prelude.{◌≡◌, ◌↔◌, true, IfOk};
 ghost use Rattle.fs_calls.specs.Starts.{start_tree};
 ghost use Rattle.fs_histories.specs.Configurations as specs;
 ghost use Rattle.fs_histories.specs.Meeting.{HasRoom};
+ghost use Rattle.fs_linearize.specs.code.Keys.{key_of};
 
-use crate::numbers;
+use crate::{chains, numbers};
 use fs_flat::FlatTree;
 use fs_seq::SeqTree;
 use std::alloc::{AllocError, Global};
@@ -72,9 +73,16 @@ impl Configuration {
         })
     }
 
-    /// Whether both were found to be the same.
+    /// A key of the calls that it holds.
+    pub fn key(&self) -> u64
+        ensures { result ≡ key_of self.now.held }
+    {
+        chains::key_of(&self.held)
+    }
+
+    /// Whether both are the same.
     pub fn same(&self, other: &Configuration) -> bool
-        ensures { result ≡ true → self.now ≡ other.now }
+        ensures { result ≡ true ↔ self.now ≡ other.now }
     {
         if self.at != other.at || self.held != other.held {
             return false;

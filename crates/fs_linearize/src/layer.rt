@@ -1,214 +1,99 @@
-//! Layers of the search: the configurations before an entry, with all that come of them by commits.
+//! Layers of the search.
 
-ghost use Rattle.std.specs.Prelude.{◌≡◌, ◌≤◌, ℕ, List, length, slice_get, true, false, Some, IfOk, OnOk, Contains};
-ghost use Rattle.fs_histories.specs.Configurations.{is_in};
-ghost use Rattle.fs_histories.specs.declared.heard.Heard.{Heard as Value};
-ghost use Rattle.fs_linearize.specs.code.Calls.{AreEach, AreNear, IsUnderWay};
+ghost use Rattle.std.specs.Prelude.{◌≡◌, ◌↔◌, true, [], length, Contains, OnOk};
+ghost use Rattle.fs_linearize.specs.Limited.{AreApart};
 ghost use Rattle.fs_linearize.specs.code.Ways.{configurations};
-ghost use Rattle.fs_linearize.specs.code.Searching.{AllAt, Adds, AddsCommit, AddsCommits, Follows, WidensBefore, WidensFor};
-ghost use Rattle.fs_linearize.specs.declared.reached.Reached.{Reached as Way};
+ghost use Rattle.fs_linearize.specs.code.Searching.{AddsIfNew};
 
+use crate::chains::Chains;
 use crate::configuration::Configuration;
-use crate::places::Places;
 use crate::reached::Reached;
-use crate::steps::Link;
-use crate::under_way::UnderWay;
-use crate::{committing, meeting};
-use fs_histories::Heard;
 use std::alloc::{AllocError, Global};
+use std::marker::Model;
 
-/// Whether a configuration was found in a layer.
-fn contains(layer: &[Reached], places: &Places, x: &Configuration) -> bool
-    ensures { result ≡ true → Contains (configurations layer.now) x.now }
-{
-    let mut next = places.first(x);
-    for _ in 0..layer.len() {
-        let Some(place) = next else {
-            return false;
-        };
-        if layer.len() <= place {
-            return false;
-        }
-        if layer[place].configuration.same(x) {
-            return true;
-        }
-        next = places.next(place);
-    }
-    false
+/// What was reached before an entry, each configuration once. It is found again by the key of the calls that it holds.
+#[derive(Drop)]
+pub(crate) struct Layer {
+    reached: Vec<Reached>,
+    chains: Chains,
 }
 
-/// Adds what a configuration settles to, if it is not there.
-fn add(
-    alloc: Global,
-    calls: &[UnderWay],
-    links: &mut Vec<Link>,
-    layer: &mut Vec<Reached>,
-    places: &mut Places,
-    reached: Reached,
-) -> Result<(), AllocError>
-    ensures { OnOk result ((h : List Value) → AreEach h reached.configuration.at calls.now → Adds h reached links.old.items links.new.items layer.old.items layer.new.items) }
-{
-    let settled = committing::settle(alloc, calls, links, reached)?;
-    if contains(layer, places, &settled.configuration) {
-        return Ok(());
-    }
-    places.add(&settled.configuration)?;
-    layer.push(settled)?;
-    Ok(())
+impl Model for Layer {
+    ghost use Rattle.std.specs.Prelude.{List};
+    ghost use Rattle.fs_linearize.specs.declared.reached.Reached.{Reached as Way};
+
+    ghost Value = { List Way };
+
+    ghost use Rattle.fs_linearize.specs.code.Layers.{IsLayer};
+
+    ghost view = { λ l. l.reached.items };
+
+    ghost invariant = { IsLayer };
 }
 
-/// Adds what comes of the commit of a call, if it can commit and that is not there.
-fn add_commit(
-    alloc: Global,
-    calls: &[UnderWay],
-    links: &mut Vec<Link>,
-    layer: &mut Vec<Reached>,
-    places: &mut Places,
-    reached: &Reached,
-    call: &UnderWay,
-) -> Result<(), AllocError>
-    ensures { OnOk result ((h : List Value) → AreEach h reached.now.configuration.at calls.now → IsUnderWay h reached.now.configuration.at call.now
-        → AddsCommit h reached.now call.now links.old.items links.new.items layer.old.items layer.new.items) }
-{
-    match committing::commit(alloc, &reached.configuration, call)? {
-        Some(configuration) => {
-            if contains(layer, places, &configuration) {
-                return Ok(());
+impl Layer {
+    /// Nothing yet.
+    pub fn new(alloc: Global) -> Self
+        ensures { result ≡ [] }
+    {
+        Layer {
+            reached: Vec::new(alloc),
+            chains: Chains::new(alloc),
+        }
+    }
+
+    /// How many configurations there are.
+    pub fn len(&self) -> usize
+        ensures { result ≡ length self.now }
+    {
+        self.reached.len()
+    }
+
+    /// All that was reached, to look at.
+    pub fn as_slice(&self) -> &[Reached]
+        ensures { result.now ≡ self.now }
+    {
+        self.reached.as_slice()
+    }
+
+    /// All that was reached, to take.
+    pub fn into_reached(self) -> Vec<Reached>
+        ensures { result.items ≡ self }
+    {
+        self.reached
+    }
+
+    /// No configuration is there twice.
+    pub fn is_apart(&self)
+        ensures { AreApart (configurations self.now) }
+    {
+        let _reached = &self.reached;
+    }
+
+    /// Whether a configuration is there.
+    pub fn contains(&self, x: &Configuration) -> bool
+        ensures { result ≡ true ↔ Contains (configurations self.now) x.now }
+    {
+        let mut next = self.chains.last(x.key());
+        while let Some(place) = next {
+            if self.reached[place].configuration.same(x) {
+                return true;
             }
-            links.push(Link {
-                number: call.number,
-                at: reached.configuration.passed_count(),
-                before: reached.last,
-            })?;
-            let next = Reached {
-                configuration,
-                last: links.len(),
-            };
-            Ok(add(alloc, calls, links, layer, places, next)?)
+            next = self.chains.before(place);
         }
-        None => Ok(()),
+        false
     }
-}
 
-/// Adds what comes of the commit of each near call that can commit.
-fn add_commits(
-    alloc: Global,
-    calls: &[UnderWay],
-    near: &[UnderWay],
-    links: &mut Vec<Link>,
-    layer: &mut Vec<Reached>,
-    places: &mut Places,
-    reached: &Reached,
-) -> Result<(), AllocError>
-    ensures { OnOk result ((h : List Value) → AreEach h reached.now.configuration.at calls.now
-        → AreEach h reached.now.configuration.at near.now → AddsCommits h reached.now near.now links.old.items links.new.items layer.old.items layer.new.items) }
-{
-    for call in near {
-        add_commit(alloc, calls, links, layer, places, reached, call)?;
-    }
-    Ok(())
-}
-
-/// Adds what may follow the configuration of a place before the return of a call, if that has not committed. The calls that
-/// have to do with it are given for a tree with room.
-fn follow(
-    alloc: Global,
-    calls: &[UnderWay],
-    near: &[UnderWay],
-    links: &mut Vec<Link>,
-    layer: &mut Vec<Reached>,
-    places: &mut Places,
-    place: usize,
-    number: u64,
-) -> Result<(), AllocError>
-    ensures { OnOk result ((h : List Value) (r : Way) → slice_get layer.old.items place ≡ Some r → AreEach h r.configuration.at calls.now → AreNear number false calls.now near.now
-        → Follows h number r calls.now links.old.items links.new.items layer.old.items layer.new.items) }
-{
-    if layer.len() <= place {
-        return Ok(());
-    }
-    let reached = &layer[place];
-    if reached.configuration.holds(number) {
-        return Ok(());
-    }
-    let reached = reached.copy(alloc)?;
-    if reached.configuration.has_room(calls.len()) {
-        return Ok(add_commits(alloc, calls, near, links, layer, places, &reached)?);
-    }
-    let near = meeting::near(alloc, calls, number, true)?;
-    Ok(add_commits(alloc, calls, &near, links, layer, places, &reached)?)
-}
-
-/// Whether all of a layer were found to have committed a call.
-fn all_hold(layer: &[Reached], number: u64) -> bool
-    ensures { result ≡ true → (r : Way) → Contains layer.now r → is_in number r.configuration.held ≡ true }
-{
-    for reached in layer {
-        if !reached.configuration.holds(number) {
-            return false;
+    /// Adds what was reached, if its configuration is not there.
+    pub fn add(&mut self, reached: Reached) -> Result<(), AllocError>
+        ensures { OnOk result (AddsIfNew reached self.old self.new) }
+    {
+        if self.contains(&reached.configuration) {
+            return Ok(());
         }
-    }
-    true
-}
-
-/// Adds all that comes of a layer by commits before the return of a call; false where more configurations than may be are there.
-fn widen_before(
-    alloc: Global,
-    calls: &[UnderWay],
-    links: &mut Vec<Link>,
-    layer: &mut Vec<Reached>,
-    number: u64,
-    most: usize,
-) -> Result<bool, AllocError>
-    ensures room { IfOk result (λ whole. whole ≡ true → length layer.new.items ≤ most) }
-    ensures widens { IfOk result (λ whole. (h : List Value) (at : ℕ) → AllAt at layer.old.items → AreEach h at calls.now
-        → WidensBefore h number at calls.now links.old.items links.new.items layer.old.items layer.new.items whole most) }
-{
-    if all_hold(layer, number) {
-        return Ok(layer.len() <= most);
-    }
-    let near = meeting::near(alloc, calls, number, false)?;
-    let mut places = Places::of(alloc, layer)?;
-    for place in 0..most {
-        if place >= layer.len() {
-            return Ok(true);
-        }
-        follow(
-            alloc,
-            calls,
-            &near,
-            links,
-            layer,
-            &mut places,
-            place,
-            number,
-        )?;
-    }
-    Ok(false)
-}
-
-/// Adds all that has to come of a layer before an entry; false where more configurations than may be are there.
-pub(crate) fn widen(
-    alloc: Global,
-    calls: &[UnderWay],
-    links: &mut Vec<Link>,
-    layer: &mut Vec<Reached>,
-    entry: &Heard,
-    most: usize,
-) -> Result<bool, AllocError>
-    ensures room { IfOk result (λ whole. whole ≡ true → length layer.new.items ≤ most) }
-    ensures widens { IfOk result (λ whole. (h : List Value) (at : ℕ) → AllAt at layer.old.items → AreEach h at calls.now
-        → WidensFor h entry.now at calls.now links.old.items links.new.items layer.old.items layer.new.items whole most) }
-{
-    match entry {
-        Heard::Begin(_, _, _) => Ok(layer.len() <= most),
-        Heard::Return(number, _) => Ok(widen_before(
-            alloc,
-            calls,
-            links,
-            layer,
-            number.get(),
-            most,
-        )?),
+        self.reached.reserve(1)?;
+        self.chains.push(reached.configuration.key())?;
+        self.reached.push(reached)?;
+        Ok(())
     }
 }

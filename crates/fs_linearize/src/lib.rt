@@ -2,7 +2,7 @@
 //!
 //! `linearize` puts the commits into a history. `Lawful` has a journal that explains it from its start tree, `NoOrder` says
 //! that none does, and names the first return up to which there is none; `Fault` that the entries are no history, and
-//! `Unknown` that the limit was reached.
+//! `Unknown` that a search met as many different configurations as the limit says.
 //!
 //! The search goes by layers: all configurations before an entry, then those behind it. A configuration is how many entries
 //! have passed, the tree, and which calls have committed and not returned. A call that changes no tree commits as soon as its
@@ -14,6 +14,7 @@
 //! answer says, `specs/Possible.antt` what could have been replied.
 #![tactic(auto)]
 
+mod chains;
 mod committing;
 mod configuration;
 mod faults;
@@ -24,7 +25,6 @@ pub mod linearizing;
 mod meeting;
 mod numbers;
 mod passing;
-mod places;
 mod playing;
 pub mod progress;
 mod reached;
@@ -35,6 +35,7 @@ mod stopping;
 mod telling;
 mod under_way;
 mod ways;
+mod widening;
 
 pub use linearizing::{Found, linearize};
 pub use progress::{Progress, Untold};

@@ -36,7 +36,8 @@ pub enum Found {
     },
     /// It is no history: the entry of this place, counted from 1, cannot come next.
     Fault(usize, HistoryFault),
-    /// In one search so many configurations were made as the limit says; it had come to the entry of this place, counted from 1.
+    /// One search met as many different configurations as the limit says, each by a journal that explains a front; it had come to
+    /// the entry of this place, counted from 1.
     Unknown(usize),
 }
 

@@ -7,6 +7,7 @@ ghost use Rattle.fs_linearize.specs.code.Calls.{AreEach};
 ghost use Rattle.fs_linearize.specs.code.Searching.{AllAt, Passes, PassesAll};
 
 use crate::committing;
+use crate::layer::Layer;
 use crate::reached::Reached;
 use crate::steps::Link;
 use crate::under_way::UnderWay;
@@ -18,13 +19,13 @@ fn pass_one(
     alloc: Global,
     calls: &[UnderWay],
     links: &mut Vec<Link>,
-    layer: &mut Vec<Reached>,
+    layer: &mut Layer,
     reached: Reached,
     entry: &Heard,
     at: usize,
 ) -> Result<(), AllocError>
     ensures { OnOk result ((h : List Value) → IsHistory h → slice_get h reached.configuration.at ≡ Some entry.now → at ≡ reached.configuration.at + 1 → AreEach h at calls.now
-        → Passes h entry.now reached links.old.items links.new.items layer.old.items layer.new.items) }
+        → Passes h entry.now reached links.old.items links.new.items layer.old layer.new) }
 {
     match entry {
         Heard::Begin(_, _, _) => {
@@ -33,19 +34,17 @@ fn pass_one(
                 last: reached.last,
             };
             let settled = committing::settle_newest(alloc, calls, links, begun)?;
-            layer.push(settled)?;
-            Ok(())
+            Ok(layer.add(settled)?)
         }
         Heard::Return(number, _) => {
             if !reached.configuration.holds(number.get()) {
                 return Ok(());
             }
             let configuration = reached.configuration.returned(alloc, number.get(), at)?;
-            layer.push(Reached {
+            Ok(layer.add(Reached {
                 configuration,
                 last: reached.last,
-            })?;
-            Ok(())
+            })?)
         }
     }
 }
@@ -55,15 +54,15 @@ pub(crate) fn pass(
     alloc: Global,
     calls: &[UnderWay],
     links: &mut Vec<Link>,
-    layer: Vec<Reached>,
+    layer: Layer,
     entry: &Heard,
     at: usize,
-) -> Result<Vec<Reached>, AllocError>
-    ensures { IfOk result (λ behind. (h : List Value) (place : ℕ) → IsHistory h → slice_get h place ≡ Some entry.now → at ≡ place + 1 → AllAt place layer.items → AreEach h at calls.now
-        → PassesAll h entry.now place links.old.items links.new.items layer.items behind.items) }
+) -> Result<Layer, AllocError>
+    ensures { IfOk result (λ behind. (h : List Value) (place : ℕ) → IsHistory h → slice_get h place ≡ Some entry.now → at ≡ place + 1 → AllAt place layer → AreEach h at calls.now
+        → PassesAll h entry.now place links.old.items links.new.items layer behind) }
 {
-    let mut before = layer;
-    let mut behind = Vec::new(alloc);
+    let mut before = layer.into_reached();
+    let mut behind = Layer::new(alloc);
     while let Some(reached) = before.pop() {
         pass_one(alloc, calls, links, &mut behind, reached, entry, at)?;
     }

@@ -5,7 +5,7 @@ ghost use Rattle.fs_histories.specs.Histories.{IsHistory};
 ghost use Rattle.fs_linearize.specs.code.Searching.{IsFirst, IsSearched};
 
 use crate::configuration::Configuration;
-use crate::layer::widen;
+use crate::layer::Layer;
 use crate::passing::pass;
 use crate::progress::Progress;
 use crate::reached::Reached;
@@ -13,6 +13,7 @@ use crate::steps::{Link, Step};
 use crate::stopping::unheld;
 use crate::under_way;
 use crate::ways::steps_to;
+use crate::widening::widen;
 use fs_histories::Heard;
 use fs_names::CallNo;
 use fs_seq::SeqTree;
@@ -31,11 +32,11 @@ pub(crate) enum Searched {
 }
 
 /// The layer before the first entry.
-fn first_layer(alloc: Global, start: &SeqTree) -> Result<Vec<Reached>, AllocError>
-    ensures { IfOk result (λ layer. IsFirst start.now layer.items) }
+fn first_layer(alloc: Global, start: &SeqTree) -> Result<Layer, AllocError>
+    ensures { IfOk result (IsFirst start.now) }
 {
-    let mut layer = Vec::new(alloc);
-    layer.push(Reached {
+    let mut layer = Layer::new(alloc);
+    layer.add(Reached {
         configuration: Configuration::start(alloc, start)?,
         last: 0,
     })?;
@@ -59,18 +60,20 @@ pub(crate) fn find_way<P: Progress>(
     let mut links = Vec::new(alloc);
     let mut most = limit;
     for (place, entry) in history.iter().enumerate() {
-        if !widen(alloc, &calls, &mut links, &mut layer, entry, most)? {
+        let whole = widen(alloc, &calls, &mut links, &mut layer, entry, most)?;
+        layer.is_apart();
+        if !whole {
             return Ok(Searched::Limited(place + 1));
         }
         most -= layer.len();
-        if let Some(number) = unheld(&layer, entry) {
+        if let Some(number) = unheld(layer.as_slice(), entry) {
             return Ok(Searched::NoOrder(place + 1, number));
         }
         calls = under_way::after(alloc, calls, entry, &history[place..])?;
         layer = pass(alloc, &calls, &mut links, layer, entry, place + 1)?;
         progress.passed(place + 1, history.len(), limit.saturating_sub(most));
     }
-    let Some(reached) = layer.first() else {
+    let Some(reached) = layer.as_slice().first() else {
         unreachable!();
     };
     let steps = steps_to(alloc, &links, history.len(), reached.last)?;

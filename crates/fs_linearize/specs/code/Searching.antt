@@ -1,5 +1,5 @@
 -- What a step of the search adds to what was reached.
-use Rattle.std.specs.Prelude.{◌≡◌, ◌+◌, ◌≤◌, ℕ, Bool, true, false, List, [], ◌∷◌, ◌++◌, length, take, None, Contains}
+use Rattle.std.specs.Prelude.{◌≡◌, ◌⊎◌, ◌+◌, ◌≤◌, ℕ, Bool, true, false, List, [], ◌∷◌, ◌++◌, length, take, None, Contains}
 use Rattle.fs_calls.specs.Starts.{Start, start_tree}
 use Rattle.fs_timeline.specs.declared.entry.Entry.{Entry}
 use Rattle.fs_histories.specs.declared.heard.Heard.{Heard}
@@ -26,6 +26,10 @@ pub record SettlesTo (h : List Heard) (old new : List Link) (r s : Reached) : Ty
   pub settles : Settles h r.configuration s.configuration
   pub keeps : Keeps old new
   pub led : (start : Start) → IsLed start h old r → IsLed start h new s
+
+-- a layer gets what was reached, or has its configuration
+abbrev pub AddsIfNew : Reached → List Reached → List Reached → Type 0
+AddsIfNew r before behind = (Contains (configurations before) r.configuration × (behind ≡ before)) ⊎ (behind ≡ before ++ r ∷ [])
 
 -- all of a layer are behind so many entries
 abbrev pub AllAt : ℕ → List Reached → Type 0

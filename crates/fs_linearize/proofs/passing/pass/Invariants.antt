@@ -7,8 +7,8 @@ use Rattle.fs_linearize.proofs.SearchLemmas.{PassesUpTo}
 use Rattle.fs_linearize.proofs.passing.pass.Given as goal
 
 abbrev pub invariant-loop-reached : goal.invariant-loop-reached
-invariant-loop-reached l = (h : List Heard) (place : ℕ) → IsHistory h → slice_get h place ≡ Some l.entry → l.at ≡ place + 1 → AllAt place l.fn.layer.items → AreEach h l.at l.calls
-    → PassesUpTo h l.entry place l.fn.links.items l.links.items l.fn.layer.items l.before.items l.behind.items
+invariant-loop-reached l = (h : List Heard) (place : ℕ) → IsHistory h → slice_get h place ≡ Some l.entry → l.at ≡ place + 1 → AllAt place l.fn.layer → AreEach h l.at l.calls
+    → PassesUpTo h l.entry place l.fn.links.items l.links.items l.fn.layer l.before.items l.behind
 
 abbrev pub decreases-loop-reached : goal.decreases-loop-reached
 decreases-loop-reached l = vec_len l.before

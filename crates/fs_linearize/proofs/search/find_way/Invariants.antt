@@ -4,4 +4,4 @@ use Rattle.fs_linearize.proofs.FindingLemmas.{Stands}
 use Rattle.fs_linearize.proofs.search.find_way.Given as goal
 
 abbrev pub invariant-loop-place : goal.invariant-loop-place
-invariant-loop-place g l = (gone : List Configuration) × Stands l.start l.history l.fn.limit l.place l.calls.items l.links.items l.layer.items l.most gone
+invariant-loop-place g l = (gone : List Configuration) × Stands l.start l.history l.fn.limit l.place l.calls.items l.links.items l.layer l.most gone

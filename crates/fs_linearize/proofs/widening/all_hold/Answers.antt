@@ -1,6 +1,6 @@
 use Rattle.std.proofs.Common.{sym, ◌∙◌}
 use Rattle.fs_linearize.proofs.SearchLemmas.{hold_none, hold_more, hold_all}
-use Rattle.fs_linearize.proofs.layer.all_hold.Goals as goal
+use Rattle.fs_linearize.proofs.widening.all_hold.Goals as goal
 
 pub loop-reached-init : goal.loop-reached-init
 loop-reached-init c = hold_none c.args.number c.args.layer.now

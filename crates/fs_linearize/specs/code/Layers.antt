@@ -1,0 +1,17 @@
+-- Layers of the search.
+use Rattle.std.specs.Prelude.{◌≡◌, ℕ, List, [], ◌∷◌, ◌++◌, map, Contains}
+use Rattle.fs_histories.specs.Configurations.{Configuration}
+use Rattle.fs_linearize.specs.Limited.{AreApart}
+use Rattle.fs_linearize.specs.code.Keys.{key_of}
+use Rattle.fs_linearize.specs.code.Ways.{configurations}
+use Rattle.fs_linearize.specs.declared.reached.Reached.{Reached}
+use Rattle.fs_linearize.specs.declared.layer.Layer.TheInside.{Inside}
+
+-- the keys of what was reached, by the calls that are held
+abbrev pub keys : List Reached → List ℕ
+keys rs = map (λ (r : Reached). key_of r.configuration.held) rs
+
+-- what was reached is found by its keys, and no configuration is there twice
+pub record IsLayer (l : Inside) : Type 0 where
+  pub keyed : l.chains ≡ keys l.reached.items
+  pub apart : AreApart (configurations l.reached.items)
