@@ -58,6 +58,24 @@ fn same_row(row: &Row, other: &Row) -> bool
     }
 }
 
+/// Of the contents of a file so many bytes at most are mixed into a mark, since they can be long.
+const MARKED: usize = 64;
+
+/// One number more mixed into a mark.
+fn mixed(mark: u64, number: u64) -> u64 {
+    let product = (mark ^ number).wrapping_mul(0x9E37_79B9_7F4A_7C15);
+    product ^ (product >> 29)
+}
+
+/// Bytes mixed into a mark: how many they are, and some of them.
+fn with_bytes(mark: u64, bytes: &[u8]) -> u64 {
+    let mut with = mixed(mark, bytes.len() as u64);
+    for byte in bytes.iter().step_by(bytes.len() / MARKED + 1) {
+        with = mixed(with, u64::from(*byte));
+    }
+    with
+}
+
 impl Cell {
     /// The entry of a row.
     pub fn new(alloc: Global, row: Row) -> Result<Cell, AllocError>
@@ -99,6 +117,18 @@ impl Cell {
             Kind::Dir => &[],
             Kind::File => self.row.bytes.as_slice(),
         }
+    }
+
+    /// A number made of the entry: mostly another for another entry.
+    pub fn mark(&self) -> u64 {
+        let mut mark = match self.kind() {
+            Kind::Dir => 1u64,
+            Kind::File => 2u64,
+        };
+        for name in self.key() {
+            mark = with_bytes(mark, name.bytes());
+        }
+        with_bytes(mark, self.bytes())
     }
 
     /// Whether both are one entry.

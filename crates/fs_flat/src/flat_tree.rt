@@ -148,6 +148,15 @@ impl FlatTree {
         self.limits == other.limits && are_same(&self.cells, &other.cells)
     }
 
+    /// A number made of the tree: the same for the same tree, and mostly another for another one.
+    pub fn mark(&self) -> u64 {
+        let mut mark = 0u64;
+        for cell in &self.cells {
+            mark = mark.wrapping_add(cell.mark());
+        }
+        mark
+    }
+
     /// The reply of a call on the tree, which stays as it is.
     pub fn reply(&self, alloc: Global, call: &Call) -> Result<Reply, AllocError>
         ensures { IfOk result (λ reply. reply ≡ reply_at self.now call.now) }

@@ -246,12 +246,14 @@ no_order start h limit place e us links mid new layer wide behind most gone here
     }
 
 -- what leads to the end explains the history
-pub explains_at_end : (start : Start) (h : List Heard) (limit place : ℕ) (us : List UnderWay) (links : List Link) (layer : List Reached) (most : ℕ) (gone : List Configuration) (r : Reached) (steps : List Step)
-    → Stands start h limit place us links layer most gone → place ≡ length h → Contains layer r → ((ss : List Step) → GoesBack links (length h) r.last ss → steps ≡ reverse ss) → (es : List Entry) × Explains start h es × GoesBy h steps es
-explains_at_end start h limit place us links layer most gone r steps s past there read =
-    let l = s.led r there in
+pub explains_led : (start : Start) (h : List Heard) (links : List Link) (r : Reached) (steps : List Step) → IsLed start h links r → r.configuration.at ≡ length h → ((ss : List Step) → GoesBack links (length h) r.last ss → steps ≡ reverse ss)
+    → (es : List Entry) × Explains start h es × GoesBy h steps es
+explains_led start h links r steps l at read =
     let front = l.leads.explains in
-    let at : r.configuration.at ≡ length h = s.there r there ∙ past in
     let end = l.leads.place in
     let is : steps ≡ reverse l.steps = read l.steps (subst (λ n. GoesBack links n r.last l.steps) at l.back) in
     (l.es, record { lawful = front.lawful; heard_as = front.heard_as; whole = omega (arith, end, at) }, subst (λ (ss : List Step). GoesBy h ss l.es) (sym is) l.goes)
+
+pub explains_at_end : (start : Start) (h : List Heard) (limit place : ℕ) (us : List UnderWay) (links : List Link) (layer : List Reached) (most : ℕ) (gone : List Configuration) (r : Reached) (steps : List Step)
+    → Stands start h limit place us links layer most gone → place ≡ length h → Contains layer r → ((ss : List Step) → GoesBack links (length h) r.last ss → steps ≡ reverse ss) → (es : List Entry) × Explains start h es × GoesBy h steps es
+explains_at_end start h limit place us links layer most gone r steps s past there read = explains_led start h links r steps (s.led r there) (s.there r there ∙ past) read

@@ -8,6 +8,7 @@ mod WayLemmas
 mod SearchLemmas
 mod FindingLemmas
 mod StoppingLemmas
+mod DepthFirstLemmas
 mod TellingLemmas
 mod PlayingLemmas
 mod PlaceLemmas

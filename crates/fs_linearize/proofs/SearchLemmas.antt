@@ -1,5 +1,5 @@
 -- What is added to a layer, and that each that is added is led to.
-use Rattle.std.proofs.Common.{◌≡◌, ℕ, zero, suc, ◌+◌, ◌<◌, ◌≤◌, Bool, true, false, List, [], ◌∷◌, ◌++◌, length, length-append, take, get_or, slice_get, Some, refl, sym, ap, ◌∙◌, subst, ⊎_elim, arith, append_assoc, append-nil, ◌⊎◌, inl, inr}
+use Rattle.std.proofs.Common.{◌≡◌, ℕ, zero, suc, ◌+◌, ◌<◌, ◌≤◌, Bool, true, false, not, List, [], ◌∷◌, ◌++◌, length, length-append, take, get_or, slice_get, Some, refl, sym, ap, ◌∙◌, subst, ⊎_elim, arith, append_assoc, append-nil, ◌⊎◌, inl, inr}
 use Rattle.std.specs.List.{Contains}
 use Rattle.std.proofs.lemmas.List.{take_more, take-append-le, take_all, get_or-map, length-map, map-append}
 use Rattle.std.proofs.lemmas.List.Elements.{Contains-append_left, Contains-append_cases, Contains-push, Contains-push_cases}
@@ -13,10 +13,10 @@ use Rattle.fs_histories.specs.declared.heard.Pattern.{Pattern}
 use Rattle.fs_histories.specs.Histories.{IsHistory}
 use Rattle.fs_histories.specs.Meeting.{HasRoom}
 use Rattle.fs_histories.specs.Configurations.{Configuration, at_start, is_in, placed, passed, returned, committed, CanCommit}
-use Rattle.fs_histories.specs.Early.{SettlesBy, SettlesIn}
+use Rattle.fs_histories.specs.Early.{SettlesBy, Settles, SettlesIn}
 use Rattle.fs_linearize.specs.code.Calls.{IsUnderWay, AreEach, AreNear, CanCommitNow, CanCommitQuietly}
 use Rattle.fs_linearize.specs.code.Ways.{IsLedBy, IsLed, AllLed, Keeps, configurations}
-use Rattle.fs_linearize.specs.code.Searching.{SettlesTo, AddsIfNew, AllAt, Grows, Adds, IsTried, AddsCommit, AddsCommits, AreTried, Follows, Widens, WidensBefore, WidensFor, HasPassed, Passes, PassesAll, IsFirst}
+use Rattle.fs_linearize.specs.code.Searching.{SettlesTo, AddsIfNew, AllAt, Grows, Adds, IsTried, AddsCommit, AddsCommits, AreTried, Follows, Widens, WidensBefore, WidensFor, HasPassed, waits, Becomes, PassesTo, ReachesTo, Passes, PassesAll, IsFirst}
 use Rattle.fs_linearize.specs.declared.reached.Reached.{Reached}
 use Rattle.fs_linearize.specs.declared.steps.Link.{Link}
 use Rattle.fs_linearize.specs.declared.under_way.UnderWay.{UnderWay}
@@ -133,6 +133,15 @@ adds_commit h r s u link old mid new before behind pushed number place first las
           (subst (λ n. Grows h n s mid new before behind) at a.grows);
       tried = λ again. subst (SettlesIn h (configurations behind)) can.1 a.settles;
     }
+
+-- what is reached by a commit, with the quiet ones behind it
+pub reaches_to : (h : List Heard) (r s t : Reached) (u : UnderWay) (link : Link) (old mid new : List Link) → mid ≡ old ++ link ∷ [] → link.number ≡ u.number → link.at ≡ r.configuration.at → link.before ≡ r.last → s.last ≡ length mid
+    → CanCommitNow r.configuration u × (s.configuration ≡ committed r.configuration u.number u.call.now) → IsUnderWay h r.configuration.at u → SettlesTo h mid new s t → ReachesTo h old new r t
+reaches_to h r s t u link old mid new pushed number place first last can way k = record {
+  place = same_place h mid new s t k ∙ ap (λ z. z.at) can.1;
+  keeps = keeps_on old mid new (keeps_push old mid link pushed) k.keeps;
+  led = λ start l. k.led start (led_made start h old mid r s link u.number u.call.now pushed number place first last can.1 (now_can h r.configuration u way can.0) l);
+}
 
 -- what comes of the commit is there already
 pub adds_commit_seen : (h : List Heard) (r : Reached) (u : UnderWay) (x : Configuration) (links : List Link) (layer : List Reached) → CanCommitNow r.configuration u × (x ≡ committed r.configuration u.number u.call.now) → Contains (configurations layer) x
@@ -311,44 +320,52 @@ first_added start r layer first none added = ⊎_elim (λ seen. absurd (let smal
 
 -- ---- a layer that passes an entry
 
-pub passes_begin : (h : List Heard) (c seat : ℕ) (call : Call) (r s t : Reached) (old new : List Link) (before behind : List Reached) → IsHistory h → slice_get h r.configuration.at ≡ Some (Begin c seat call)
-    → s.configuration ≡ passed r.configuration → s.last ≡ r.last → SettlesTo h old new s t → AddsIfNew t before behind → Passes h (Begin c seat call) r old new before behind
-passes_begin h c seat call r s t old new before behind history here is last k added =
-    ⊎_elim (λ seen. subst (λ (rs : List Reached). Passes h (Begin c seat call) r old new before rs) (sym seen.1) (there seen.0)) (λ pushed. more pushed) added
+pub passes_to_begin : (h : List Heard) (c seat : ℕ) (call : Call) (r s t : Reached) (old new : List Link) → IsHistory h → slice_get h r.configuration.at ≡ Some (Begin c seat call) → s.configuration ≡ passed r.configuration → s.last ≡ r.last → SettlesTo h old new s t
+    → PassesTo h (Begin c seat call) r old new t
+passes_to_begin h c seat call r s t old new history here is last k =
+    let x = r.configuration in
+    record {
+      place = same_place h old new s t k ∙ ap (λ z. z.at) is;
+      keeps = k.keeps;
+      led = λ start l. k.led start (led_at start h old s (passed x) r.last is last (led_begin start h old x r.last c seat call history here l));
+      becomes = subst (λ z. Settles h z t.configuration) is k.settles;
+    }
+
+pub passes_to_return : (h : List Heard) (c : ℕ) (p : Pattern) (r s : Reached) (links : List Link) → IsHistory h → slice_get h r.configuration.at ≡ Some (Return c p) → waits r.configuration (Return c p) ≡ false → s.configuration ≡ returned r.configuration c → s.last ≡ r.last
+    → PassesTo h (Return c p) r links links s
+passes_to_return h c p r s links history here goes is last =
+    let x = r.configuration in
+    record {
+      place = ap (λ z. z.at) is;
+      keeps = keeps_same links;
+      led = λ start l. led_at start h links s (returned x c) r.last is last (led_return start h links x r.last c p history here (held (is_in c x.held) goes) l);
+      becomes = is;
+    }
   where
-    there : Contains (configurations before) t.configuration → Passes h (Begin c seat call) r old new before before
-    there seen = record { grows = grows_none h (r.configuration.at + 1) r old new before k.keeps; passed = subst (SettlesIn h (configurations before)) is (t.configuration, k.settles.0, k.settles.1, seen) }
+    held : (b : Bool) → not b ≡ false → b ≡ true
+    held true is_not = refl
+    held false is_not = absurd (cc)
 
-    more : behind ≡ before ++ t ∷ [] → Passes h (Begin c seat call) r old new before behind
-    more pushed =
-        let x = r.configuration in
-        let at : s.configuration.at ≡ x.at + 1 = ap (λ z. z.at) is in
-        record {
-          grows = grows_one h (x.at + 1) r t old new before behind pushed (same_place h old new s t k ∙ at) k.keeps
-              (λ start l. k.led start (led_at start h old s (passed x) r.last is last (led_begin start h old x r.last c seat call history here l)));
-          passed = subst (SettlesIn h (configurations behind)) is
-              (t.configuration, k.settles.0, k.settles.1, contains_configuration behind t (subst (λ (rs : List Reached). Contains rs t) (sym pushed) (Contains-push before t)));
-        }
+has_passed : (h : List Heard) (e : Heard) (x y : Configuration) (layer : List Reached) → Becomes h e x y → Contains (configurations layer) y → HasPassed h e x layer
+has_passed h (Begin c seat call) x y layer to there = (y, to.0, to.1, there)
+has_passed h (Return c p) x y layer to there = λ held. (returned x c, [], refl, subst (Contains (configurations layer)) to there)
 
-pub passes_return : (h : List Heard) (c : ℕ) (p : Pattern) (r s : Reached) (links : List Link) (before behind : List Reached) → IsHistory h → slice_get h r.configuration.at ≡ Some (Return c p) → is_in c r.configuration.held ≡ true
-    → s.configuration ≡ returned r.configuration c → s.last ≡ r.last → AddsIfNew s before behind → Passes h (Return c p) r links links before behind
-passes_return h c p r s links before behind history here held is last added =
-    ⊎_elim (λ seen. subst (λ (rs : List Reached). Passes h (Return c p) r links links before rs) (sym seen.1) (there seen.0)) (λ pushed. more pushed) added
+pub passes_if_new : (h : List Heard) (e : Heard) (r s : Reached) (old new : List Link) (before behind : List Reached) → PassesTo h e r old new s → AddsIfNew s before behind → Passes h e r old new before behind
+passes_if_new h e r s old new before behind p added = ⊎_elim
+    (λ seen. subst (λ (rs : List Reached). Passes h e r old new before rs) (sym seen.1) (record { grows = grows_none h (r.configuration.at + 1) r old new before p.keeps; passed = has_passed h e r.configuration s.configuration before p.becomes seen.0 }))
+    (λ is. record {
+      grows = grows_one h (r.configuration.at + 1) r s old new before behind is p.place p.keeps p.led;
+      passed = has_passed h e r.configuration s.configuration behind p.becomes (contains_configuration behind s (subst (λ (rs : List Reached). Contains rs s) (sym is) (Contains-push before s)));
+    })
+    added
+
+pub passes_not : (h : List Heard) (e : Heard) (r : Reached) (links : List Link) (layer : List Reached) → waits r.configuration e ≡ true → Passes h e r links links layer layer
+passes_not h (Begin c seat call) r links layer stops = absurd (cc)
+passes_not h (Return c p) r links layer stops = record { grows = grows_none h (r.configuration.at + 1) r links links layer (keeps_same links); passed = λ held. absurd (both_ways _ (not_held (is_in c r.configuration.held) stops) held) }
   where
-    there : Contains (configurations before) s.configuration → Passes h (Return c p) r links links before before
-    there seen = record { grows = grows_none h (r.configuration.at + 1) r links links before (keeps_same links); passed = λ yes. (returned r.configuration c, [], refl, subst (Contains (configurations before)) is seen) }
-
-    more : behind ≡ before ++ s ∷ [] → Passes h (Return c p) r links links before behind
-    more pushed =
-        let x = r.configuration in
-        record {
-          grows = grows_one h (x.at + 1) r s links links before behind pushed (ap (λ z. z.at) is) (keeps_same links)
-              (λ start l. led_at start h links s (returned x c) r.last is last (led_return start h links x r.last c p history here held l));
-          passed = λ yes. (returned x c, [], refl, subst (Contains (configurations behind)) is (contains_configuration behind s (subst (λ (rs : List Reached). Contains rs s) (sym pushed) (Contains-push before s))));
-        }
-
-pub passes_not : (h : List Heard) (c : ℕ) (p : Pattern) (r : Reached) (links : List Link) (layer : List Reached) → is_in c r.configuration.held ≡ false → Passes h (Return c p) r links links layer layer
-passes_not h c p r links layer not_held = record { grows = grows_none h (r.configuration.at + 1) r links links layer (keeps_same links); passed = λ held. absurd (both_ways _ not_held held) }
+    not_held : (b : Bool) → not b ≡ true → b ≡ false
+    not_held true is_not = absurd (cc)
+    not_held false is_not = refl
 
 -- those that are left of a layer, and those that passed
 pub record PassesUpTo (h : List Heard) (e : Heard) (at : ℕ) (old new : List Link) (all rest behind : List Reached) : Type 0 where

@@ -7,4 +7,5 @@ pub mod Ways
 pub mod Calls
 pub mod Replies
 pub mod Searching
+pub mod DepthFirst
 pub mod Tellings

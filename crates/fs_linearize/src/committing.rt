@@ -1,16 +1,17 @@
 //! Calls that commit.
 
-ghost use Rattle.std.specs.Prelude.{◌≡◌, ◌↔◌, ℕ, List, true, option_copied, IfOk};
+ghost use Rattle.std.specs.Prelude.{◌≡◌, ◌↔◌, ℕ, List, true, option_copied, IfOk, IfSome, OnOk};
 ghost use Rattle.fs_histories.specs.Early.{leaves_trees, tells_error, is_quiet};
 ghost use Rattle.fs_histories.specs.declared.heard.Heard.{Heard as Value};
 ghost use Rattle.fs_linearize.specs.code.Calls.{FitsKnown, CommitsNow, CanCommitQuietly, IsUnderWay, AreEach};
-ghost use Rattle.fs_linearize.specs.code.Searching.{SettlesTo};
+ghost use Rattle.fs_linearize.specs.code.Searching.{SettlesTo, ReachesTo};
+ghost use Rattle.fs_linearize.specs.code.Ways.{Keeps};
 
 use crate::configuration::Configuration;
-use crate::numbers;
 use crate::reached::Reached;
 use crate::steps::Link;
 use crate::under_way::UnderWay;
+use crate::{meeting, numbers};
 use fs_calls::{Call, Reply};
 use fs_histories::Pattern;
 use std::alloc::{AllocError, Global};
@@ -119,20 +120,67 @@ fn settle_one(
     })
 }
 
-/// Commits early what can of the calls under way.
+/// Commits early a call under way that meets one, if it can. What any other is told has not changed with the commit of that one.
+fn settle_met(
+    alloc: Global,
+    links: &mut Vec<Link>,
+    reached: Reached,
+    call: &UnderWay,
+    met: &Call,
+) -> Result<Reached, AllocError>
+    ensures { IfOk result (λ settled. (h : List Value) → IsUnderWay h reached.configuration.at call.now → SettlesTo h links.old.items links.new.items reached settled) }
+{
+    if meeting::calls_meet(false, met, call.call) {
+        Ok(settle_one(alloc, links, reached, call)?)
+    } else {
+        Ok(reached)
+    }
+}
+
+/// Commits early what can of the calls under way that meet one that has committed.
 pub(crate) fn settle(
     alloc: Global,
     calls: &[UnderWay],
     links: &mut Vec<Link>,
     reached: Reached,
+    met: &Call,
 ) -> Result<Reached, AllocError>
     ensures { IfOk result (λ settled. (h : List Value) → AreEach h reached.configuration.at calls.now → SettlesTo h links.old.items links.new.items reached settled) }
 {
     let mut now = reached;
     for call in calls {
-        now = settle_one(alloc, links, now, call)?;
+        now = settle_met(alloc, links, now, call, met)?;
     }
     Ok(now)
+}
+
+/// What is reached by the commit of a call under way, and of those that commit early behind it, if it can commit.
+pub(crate) fn reach(
+    alloc: Global,
+    calls: &[UnderWay],
+    links: &mut Vec<Link>,
+    reached: &Reached,
+    call: &UnderWay,
+) -> Result<Option<Reached>, AllocError>
+    ensures keeps { OnOk result ((h : List Value) → AreEach h reached.now.configuration.at calls.now → IsUnderWay h reached.now.configuration.at call.now → Keeps links.old.items links.new.items) }
+    ensures reached { IfOk result (λ next. IfSome next (λ to. (h : List Value) → AreEach h reached.now.configuration.at calls.now → IsUnderWay h reached.now.configuration.at call.now
+        → ReachesTo h links.old.items links.new.items reached.now to)) }
+{
+    match commit(alloc, &reached.configuration, call)? {
+        Some(configuration) => {
+            links.push(Link {
+                number: call.number,
+                at: reached.configuration.passed_count(),
+                before: reached.last,
+            })?;
+            let next = Reached {
+                configuration,
+                last: links.len(),
+            };
+            Ok(Some(settle(alloc, calls, links, next, call.call)?))
+        }
+        None => Ok(None),
+    }
 }
 
 /// Commits early the call that began last, if it can.

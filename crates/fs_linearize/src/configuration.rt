@@ -80,6 +80,12 @@ impl Configuration {
         chains::key_of(&self.held)
     }
 
+    /// A number made of it: mostly another for another configuration.
+    pub fn mark(&self) -> u64 {
+        let of_tree = chains::mixed(self.tree.mark(), self.at as u64);
+        chains::mixed(of_tree, self.key())
+    }
+
     /// Whether both are the same.
     pub fn same(&self, other: &Configuration) -> bool
         ensures { result ≡ true ↔ self.now ≡ other.now }

@@ -4,7 +4,9 @@
 //! that none does, and names the first return up to which there is none; `Fault` that the entries are no history, and
 //! `Unknown` that a search met as many different configurations as the limit says.
 //!
-//! The search goes by layers: all configurations before an entry, then those behind it. A configuration is how many entries
+//! One order is looked for first, depth first: at the return of a call that has not committed, that call commits, or else one
+//! that meets it and returns soon; where none can, the search goes back. It makes few choices more than the history has entries.
+//! If it finds no order, another search goes by layers: all configurations before an entry, then those behind it. A configuration is how many entries
 //! have passed, the tree, and which calls have committed and not returned. A call that changes no tree commits as soon as its
 //! reply fits, any other at the return of a call that has not committed, where it meets that call, or one that meets it, and so
 //! on. Where the call that returns has committed in no configuration of a layer no timeline explains the history. Then the
@@ -17,6 +19,7 @@
 mod chains;
 mod committing;
 mod configuration;
+mod depth_first;
 mod faults;
 mod first_return;
 mod heard;
@@ -33,6 +36,7 @@ mod search;
 mod steps;
 mod stopping;
 mod telling;
+mod turns;
 mod under_way;
 mod ways;
 mod widening;

@@ -1,18 +1,59 @@
 //! Layers that pass an entry.
 
-ghost use Rattle.std.specs.Prelude.{◌≡◌, ◌+◌, ℕ, List, Some, slice_get, IfOk, OnOk};
+ghost use Rattle.std.specs.Prelude.{◌≡◌, ◌+◌, ℕ, List, Some, false, slice_get, IfOk, OnOk};
 ghost use Rattle.fs_histories.specs.Histories.{IsHistory};
 ghost use Rattle.fs_histories.specs.declared.heard.Heard.{Heard as Value};
 ghost use Rattle.fs_linearize.specs.code.Calls.{AreEach};
-ghost use Rattle.fs_linearize.specs.code.Searching.{AllAt, Passes, PassesAll};
+ghost use Rattle.fs_linearize.specs.code.Searching.{AllAt, Passes, PassesAll, PassesTo, waits};
 
 use crate::committing;
+use crate::configuration::Configuration;
 use crate::layer::Layer;
 use crate::reached::Reached;
 use crate::steps::Link;
 use crate::under_way::UnderWay;
 use fs_histories::Heard;
 use std::alloc::{AllocError, Global};
+
+/// Whether an entry is the return of a call that has not committed in a configuration.
+pub(crate) fn waits(x: &Configuration, entry: &Heard) -> bool
+    ensures { result ≡ waits x.now entry.now }
+{
+    match entry {
+        Heard::Begin(_, _, _) => false,
+        Heard::Return(number, _) => !x.holds(number.get()),
+    }
+}
+
+/// What is reached behind an entry that can pass, with which so many have passed.
+pub(crate) fn behind(
+    alloc: Global,
+    calls: &[UnderWay],
+    links: &mut Vec<Link>,
+    reached: Reached,
+    entry: &Heard,
+    at: usize,
+) -> Result<Reached, AllocError>
+    ensures { IfOk result (λ next. (h : List Value) → IsHistory h → slice_get h reached.configuration.at ≡ Some entry.now → at ≡ reached.configuration.at + 1 → AreEach h at calls.now
+        → waits reached.configuration entry.now ≡ false → PassesTo h entry.now reached links.old.items links.new.items next) }
+{
+    match entry {
+        Heard::Begin(_, _, _) => {
+            let begun = Reached {
+                configuration: reached.configuration.passed(at),
+                last: reached.last,
+            };
+            Ok(committing::settle_newest(alloc, calls, links, begun)?)
+        }
+        Heard::Return(number, _) => {
+            let configuration = reached.configuration.returned(alloc, number.get(), at)?;
+            Ok(Reached {
+                configuration,
+                last: reached.last,
+            })
+        }
+    }
+}
 
 /// Adds a configuration behind an entry, with which so many have passed, if the entry can pass there.
 fn pass_one(
@@ -27,26 +68,11 @@ fn pass_one(
     ensures { OnOk result ((h : List Value) → IsHistory h → slice_get h reached.configuration.at ≡ Some entry.now → at ≡ reached.configuration.at + 1 → AreEach h at calls.now
         → Passes h entry.now reached links.old.items links.new.items layer.old layer.new) }
 {
-    match entry {
-        Heard::Begin(_, _, _) => {
-            let begun = Reached {
-                configuration: reached.configuration.passed(at),
-                last: reached.last,
-            };
-            let settled = committing::settle_newest(alloc, calls, links, begun)?;
-            Ok(layer.add(settled)?)
-        }
-        Heard::Return(number, _) => {
-            if !reached.configuration.holds(number.get()) {
-                return Ok(());
-            }
-            let configuration = reached.configuration.returned(alloc, number.get(), at)?;
-            Ok(layer.add(Reached {
-                configuration,
-                last: reached.last,
-            })?)
-        }
+    if waits(&reached.configuration, entry) {
+        return Ok(());
     }
+    let next = behind(alloc, calls, links, reached, entry, at)?;
+    Ok(layer.add(next)?)
 }
 
 /// The layer behind an entry, with which so many have passed.

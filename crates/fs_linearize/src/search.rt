@@ -1,10 +1,11 @@
-//! The search: layer by layer, from the start to the end of a history, up to a limit.
+//! The search: for one order, and then layer by layer, from the start to the end of a history, up to a limit.
 
 ghost use Rattle.std.specs.Prelude.{◌≡◌, ◌+◌, IfOk};
 ghost use Rattle.fs_histories.specs.Histories.{IsHistory};
 ghost use Rattle.fs_linearize.specs.code.Searching.{IsFirst, IsSearched};
 
 use crate::configuration::Configuration;
+use crate::depth_first::one_order;
 use crate::layer::Layer;
 use crate::passing::pass;
 use crate::progress::Progress;
@@ -43,8 +44,8 @@ fn first_layer(alloc: Global, start: &SeqTree) -> Result<Layer, AllocError>
     Ok(layer)
 }
 
-/// Searches for the steps of a timeline that explains a history, which has no fault.
-pub(crate) fn find_way<P: Progress>(
+/// Searches layer by layer for the steps of a timeline that explains a history, which has no fault.
+fn search_layers<P: Progress>(
     alloc: Global,
     start: &SeqTree,
     history: &[Heard],
@@ -78,4 +79,26 @@ pub(crate) fn find_way<P: Progress>(
     };
     let steps = steps_to(alloc, &links, history.len(), reached.last)?;
     Ok(Searched::Ends(steps))
+}
+
+/// So many choices more than a history has entries may be made in the search for one order.
+const MORE_CHOICES: usize = 1_000;
+
+/// Searches for the steps of a timeline that explains a history, which has no fault: for one order first, and if none is found
+/// soon, layer by layer.
+pub(crate) fn find_way<P: Progress>(
+    alloc: Global,
+    start: &SeqTree,
+    history: &[Heard],
+    limit: usize,
+    progress: &mut P,
+) -> Result<Searched, AllocError>
+    requires { IsHistory history.now }
+    ensures { IfOk result (IsSearched start.now history.now limit) }
+{
+    let most = history.len().saturating_add(MORE_CHOICES).min(limit);
+    match one_order(alloc, start, history, most)? {
+        Some(steps) => Ok(Searched::Ends(steps)),
+        None => Ok(search_layers(alloc, start, history, limit, progress)?),
+    }
 }

@@ -12,20 +12,22 @@ use crate::reached::Reached;
 use crate::steps::Link;
 use crate::under_way::UnderWay;
 use crate::{committing, meeting};
+use fs_calls::Call;
 use fs_histories::Heard;
 use std::alloc::{AllocError, Global};
 
-/// Adds what a configuration settles to, if it is not there.
+/// Adds what a configuration settles to behind the commit of a call, if it is not there.
 fn add(
     alloc: Global,
     calls: &[UnderWay],
     links: &mut Vec<Link>,
     layer: &mut Layer,
     reached: Reached,
+    met: &Call,
 ) -> Result<(), AllocError>
     ensures { OnOk result ((h : List Value) → AreEach h reached.configuration.at calls.now → Adds h reached links.old.items links.new.items layer.old layer.new) }
 {
-    let settled = committing::settle(alloc, calls, links, reached)?;
+    let settled = committing::settle(alloc, calls, links, reached, met)?;
     Ok(layer.add(settled)?)
 }
 
@@ -55,7 +57,7 @@ fn add_commit(
                 configuration,
                 last: links.len(),
             };
-            Ok(add(alloc, calls, links, layer, next)?)
+            Ok(add(alloc, calls, links, layer, next, call.call)?)
         }
         None => Ok(()),
     }

@@ -1,5 +1,5 @@
 -- What a step of the search adds to what was reached.
-use Rattle.std.specs.Prelude.{◌≡◌, ◌⊎◌, ◌+◌, ◌≤◌, ℕ, Bool, true, false, List, [], ◌∷◌, ◌++◌, length, take, None, Contains}
+use Rattle.std.specs.Prelude.{◌≡◌, ◌⊎◌, ◌+◌, ◌≤◌, ℕ, Bool, true, false, not, List, [], ◌∷◌, ◌++◌, length, take, None, Contains}
 use Rattle.fs_calls.specs.Starts.{Start, start_tree}
 use Rattle.fs_timeline.specs.declared.entry.Entry.{Entry}
 use Rattle.fs_histories.specs.declared.heard.Heard.{Heard}
@@ -101,6 +101,29 @@ pub record WidensFor (h : List Heard) (e : Heard) (at : ℕ) (us : List UnderWay
   pub widens : Widens h at old new before behind
   pub ready : whole ≡ true → (x : Configuration) → Contains (configurations behind) x → IsReady h e x us behind
   pub many : whole ≡ false → most ≤ length behind
+
+-- whether an entry is the return of a call that has not committed
+abbrev pub waits : Configuration → Heard → Bool
+waits x (Begin c seat call) = false
+waits x (Return c p) = not (is_in c x.held)
+
+-- what becomes of a configuration behind an entry that can pass
+abbrev pub Becomes : List Heard → Heard → Configuration → Configuration → Type 0
+Becomes h (Begin c seat call) x y = Settles h (passed x) y
+Becomes h (Return c p) x y = y ≡ returned x c
+
+-- what is reached behind an entry
+pub record PassesTo (h : List Heard) (e : Heard) (r : Reached) (old new : List Link) (s : Reached) : Type 0 where
+  pub place : s.configuration.at ≡ r.configuration.at + 1
+  pub keeps : Keeps old new
+  pub led : (start : Start) → IsLed start h old r → IsLed start h new s
+  pub becomes : Becomes h e r.configuration s.configuration
+
+-- what is reached by a commit
+pub record ReachesTo (h : List Heard) (old new : List Link) (r s : Reached) : Type 0 where
+  pub place : s.configuration.at ≡ r.configuration.at
+  pub keeps : Keeps old new
+  pub led : (start : Start) → IsLed start h old r → IsLed start h new s
 
 -- a configuration has passed an entry, if the entry can pass there
 abbrev pub HasPassed : List Heard → Heard → Configuration → List Reached → Type 0

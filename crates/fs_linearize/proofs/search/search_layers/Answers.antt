@@ -9,7 +9,7 @@ use Rattle.fs_linearize.specs.declared.under_way.UnderWay.{UnderWay}
 use Rattle.fs_linearize.proofs.FindingLemmas.{stands_first, stands_on, widened, here_at, rest_at, never_none, was_limited, explains_at_end}
 use Rattle.fs_linearize.proofs.StoppingLemmas.{no_order_here, passes_some}
 use Rattle.fs_linearize.proofs.SearchLemmas.{contains_got}
-use Rattle.fs_linearize.proofs.search.find_way.Goals as goal
+use Rattle.fs_linearize.proofs.search.search_layers.Goals as goal
 
 pub loop-place-init : goal.loop-place-init
 loop-place-init g c = ([], stands_first c.args.start.now c.args.history.now c.args.limit c.new-calls.result.items c.new-links.result.items c.in_ok-layer.layer c.is_a_tree.ensures c.new-calls.ensures.items c.in_ok-layer.ensures)
