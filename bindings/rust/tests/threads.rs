@@ -425,6 +425,53 @@ fn threads_that_die_after_a_wait() {
     }
 }
 
+/// Threads whose waits are given up now and then die by that, with a session or without one, and others take their
+/// places. No call is left, and each seat is had again.
+#[test]
+fn threads_that_die_again_and_again() {
+    let tree = SharedTree::with_limit(1000).unwrap();
+    tree.mkdir("/top").unwrap();
+    tree.wait_most(Some(Duration::from_millis(1)));
+    let events = AtomicUsize::new(0);
+    tree.gate(Some(Box::new(move |_, did| {
+        if matches!(did, Did::LetGo(_)) && events.fetch_add(1, Ordering::SeqCst) % 7 == 0 {
+            thread::sleep(Duration::from_millis(4));
+        }
+    })));
+    let rounds = |tree: &SharedTree, thread: usize| {
+        let (mine, mut session) = (format!("/top/{thread}"), tree.session().unwrap());
+        for _ in 0..5 {
+            for came in [session.mkdir(&mine), tree.rename("/top", "/away"), session.rename("/away", "/top")] {
+                match came.map_err(|error| error.kind()) {
+                    Ok(()) | Err(ErrorKind::Failed(_)) => {}
+                    Err(ErrorKind::TimedOut(_)) => panic::resume_unwind(Box::new("the wait is given up")),
+                    other => panic!("{other:?}"),
+                }
+            }
+        }
+    };
+    let deaths = AtomicUsize::new(0);
+    thread::scope(|scope| {
+        for thread in 0..4 {
+            let (tree, deaths) = (&tree, &deaths);
+            scope.spawn(move || {
+                for _ in 0..10 {
+                    let lives = thread::scope(|scope| scope.spawn(|| rounds(tree, thread)).join().is_ok());
+                    deaths.fetch_add(usize::from(!lives), Ordering::SeqCst);
+                }
+            });
+        }
+    });
+    assert!(deaths.load(Ordering::SeqCst) > 0);
+    tree.wait_most(None);
+    let journal = tree.lock().journal().unwrap();
+    assert_eq!(journal.matches("\nbegin ").count(), journal.matches("\nreturn ").count());
+    assert_eq!(tree.lock().check().unwrap(), "lawful");
+    assert_eq!((tree.holders().as_str(), tree.finish_all()), ("", 0));
+    // Each life left one call at most, and seats are had again.
+    assert!(tree.lock().seat().unwrap().number() < 60);
+}
+
 /// A journal that forgets by itself while threads call: all calls are counted.
 #[test]
 fn calls_that_are_forgotten() {
