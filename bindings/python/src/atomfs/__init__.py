@@ -53,7 +53,10 @@ for _error in (ScheduleError, RunError, DeadlockError, BudgetError, PatienceErro
 
 
 def library_version() -> str:
-    """The version of the shared object."""
+    """The version of the shared object.
+
+    Raises `OSError` if it is not there, or can't be loaded.
+    """
     return _shared_object().version()
 
 

@@ -49,7 +49,7 @@ extension, _why = _extension()
 
 
 def binding() -> str:
-    """By what the calls of trees go to the library: `extension`, or `ctypes: ` and why."""
+    """By what the calls of trees go to the library: `extension`, or `ctypes: ` and why. It raises nothing."""
     return f"ctypes: {_why}" if extension is None else "extension"
 
 

@@ -66,7 +66,10 @@ class Answer:
 
     def stat(self, is_dir: bool, size: Optional[int] = None, *, entries: Optional[int] = None) -> None:
         """Of `stat`: a file of `size` bytes, or a directory of so many `entries`, where that is known. The size of a directory, which is
-        another thing in other trees, is not looked at, nor are entries of a file."""
+        another thing in other trees, is not looked at, nor are entries of a file.
+
+        Raises `TypeError` if `is_dir` is no `bool`, or if the size of a file is missing, and `ValueError` for a negative number.
+        """
         if not isinstance(is_dir, bool):
             raise TypeError(f"stat takes whether there is a directory, and this is {type(is_dir).__name__}")
         if is_dir:
@@ -88,15 +91,18 @@ class Answer:
         self._tell("names", " ".join(["names", *map(quoted, raw)]))
 
     def data(self, data: Data) -> None:
-        """Of `read`: the bytes."""
+        """Of `read`: the bytes. Raises `TypeError` for what are none."""
         self._tell("data", f"bytes {bytes_of(data, 'data').hex() or '-'}")
 
     def wrote(self, count: int) -> None:
-        """Of `write`: how many bytes were written."""
+        """Of `write`: how many bytes were written. Raises `TypeError` or `ValueError` for what is no count."""
         self._tell("wrote", f"wrote {number_of(count, 'count')}")
 
     def failed(self, number: Optional[int] = None) -> None:
-        """Reports the error of a call that returns it in place of raising it: its number, or None for an error that this tree does not have."""
+        """Reports the error of a call that returns it in place of raising it: its number, or None for an error that this tree does not have.
+
+        A number that no call has counts as such an error too, and raises nothing.
+        """
         self._tell("failed", f"failed {_word(number, self._call, self._limits)}")
 
     def _tell(self, what: str, reply: str) -> None:
@@ -234,7 +240,10 @@ class History:
         return _Recorded(self, *self._read(call, words))
 
     def text(self) -> str:
-        """The history so far: a journal without its lines `commit`, in which calls that have not returned are pending."""
+        """The history so far: a journal without its lines `commit`, in which calls that have not returned are pending.
+
+        It raises nothing.
+        """
         with self._lock:
             entries = sorted(self._entries)
         return "".join(f"{line}\n" for line in (*self._opening, *(line for _, line in entries)))

@@ -21,7 +21,10 @@ NONE = Journal(0)
 
 
 def LAST(most: int) -> Journal:
-    """The last calls: if the journal has more than `most` and none is pending, all are forgotten before the next call begins."""
+    """The last calls: if the journal has more than `most` and none is pending, all are forgotten before the next call begins.
+
+    Raises `ValueError` if the number is negative or too large, and `TypeError` if it is not whole.
+    """
     most = operator.index(most)
     if not 0 <= most < KEEP_ALL:
         raise ValueError(f"a journal keeps 0 to {KEEP_ALL - 1:,} calls")

@@ -109,7 +109,7 @@ def linearize(
 def front(history: Union[str, bytes], limit: Optional[int] = None) -> Optional[str]:
     """The journal up to the return that `linearize` names, for `draw`: one of those that explain all before it.
 
-    There is none where `linearize` finds something else, or the limit is reached. What is refused is refused as there.
+    There is none where `linearize` finds something else, or the limit is reached. Raises what `linearize` does.
     """
     found, told = _found(history, limit, Tell.FRONT)
     return None if found != Found.NO_ORDER or told.startswith(b"none ") else told.decode()

@@ -74,7 +74,7 @@ class Snapshot:
         return hash((self.limits, self.text))
 
     def to_dict(self) -> Dict[str, Node]:
-        """As `Tree.to_dict`."""
+        """As `Tree.to_dict`, but it raises nothing."""
         return dictionary(self.text)
 
 
@@ -86,7 +86,10 @@ def dictionary(text: str) -> Dict[str, Node]:
 
 
 def diff(old: Union[Tree, Snapshot], new: Union[Tree, Snapshot]) -> List[Tuple[str, str]]:
-    """What became of each path from one tree to another, in byte order of paths: `added`, `removed` or `changed`."""
+    """What became of each path from one tree to another, in byte order of paths: `added`, `removed` or `changed`.
+
+    Raises `ClosedError` if a tree is closed, and `MemoryError`.
+    """
     of_old, of_new = (dict(_rows.rows_of(one.text if isinstance(one, Snapshot) else one.tree())) for one in (old, new))
     return _rows.differences(of_old, of_new)
 

@@ -39,7 +39,10 @@ class Page:
         return f'<iframe {frame} srcdoc="{page}"></iframe>'
 
     def save(self, path: StrPath) -> pathlib.Path:
-        """Writes the HTML file to a path of the disk, and returns that; a file there is replaced."""
+        """Writes the HTML file to a path of the disk, and returns that; a file there is replaced.
+
+        Raises the `OSError` of the disk.
+        """
         at = pathlib.Path(path)
         at.write_bytes(self.html.encode())
         return at

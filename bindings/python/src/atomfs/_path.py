@@ -51,35 +51,38 @@ class Path(pathlib.PurePosixPath):
     # ---- What stands there
 
     def stat(self, *, follow_symlinks: bool = True) -> Stat:
-        """What is there."""
+        """What is there. Raises `FileNotFoundError`."""
         return self.tree.stat(self)
 
     lstat = stat
 
     def exists(self, *, follow_symlinks: bool = True) -> bool:
-        """Whether something is there."""
+        """Whether something is there. Raises `OSError` for what is no path, and for nothing else."""
         return self.tree.exists(self)
 
     def is_dir(self, *, follow_symlinks: bool = True) -> bool:
-        """Whether a directory is there."""
+        """Whether a directory is there. Raises as `exists`."""
         return self.tree.is_dir(self)
 
     def is_file(self, *, follow_symlinks: bool = True) -> bool:
-        """Whether a file is there."""
+        """Whether a file is there. Raises as `exists`."""
         return self.tree.is_file(self)
 
     def is_mount(self) -> bool:
-        """Whether it is the root."""
+        """Whether it is the root. It raises nothing."""
         return _walk.plain(self) == "/"
 
     def _never(self) -> bool:
-        """It is none, whatever is there: a tree has files and directories."""
+        """It is none, whatever is there: a tree has files and directories. It raises nothing."""
         return False
 
     is_symlink = is_junction = is_socket = is_fifo = is_block_device = is_char_device = _never
 
     def samefile(self, other: Any) -> bool:
-        """Whether both are one path of one tree, at which something is: a node has one path."""
+        """Whether both are one path of one tree, at which something is: a node has one path.
+
+        Raises `FileNotFoundError` if nothing is at one of them.
+        """
         self.stat()
         same = (
             _walk.plain(self._of(os.fspath(other))) == _walk.plain(self)
@@ -92,18 +95,27 @@ class Path(pathlib.PurePosixPath):
     # ---- Directories
 
     def iterdir(self: _Self) -> Iterator[_Self]:
-        """The entries of a directory in byte order of their names, by the calls of `Tree.listdir`."""
+        """The entries of a directory in byte order of their names, by the calls of `Tree.listdir`.
+
+        Raises `FileNotFoundError` if nothing is there, and `NotADirectoryError` if a file is.
+        """
         names = self.tree.listdir(str(self))
         return iter([self._of(_walk.joined(str(self), name)) for name in names])
 
     def glob(self: _Self, pattern: StrPath, **options: Any) -> Iterator[_Self]:
-        """What a pattern matches below it, as `Tree.glob`: several calls."""
+        """What a pattern matches below it, as `Tree.glob`: several calls.
+
+        Raises `ValueError` for an empty pattern, and `NotImplementedError` for one that begins with a slash.
+        """
         if not os.fspath(pattern):
             raise ValueError("Unacceptable pattern: ''")
         return self._globbed("", pattern)
 
     def rglob(self: _Self, pattern: StrPath, **options: Any) -> Iterator[_Self]:
-        """As `glob` of a pattern with `**/` before it: several calls."""
+        """As `glob` of a pattern with `**/` before it: several calls.
+
+        Raises `NotImplementedError` for a pattern that begins with a slash.
+        """
         return self._globbed("**/", pattern)
 
     def _globbed(self: _Self, before: str, pattern: StrPath) -> Iterator[_Self]:
@@ -117,12 +129,19 @@ class Path(pathlib.PurePosixPath):
         on_error: Optional[Callable[[OSError], object]] = None,
         follow_symlinks: bool = False,
     ) -> Iterator[Tuple[_Self, List[str], List[str]]]:
-        """Each directory from here down, with the names of the directories and of the files in it: several calls."""
+        """Each directory from here down, with the names of the directories and of the files in it: several calls.
+
+        Errors go to `on_error`, and otherwise nowhere.
+        """
         for at, directories, files in self.tree.walk(self, top_down, on_error):
             yield self._of(at), directories, files
 
     def mkdir(self, mode: int = 0o777, parents: bool = False, exist_ok: bool = False) -> None:
-        """Makes an empty directory, with `parents` those above it that are missing: then it is several calls."""
+        """Makes an empty directory, with `parents` those above it that are missing: then it is several calls.
+
+        Raises `FileExistsError` if something is there, but for a directory with `exist_ok`, `FileNotFoundError` if the one above is
+        missing, and what else `Tree.mkdir` raises.
+        """
         try:
             if parents:
                 self.tree.makedirs(self, exist_ok)
@@ -133,13 +152,16 @@ class Path(pathlib.PurePosixPath):
                 raise
 
     def rmdir(self) -> None:
-        """Removes the entry of an empty directory."""
+        """Removes the entry of an empty directory. Raises what `Tree.rmdir` does."""
         self.tree.rmdir(self)
 
     # ---- Files
 
     def touch(self, mode: int = 0o666, exist_ok: bool = True) -> None:
-        """Makes an empty file, where there is none."""
+        """Makes an empty file, where there is none.
+
+        Raises `FileExistsError` if something is there without `exist_ok`, and what else `Tree.mknod` raises.
+        """
         try:
             self.tree.mknod(self)
         except FileExistsError:
@@ -147,7 +169,10 @@ class Path(pathlib.PurePosixPath):
                 raise
 
     def unlink(self, missing_ok: bool = False) -> None:
-        """Removes the entry of a file."""
+        """Removes the entry of a file.
+
+        Raises `FileNotFoundError` if nothing is there without `missing_ok`, and `PermissionError` if a directory is.
+        """
         try:
             self.tree.unlink(self)
         except FileNotFoundError:
@@ -162,51 +187,51 @@ class Path(pathlib.PurePosixPath):
         errors: Optional[str] = None,
         newline: Optional[str] = None,
     ) -> IO[Any]:
-        """A file object, as `Tree.open`: several calls."""
+        """A file object, as `Tree.open`: several calls. Raises what that does."""
         return self.tree.open(self, mode, buffering, encoding, errors, newline)
 
     def read_bytes(self) -> bytes:
-        """The bytes of a file, as `Tree.read_bytes`."""
+        """The bytes of a file, as `Tree.read_bytes`. Raises what that does."""
         return self.tree.read(self)
 
     def read_text(
         self, encoding: Optional[str] = None, errors: Optional[str] = None, newline: Optional[str] = None
     ) -> str:
-        """The text of a file, as `Tree.read_text`."""
+        """The text of a file, as `Tree.read_text`. Raises what that does."""
         return self.tree.read_text(self, encoding or "utf-8", errors or "strict", newline)
 
     def write_bytes(self, data: Data) -> int:
-        """As `Tree.write_bytes`: several calls."""
+        """As `Tree.write_bytes`: several calls. Raises what that does."""
         return self.tree.write_bytes(self, data)
 
     def write_text(
         self, data: str, encoding: Optional[str] = None, errors: Optional[str] = None, newline: Optional[str] = None
     ) -> int:
-        """As `Tree.write_text`: several calls."""
+        """As `Tree.write_text`: several calls. Raises what that does."""
         return self.tree.write_text(self, data, encoding or "utf-8", errors or "strict", newline)
 
     # ---- Moves
 
     def rename(self: _Self, target: Any) -> _Self:
-        """Moves what is there by one `rename`; a file or an empty directory at the target is replaced."""
+        """Moves what is there by one `rename`; a file or an empty directory at the target is replaced. Raises what `Tree.rename` does."""
         self.tree.rename(self, target)
         return self._of(_walk.text_of(target))
 
     replace = rename
 
     def copy(self: _Self, target: Any) -> _Self:
-        """As `Tree.copy`: several calls."""
+        """As `Tree.copy`: several calls. Raises what that does."""
         self.tree.copy(self, target)
         return self._of(_walk.text_of(target))
 
     # ---- The path itself
 
     def absolute(self: _Self) -> _Self:
-        """The path from the root on: a tree has no working directory."""
+        """The path from the root on: a tree has no working directory. It raises nothing."""
         return self._of(f"/{self}") if not self.is_absolute() else self
 
     def resolve(self: _Self, strict: bool = False) -> _Self:
-        """The path from the root on, without `..`. If it is strict, something has to be there."""
+        """The path from the root on, without `..`. Raises `FileNotFoundError` if it is strict, and nothing is there."""
         parts: List[str] = []
         for part in self.absolute().parts[1:]:
             parts[-1:] = [] if part == ".." else [*parts[-1:], part]
@@ -220,6 +245,8 @@ def _refusal(name: str, what: str) -> Callable[..., NoReturn]:
     def refuse(self: Any, *given: Any, **named: Any) -> NoReturn:
         raise NotImplementedError(f"Path.{name}: a tree has no {what}")
 
+    refuse.__name__, refuse.__qualname__ = name, f"Path.{name}"
+    refuse.__doc__ = f"Raises `NotImplementedError`, since a tree has no {what}."
     return refuse
 
 

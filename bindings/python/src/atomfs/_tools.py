@@ -72,7 +72,10 @@ class Picture:
         return self.svg
 
     def save(self, path: StrPath) -> pathlib.Path:
-        """Writes the SVG file to a path of the disk, which it answers; a file there is replaced."""
+        """Writes the SVG file to a path of the disk, which it answers; a file there is replaced.
+
+        Raises the `OSError` of the disk.
+        """
         at = pathlib.Path(path)
         at.write_bytes(self.svg.encode())
         return at

@@ -62,7 +62,7 @@ def _absent(name: str, what: str) -> property:
     def refuse(self: Any) -> NoReturn:
         raise AttributeError(f"{name}: a tree keeps no {what}")
 
-    return property(refuse)
+    return property(refuse, doc=f"Raises `AttributeError`, since a tree keeps no {what}.")
 
 
 class Stat(NamedTuple):
@@ -196,7 +196,7 @@ class Tree(Names):
         return not self._handle.is_open
 
     def close(self) -> None:
-        """Frees the tree and its journal. A closed tree stays closed."""
+        """Frees the tree and its journal. A closed tree stays closed, and nothing is raised."""
         with self.lock:
             self._library.close(self._at)
 
@@ -319,7 +319,10 @@ class Tree(Names):
         return _load.of_snapshot(cls, limit, Snapshot(limits, text))
 
     def to_dict(self) -> Dict[str, Optional[bytes]]:
-        """The bytes of each file by its path, and None by that of each empty directory: of one moment, and no call."""
+        """The bytes of each file by its path, and None by that of each empty directory: of one moment, and no call.
+
+        Raises `ClosedError`, and `MemoryError`.
+        """
         return _load.dictionary(self.tree())
 
     def to_directory(self, path: StrPath, exist_ok: bool = False) -> None:
@@ -715,7 +718,10 @@ class Tree(Names):
         return count
 
     def path(self, *segments: StrPath) -> Path:
-        """A path of this tree with the methods of `pathlib.Path`: the root, where none is given."""
+        """A path of this tree with the methods of `pathlib.Path`: the root, where none is given.
+
+        Raises `TypeError` for what is no path.
+        """
         return class_of(self)(*(segments or ("/",)))
 
     # ---- The journal
@@ -733,7 +739,10 @@ class Tree(Names):
         return int(numbers[-1]) if numbers else 0
 
     def last_calls(self, count: int = 30) -> List[str]:
-        """The last calls of the journal, each with its reply, as `mkdir /a: ok`; what is long is cut."""
+        """The last calls of the journal, each with its reply, as `mkdir /a: ok`; what is long is cut.
+
+        Raises `ClosedError`, and `MemoryError`.
+        """
         with self.lock:
             first = self.calls - count
             self._entries(2**63 - 1)

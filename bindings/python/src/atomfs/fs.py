@@ -129,18 +129,23 @@ class AtomFS(FS):
         return "<atomfs>"
 
     def close(self) -> None:
+        """Closes it, and its tree if that is its own. It raises nothing."""
         if not self._closed and self._owns:
             self.atom_tree.close()
         super().close()
 
     def getmeta(self, namespace: Text = "standard") -> Mapping[Text, object]:
-        """As of any file system, and in the namespace `atomfs` the limits of names, paths and files."""
+        """As of any file system, and in the namespace `atomfs` the limits of names, paths and files. It raises nothing."""
         if namespace == "atomfs":
             limits = self.atom_tree.limits
             return {"name_bytes": limits.name_bytes, "path_names": limits.path_names, "file_bytes": limits.file_bytes}
         return super().getmeta(namespace)
 
     def validatepath(self, path: Text) -> Text:
+        """The path in its normal form, from the root on.
+
+        Raises `InvalidPath` for a path or a name that is too long, `InvalidCharsInPath`, `IllegalBackReference`, and `FilesystemClosed`.
+        """
         path = super().validatepath(path)
         if len(path) <= self._short:
             return path
@@ -160,15 +165,20 @@ class AtomFS(FS):
         return Info(raw)
 
     def getinfo(self, path: Text, namespaces: Optional[Collection[Text]] = None) -> Info:
+        """The name and the kind of a node, and in the namespace `details` its size. Raises `ResourceNotFound`."""
         at = self.validatepath(path)
         with _Of(path, _OF_ANY, "getinfo"):
             return self._info(basename(at), self.atom_tree.stat(at), namespaces)
 
     def setinfo(self, path: Text, info: Mapping[Text, Mapping[Text, object]]) -> None:
-        """Changes nothing, since a tree keeps nothing that could be set, and looks whether there is such a node."""
+        """Changes nothing, since a tree keeps nothing that could be set, and looks whether there is such a node.
+
+        Raises `ResourceNotFound` if there is none.
+        """
         self.getinfo(path)
 
     def listdir(self, path: Text) -> List[Text]:
+        """All names of a directory, in byte order. Raises `ResourceNotFound`, and `DirectoryExpected` if a file is there."""
         at = self.validatepath(path)
         with _Of(path, _OF_DIRECTORIES, "listdir"):
             return self.atom_tree.listdir(at)
@@ -176,7 +186,7 @@ class AtomFS(FS):
     def scandir(
         self, path: Text, namespaces: Optional[Collection[Text]] = None, page: Optional[Tuple[int, int]] = None
     ) -> Iterator[Info]:
-        """The entries in byte order of their names. One that is removed meanwhile is left out."""
+        """The entries in byte order of their names. One that is removed meanwhile is left out. Raises what `listdir` does."""
         at = self.validatepath(path)
         names = self.listdir(path)
         start, end = page or (None, None)
@@ -188,6 +198,10 @@ class AtomFS(FS):
             yield self._info(name, stat, namespaces)
 
     def makedir(self, path: Text, permissions: Optional[Permissions] = None, recreate: bool = False) -> SubFS[FS]:
+        """Makes a directory, which may be there with `recreate`, and opens it as a file system.
+
+        Raises `DirectoryExists`, `ResourceNotFound`, `DirectoryExpected`, and `InsufficientStorage` if the tree is full.
+        """
         at = self.validatepath(path)
         try:
             with _Of(path, _OF_DIRECTORIES, "makedir"):
@@ -198,17 +212,24 @@ class AtomFS(FS):
         return self.opendir(path)
 
     def openbin(self, path: Text, mode: Text = "r", buffering: int = -1, **options: Any) -> BinaryIO:
+        """A file object of bytes.
+
+        Raises `ResourceNotFound`, `FileExpected` if a directory is there, `FileExists` with mode `x`, `InsufficientStorage`, and
+        `ValueError` for a mode that is none.
+        """
         Mode(mode).validate_bin()
         at = self.validatepath(path)
         with _Of(path, _OF_FILES, "openbin"):
             return open_file(self.atom_tree, at, mode, buffering)  # type: ignore[return-value]
 
     def remove(self, path: Text) -> None:
+        """Removes a file. Raises `ResourceNotFound`, and `FileExpected` if a directory is there."""
         at = self.validatepath(path)
         with _Of(path, _OF_FILES, "remove"):
             self.atom_tree.unlink(at)
 
     def removedir(self, path: Text) -> None:
+        """Removes an empty directory. Raises `RemoveRootError`, `ResourceNotFound`, `DirectoryExpected`, and `DirectoryNotEmpty`."""
         at = self.validatepath(path)
         if at == "/":
             raise errors.RemoveRootError(path=path)
@@ -216,7 +237,10 @@ class AtomFS(FS):
             self.atom_tree.rmdir(at)
 
     def move(self, src_path: Text, dst_path: Text, overwrite: bool = False, preserve_time: bool = False) -> None:
-        """Moves a file by one `rename`, so that no other call sees it twice or not at all."""
+        """Moves a file by one `rename`, so that no other call sees it twice or not at all.
+
+        Raises `DestinationExists` without `overwrite`, `FileExpected` if one of both is a directory, and `ResourceNotFound`.
+        """
         source, goal = self.validatepath(src_path), self.validatepath(dst_path)
         # Not the lock of the file system: its owner may wait for threads that write to files.
         with self.atom_tree.lock:
@@ -234,6 +258,7 @@ class AtomOpener(Opener):
     protocols = ["atomfs"]
 
     def open_fs(self, fs_url: Text, parse_result: Any, writeable: bool, create: bool, cwd: Text) -> AtomFS:
+        """A new tree as a file system. Raises `OpenerError` if the URL asks for more."""
         asked = parse_result.params or parse_result.username or parse_result.password or parse_result.path
         if asked or parse_result.resource.strip("/"):
             raise OpenerError(

@@ -119,18 +119,22 @@ class AtomFileSystem(AbstractFileSystem):  # type: ignore[misc]
         return {"name": path, "size": 0 if stat.is_dir else stat.size, "type": kind, **kept, **times}
 
     def created(self, path: str) -> Any:
-        """When the node was made or changed last otherwise than in its bytes, as of `LocalFileSystem`: its `st_ctime`."""
+        """When the node was made or changed last otherwise than in its bytes, as of `LocalFileSystem`: its `st_ctime`.
+
+        Raises `FileNotFoundError`.
+        """
         return LocalFileSystem.created(self, path)
 
     def modified(self, path: str) -> Any:
-        """When the bytes of a file, or the entries of a directory, changed last."""
+        """When the bytes of a file, or the entries of a directory, changed last. Raises `FileNotFoundError`."""
         return LocalFileSystem.modified(self, path)
 
     def info(self, path: str, **options: Any) -> dict[str, Any]:
+        """The kind and the size of a node, and its permissions, owners and times. Raises `FileNotFoundError`."""
         return self._entry(self._strip_protocol(path))
 
     def ls(self, path: str, detail: bool = True, **options: Any) -> list[Any]:
-        """The entries of a directory in byte order of their names, or a file itself."""
+        """The entries of a directory in byte order of their names, or a file itself. Raises `FileNotFoundError`."""
         path = self._strip_protocol(path)
         try:
             names: list[Any] = [joined(path, name) for name in self.atom_tree.listdir(path)]
@@ -150,12 +154,20 @@ class AtomFileSystem(AbstractFileSystem):  # type: ignore[misc]
         return entries
 
     def mkdir(self, path: str, create_parents: bool = True, **options: Any) -> None:
+        """Makes a directory, and those above it that are missing unless `create_parents` is false.
+
+        Raises `FileExistsError` if something is there, and what else `Tree.mkdir` raises.
+        """
         path = self._strip_protocol(path)
         if create_parents and path != "/":
             self.makedirs(self._parent(path), exist_ok=True)
         self.atom_tree.mkdir(path)
 
     def makedirs(self, path: str, exist_ok: bool = False) -> None:
+        """Makes a directory and those above it that are missing.
+
+        Raises what `Tree.makedirs` does, and with `exist_ok` `NotADirectoryError` if a file is there.
+        """
         path = self._strip_protocol(path)
         try:
             self.atom_tree.makedirs(path, exist_ok)
@@ -166,10 +178,14 @@ class AtomFileSystem(AbstractFileSystem):  # type: ignore[misc]
             raise
 
     def rmdir(self, path: str) -> None:
+        """Removes an empty directory. Raises what `Tree.rmdir` does."""
         self.atom_tree.rmdir(self._strip_protocol(path))
 
     def touch(self, path: str, truncate: bool = True, **options: Any) -> None:
-        """Makes an empty file, or empties one that is there; without `truncate` only its time changes."""
+        """Makes an empty file, or empties one that is there; without `truncate` only its time changes.
+
+        Raises `IsADirectoryError` if a directory is there, and what `Tree.mknod` raises.
+        """
         path = self._strip_protocol(path)
         with self.atom_tree.lock:
             try:
@@ -191,7 +207,10 @@ class AtomFileSystem(AbstractFileSystem):  # type: ignore[misc]
             raise IsADirectoryError(errno.EISDIR, os.strerror(errno.EISDIR), path) from None
 
     def rm(self, path: Any, recursive: bool = False, maxdepth: Optional[int] = None) -> None:
-        """Removes files, and directories with all below them where it is recursive."""
+        """Removes files, and directories with all below them if it is recursive.
+
+        Raises `FileNotFoundError`, and `IsADirectoryError` for a directory if it is not recursive.
+        """
         for one in reversed(self.expand_path(path, recursive=recursive, maxdepth=maxdepth)):
             if recursive and one == "/":
                 continue
@@ -201,6 +220,7 @@ class AtomFileSystem(AbstractFileSystem):  # type: ignore[misc]
                 self._unlink(one)
 
     def cp_file(self, path1: str, path2: str, **options: Any) -> None:
+        """Copies a file, or makes a directory as another one. Raises what `Tree.copy` does."""
         source, goal = self._strip_protocol(path1), self._strip_protocol(path2)
         if self.atom_tree.stat(source).is_dir:
             self.makedirs(goal, exist_ok=True)
@@ -211,7 +231,7 @@ class AtomFileSystem(AbstractFileSystem):  # type: ignore[misc]
     def mv(
         self, path1: Any, path2: Any, recursive: bool = False, maxdepth: Optional[int] = None, **options: Any
     ) -> None:
-        """Moves one file or directory by one `rename`; what a pattern or a list names, by copies."""
+        """Moves one file or directory by one `rename`; what a pattern or a list names, by copies. Raises what `Tree.rename` does."""
         path1, path2 = stringify_path(path1), stringify_path(path2)
         if not isinstance(path1, str) or has_magic(path1):
             super().mv(path1, path2, recursive=recursive, maxdepth=maxdepth, **options)
@@ -240,5 +260,9 @@ class AtomFileSystem(AbstractFileSystem):  # type: ignore[misc]
         return draft
 
     def open(self, path: str, mode: str = "rb", *given: Any, **options: Any) -> io.IOBase:
+        """A file object, of bytes or of a text by its mode.
+
+        Raises `FileNotFoundError`, `IsADirectoryError`, `FileExistsError` with mode `x`, and `ValueError` for a mode that is none.
+        """
         file: io.IOBase = super().open(path, mode, *given, **options)
         return file

@@ -241,6 +241,8 @@ def simulate(
     @atomfs.simulate({"ann": create, "bob": create}, runs=1_000)
     def test_one_wins(tree, replies):
         assert list(replies.values()).count("won") == 1
+
+    The test raises what `explore` does.
     """
 
     def made(check: Check) -> Callable[[], None]:

@@ -129,7 +129,10 @@ class PCT:
             raise ValueError(f"a depth is 1 to 1,000, and this is {self.depth}")
 
     def bound(self, threads: int, turns: int) -> float:
-        """The least chance of one run to find a bug of this depth, in runs of so many threads and at most so many turns."""
+        """The least chance of one run to find a bug of this depth, in runs of so many threads and at most so many turns.
+
+        Raises `ZeroDivisionError` if there are no threads.
+        """
         return 1.0 / (threads * float(turns) ** (self.depth - 1))
 
 

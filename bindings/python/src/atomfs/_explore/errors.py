@@ -142,11 +142,17 @@ class ScheduleError(AssertionError):
         return traced(self.script) if self.script else ""
 
     def draw(self) -> Picture:
-        """The picture of the run, with the waits and the helped calls."""
+        """The picture of the run, with the waits and the helped calls.
+
+        Raises `Error` if the run is too large for a picture.
+        """
         return draw(self.script or self.journal)
 
     def page(self) -> Page:
-        """The page that plays the run, event by event."""
+        """The page that plays the run, event by event.
+
+        Raises `Error` if the run is too large for a picture.
+        """
         return draw(self.script or self.journal, html=True)
 
     @property

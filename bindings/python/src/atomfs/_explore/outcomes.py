@@ -64,7 +64,10 @@ class Outcomes(Sequence[Outcome]):
         return f"<atomfs.Outcomes {self.seen.summary}>"
 
     def count(self, what: Any) -> int:
-        """In how many runs a value came, or one that a function says is meant."""
+        """In how many runs a value came, or one that a function says is meant.
+
+        Raises what that function raises.
+        """
         meant = _meant(what)
         return sum(row.runs for row in self._rows if meant(row.value))
 

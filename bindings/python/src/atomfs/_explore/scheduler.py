@@ -378,7 +378,7 @@ class Turns:
 
 
 def turn() -> None:
-    """In a function that `explore` runs: another thread may go on here. Elsewhere it does nothing."""
+    """In a function that `explore` runs: another thread may go on here. Elsewhere it does nothing, and raises nothing."""
     me = here()
     if me is not None:
         me.run.turn(me)
