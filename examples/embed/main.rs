@@ -5,7 +5,7 @@ use std::thread;
 
 use atomfs::{Call, Did, Error, ErrorKind, SharedTree, Tree};
 
-/// A mkdir stands half-way in /a/d, which a rename moves and helps, and a stat has to wait for it.
+/// A mkdir is half-way in /a/d, which a rename moves and helps, and a stat has to wait for it.
 fn meet(tree: &mut Tree) -> Result<(), Error> {
     let (maker, mover) = (tree.seat()?, tree.seat()?);
     let number = tree.begin(maker, &Call::mkdir("/a/d/x"))?;

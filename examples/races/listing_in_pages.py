@@ -1,11 +1,11 @@
 #!/usr/bin/env python3
 """A rename while a directory is listed in pages: the file that was renamed is in no page.
 
-A listing in pages is several calls, as `readdir` of a large directory is on any system. Where a file moves from a later page to an earlier
+A listing in pages is several calls, as `readdir` of a large directory is on any system. If a file moves from a later page to an earlier
 one between two of them, the listing has neither its old name nor its new one, though the file was there all the time.
 
-The repair lists again until two listings agree. A file that moves before the first and back again still deceives it; where that may be,
-one `readdir` tells a directory of at most 256 entries as of one moment.
+The repair lists again until two listings agree. A file that moves before the first and back again still deceives it. If that can happen,
+use one `readdir`, which lists a directory of at most 256 entries as it is at one moment.
 """
 import race
 

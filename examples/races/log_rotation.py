@@ -1,10 +1,10 @@
 #!/usr/bin/env python3
-"""Log rotation: a writer appends at the size that it was told, and the log is another one by then.
+"""Log rotation: a writer appends at the size that it asked for, and by then the log is another one.
 
 The writer asks how long the log is and writes there. Between the two the log is renamed and a new one made, so the line is written
-far behind the end of the new log, with zeros before it; or there is no log at all for a moment.
+far after the end of the new log, with zeros before it; or there is no log at all for a moment.
 
-The repair opens for appending: mode "a" makes the log where it is missing and writes at its end, whichever that is.
+The repair opens for appending: mode "a" makes the log if it is missing, and writes at its end, wherever that is.
 """
 import os
 

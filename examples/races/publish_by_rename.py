@@ -4,7 +4,7 @@
 The writer does it right: a new file under another name, then `os.replace`. The reader opens the path anew for each piece, so one piece is
 of the old file and the next of the new one.
 
-The repair opens once. A descriptor speaks of the file that was opened, whatever stands at the path later.
+The repair opens once. A descriptor is of the file that was opened, whatever is at the path later.
 """
 import os
 

@@ -1,10 +1,10 @@
 #!/usr/bin/env python3
-"""A lock by mkdir whose stale lock is broken: what was taken for a lock that somebody has left was one that somebody has.
+"""A lock by mkdir whose stale lock is broken: it seemed to be left over, but somebody has it.
 
 `os.mkdir` makes a directory or fails, so it is a lock. A function that finds it taken believes that its owner has died, removes it, and
 takes it. If the owner is at work, both are, and an update is lost.
 
-The repair breaks no lock: it sleeps and tries again. Who has to break one must know that its owner is dead, as by a process number in it.
+The repair breaks no lock: it sleeps and tries again. Whoever has to break one must know that its owner is dead, for example by a process number in it.
 """
 import os
 import time

@@ -1,5 +1,5 @@
 #!/usr/bin/env python3
-"""Records the calls of threads on a tree in memory, of PyFilesystem2 or of this package, and has an order of them found.
+"""Records the calls of threads on a tree in memory, of PyFilesystem2 or of this package, and finds an order of them.
 
 Install the package, or build the library with `embed/build` and say where it is:
 
@@ -11,7 +11,7 @@ Install the package, or build the library with `embed/build` and say where it is
 MemoryFS is a tree of PyFilesystem2: Debian's python3-fs, or `pip install fs`. One of its threads removes a directory, and what another
 one made in it meanwhile is lost.
 
-One thread records first: what nothing explains there is another kind of tree, and no race. Then three threads make four drawn calls each,
+One thread records first: if even that has no order, the tree is of another kind. Then three threads make four random calls each,
 round after round. The first history that no order explains goes to standard output.
 
 Exit status: 0 all histories are lawful; 1 one of threads is not; 2 one of one thread is not, a usage error, or a package is missing.

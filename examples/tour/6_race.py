@@ -1,10 +1,10 @@
 """6. The race of step 2 from Python, where you choose the steps yourself.
 
-Install the package, or build the library by `embed/build` and say where it is:
+Install the package, or build the library with `embed/build` and say where it is:
 
     export PYTHONPATH=bindings/python/src ATOMFS_LIBRARY=dist/lib/libatomfs.so
 
-This plays ten races, tells who won each, and writes the journal of the last one:
+This plays ten races, says who won each, and writes the journal of the last one:
 
     python3 examples/tour/6_race.py > tour.journal
 
