@@ -1,5 +1,5 @@
 -- What a depth-first search keeps.
-use Rattle.std.proofs.Common.{◌≡◌, ◌+◌, ℕ, List, [], ◌∷◌, ◌++◌, Option, Some, IfSome, refl, sym, ap, ◌∙◌, subst, ⊎_elim, arith}
+use Rattle.std.proofs.Common.{◌≡◌, ◌+◌, ℕ, List, [], ◌∷◌, ◌++◌, Option, Some, IfSome, sym, ap, ◌∙◌, subst, ⊎_elim, arith}
 use Rattle.std.specs.List.{Contains}
 use Rattle.std.proofs.lemmas.List.Elements.{Contains-append_left, Contains-push, Contains-push_cases}
 use Rattle.fs_calls.specs.Starts.{Start}
@@ -8,7 +8,7 @@ use Rattle.fs_histories.specs.Configurations.{at_start}
 use Rattle.fs_linearize.specs.code.Calls.{AreEach, AreUnderWay, IsUnderWay}
 use Rattle.fs_linearize.specs.code.Ways.{IsLed, Keeps}
 use Rattle.fs_linearize.specs.code.Searching.{PassesTo, ReachesTo}
-use Rattle.fs_linearize.specs.code.DepthFirst.{IsHere, GoesOn, IsChoice, AreChoices, FindsWay, TakesUp}
+use Rattle.fs_linearize.specs.code.DepthFirst.{IsHere, GoesOn, IsChoice, AreChoices}
 use Rattle.fs_linearize.specs.declared.depth_first.Choice.{Choice}
 use Rattle.fs_linearize.specs.declared.depth_first.Here.{Here}
 use Rattle.fs_linearize.specs.declared.reached.Reached.{Reached}

@@ -1,5 +1,5 @@
 -- Layers: each configuration once, found by its key.
-use Rattle.std.proofs.Common.{◌≡◌, ℕ, zero, suc, ◌+◌, ◌<◌, ◌≤◌, Bool, true, false, List, [], ◌∷◌, ◌++◌, length, get_or, slice_get, Option, Some, None, refl, sym, ap, ◌∙◌, subst, ⊎_elim, arith, ◌⊎◌, inl, inr}
+use Rattle.std.proofs.Common.{◌≡◌, ℕ, zero, suc, ◌+◌, ◌<◌, ◌≤◌, List, [], ◌∷◌, ◌++◌, length, slice_get, Option, Some, None, refl, sym, ap, ◌∙◌, subst, ⊎_elim, arith, ◌⊎◌, inl, inr}
 use Rattle.std.specs.List.{Contains}
 use Rattle.std.proofs.lemmas.Bool.{cases_lt}
 use Rattle.std.proofs.lemmas.List.{length-map, map-append}
@@ -8,10 +8,10 @@ use Rattle.std.proofs.lemmas.Option.{slice_get-map, slice_get-get_or}
 use Rattle.fs_histories.specs.Configurations.{Configuration}
 use Rattle.fs_linearize.specs.Limited.{AreApart}
 use Rattle.fs_linearize.specs.code.Keys.{key_of, IsLastWith}
-use Rattle.fs_linearize.specs.code.Layers.{keys, IsLayer}
+use Rattle.fs_linearize.specs.code.Layers.{keys}
 use Rattle.fs_linearize.specs.code.Ways.{configurations}
 use Rattle.fs_linearize.specs.declared.reached.Reached.{Reached}
-use Rattle.fs_linearize.proofs.WayLemmas.{contains_way, contains_configuration}
+use Rattle.fs_linearize.proofs.WayLemmas.{contains_way}
 
 -- ---- no configuration twice
 

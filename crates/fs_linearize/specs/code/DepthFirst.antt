@@ -1,5 +1,5 @@
 -- What a depth-first search finds on its way.
-use Rattle.std.specs.Prelude.{◌≡◌, List, Option, Contains, IfSome, Vec}
+use Rattle.std.specs.Prelude.{◌≡◌, List, Option, Contains, IfSome}
 use Rattle.fs_calls.specs.Starts.{Start}
 use Rattle.fs_timeline.specs.declared.entry.Entry.{Entry}
 use Rattle.fs_histories.specs.declared.heard.Heard.{Heard}

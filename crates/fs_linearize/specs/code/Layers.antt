@@ -1,6 +1,5 @@
 -- Layers of the search.
-use Rattle.std.specs.Prelude.{◌≡◌, ℕ, List, [], ◌∷◌, ◌++◌, map, Contains}
-use Rattle.fs_histories.specs.Configurations.{Configuration}
+use Rattle.std.specs.Prelude.{◌≡◌, ℕ, List, map}
 use Rattle.fs_linearize.specs.Limited.{AreApart}
 use Rattle.fs_linearize.specs.code.Keys.{key_of}
 use Rattle.fs_linearize.specs.code.Ways.{configurations}

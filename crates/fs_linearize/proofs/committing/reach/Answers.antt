@@ -1,7 +1,5 @@
-use Rattle.std.proofs.Common.{◌≡◌, List, length, refl, sym, ap, subst, arith}
-use Rattle.fs_histories.specs.declared.heard.Heard.{Heard}
-use Rattle.fs_linearize.specs.code.Calls.{CommitsNow, AreEach, IsUnderWay}
-use Rattle.fs_linearize.specs.code.Searching.{ReachesTo}
+use Rattle.std.proofs.Common.{◌≡◌, length, refl, sym, ap, subst, arith}
+use Rattle.fs_linearize.specs.code.Calls.{CommitsNow, AreEach}
 use Rattle.fs_linearize.specs.declared.reached.Reached.{Reached}
 use Rattle.fs_linearize.specs.declared.steps.Link.{Link}
 use Rattle.fs_linearize.proofs.SearchLemmas.{reaches_to}

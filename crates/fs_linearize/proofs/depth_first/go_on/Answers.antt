@@ -1,4 +1,4 @@
-use Rattle.std.proofs.Common.{◌≡◌, refl, sym, ◌∙◌}
+use Rattle.std.proofs.Common.{refl, sym, ◌∙◌}
 use Rattle.fs_linearize.proofs.DepthFirstLemmas.{goes_nowhere, goes_further}
 use Rattle.fs_linearize.proofs.FindingLemmas.{here_at, rest_at}
 use Rattle.fs_linearize.proofs.depth_first.go_on.Goals as goal

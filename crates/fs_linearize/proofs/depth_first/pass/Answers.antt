@@ -1,4 +1,4 @@
-use Rattle.std.proofs.Common.{◌≡◌, ◌+◌, List, slice_get, sym, ap, subst, ◌∙◌}
+use Rattle.std.proofs.Common.{◌+◌, List, slice_get, sym, ap, subst, ◌∙◌}
 use Rattle.fs_linearize.specs.code.Calls.{AreEach, AreUnderWay}
 use Rattle.fs_linearize.specs.declared.depth_first.Here.{Here}
 use Rattle.fs_linearize.specs.declared.under_way.UnderWay.{UnderWay}

@@ -1,6 +1,5 @@
 use Rattle.std.proofs.Common.{◌≡◌, false, Some, refl, sym, ap, subst, ◌∙◌}
 use Rattle.fs_histories.specs.declared.heard.Heard.{Heard}
-use Rattle.fs_histories.specs.declared.heard.Heard.TheVariants.{Return}
 use Rattle.fs_histories.specs.Configurations.{without, passed, returned}
 use Rattle.fs_linearize.specs.code.Calls.{AreEach}
 use Rattle.fs_linearize.specs.code.Searching.{PassesTo, waits}

@@ -1,7 +1,5 @@
-use Rattle.std.proofs.Common.{◌≡◌, List, refl, sym, ap, length, arith, subst}
-use Rattle.std.specs.List.{Contains}
+use Rattle.std.proofs.Common.{◌≡◌, refl, sym, ap, length, arith, subst}
 use Rattle.fs_linearize.specs.code.Calls.{CommitsNow, AreEach}
-use Rattle.fs_linearize.specs.code.Ways.{configurations}
 use Rattle.fs_linearize.specs.declared.reached.Reached.{Reached}
 use Rattle.fs_linearize.specs.declared.steps.Link.{Link}
 use Rattle.fs_linearize.proofs.SearchLemmas.{adds_commit, adds_commit_seen}

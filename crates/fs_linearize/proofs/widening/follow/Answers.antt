@@ -1,4 +1,4 @@
-use Rattle.std.proofs.Common.{◌≡◌, ◌≤◌, true, false, List, length, get_or, sym, subst, ◌∙◌, arith}
+use Rattle.std.proofs.Common.{◌≡◌, ◌≤◌, true, false, List, length, get_or, sym, subst, ◌∙◌}
 use Rattle.fs_calls.specs.Starts.{start_tree}
 use Rattle.fs_histories.specs.Meeting.{HasRoom}
 use Rattle.fs_histories.specs.Configurations.{is_in}

@@ -1,4 +1,3 @@
-use Rattle.std.proofs.Common.{ℕ, ◌+◌, Option, Some, None}
 use Rattle.fs_linearize.proofs.LayerLemmas.{IsLeft, places_left}
 use Rattle.fs_linearize.proofs.layer.Layer.contains.Given as goal
 
