@@ -25,7 +25,8 @@ fn is_found<'p, R: Send + 'static>(made: impl Fn(&mut Plan<'p, R>) + Copy + Sync
         let error = explore(1..FOUND, plan).unwrap_err();
         assert!(matches!(error.fault, ScheduleFault::Check(_)), "{error}");
         let seed = error.seed.unwrap();
-        for workers in [1, 4] {
+        // Workers take the draws as they are, so one way is enough.
+        for workers in [1, 4].into_iter().filter(|_| draws == Draws::Both) {
             assert_eq!(explore_on(workers, 1..FOUND, plan).unwrap_err(), error);
         }
         assert_eq!(explore(seed..seed + 1, plan).unwrap_err(), error);
