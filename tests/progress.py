@@ -28,13 +28,17 @@ def renames(threads: int, calls: int) -> bytes:
 
 
 def exchanges(rounds: int, histories: int = 1) -> bytes:
-    """Histories in which the first of ten exchanges of two directories returns while all are under way, again and again: of each round a thousand orders
-    are looked at."""
-    lines = ["atomfs-journal 2", "start", "dir /", "dir /a", "dir /b", "entries"]
-    for first in range(1, 10 * rounds, 10):
+    """Histories in which the first of ten exchanges of two directories returns while all are under way, again and again, behind two writes of one byte.
+    Of many rounds a read at the end says which came first: not the one that is tried first, so all orders are looked at."""
+    lines = ["atomfs-journal 2", "start", "dir /", "dir /a", "dir /b", "file /f 00", "entries"]
+    lines += ["begin 1 0 write /f 0 07", "begin 2 1 write /f 0 08", "return 1 wrote 1", "return 2 wrote 1"]
+    for first in range(3, 10 * rounds + 3, 10):
         lines += [f"begin {first + seat} {seat} exchange /a /b" for seat in range(10)] + [
             f"return {first + seat} ok" for seat in range(10)
         ]
+    if rounds > 1:
+        last = 10 * rounds + 3
+        lines += [f"begin {last} 0 read /f 0 4", f"return {last} bytes 07"]
     return histories * "".join(f"{line}\n" for line in lines).encode()
 
 
@@ -45,8 +49,8 @@ ROWS: tuple[tuple[str, bytes, tuple[str, ...]], ...] = (
     ("run_drawn", renames(200, 100), ("run", "--seed", "7")),
     ("seeds", renames(4, 100), ("seeds", "--seed", "1", "--runs", "1000")),
     ("threads", renames(5, 16_000), ("threads",)),
-    ("linearize", exchanges(400), ("linearize",)),
-    ("linearize_many", exchanges(1, 400), ("linearize", "--many")),
+    ("linearize", exchanges(100), ("linearize",)),
+    ("linearize_many", exchanges(1, 8_000), ("linearize", "--many")),
 )
 
 
