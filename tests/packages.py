@@ -547,6 +547,9 @@ class Layout(Case):
         *("model", "objects", "progress", "replay", "schedules", "scripts", "shrink", "standin"),
     )
 
+    # Those of bindings/python/tests, without `test_`.
+    TYPED_OF_PYTHON = "docs", "outcomes", "pauses", "plugin", "program", "slices"
+
     def formatter(self, command):
         """A formatter of the version by which the sources are laid out."""
         wanted(command)
@@ -582,6 +585,16 @@ class Layout(Case):
         with tempfile.TemporaryDirectory(prefix="atomfs-") as cache:
             words = "mypy", "--strict", "--python-version", "3.11", "--cache-dir", cache
             status, told = done([*words, *(f"{name}.py" for name in self.TYPED)], ROOT / "tests")
+        self.same(f"mypy --strict\n{told}", status, 0)
+
+    def test_types_of_python(self):
+        """The types of those tests of the package for Python that have some are right."""
+        wanted("mypy")
+        package = BINDINGS / "python"
+        with tempfile.TemporaryDirectory(prefix="atomfs-") as cache:
+            words = "mypy", "--strict", "--python-version", "3.9", "--cache-dir", cache
+            names = (f"test_{name}.py" for name in self.TYPED_OF_PYTHON)
+            status, told = done([*words, *names], package / "tests", MYPYPATH=str(package / "src"))
         self.same(f"mypy --strict\n{told}", status, 0)
 
     def test_clang_format(self):

@@ -3,6 +3,7 @@ import importlib.util
 import inspect
 import re
 import unittest
+from typing import Iterator, Tuple
 
 import atomfs
 
@@ -14,7 +15,7 @@ OF_ALL = re.compile(r"\bEach\b[^.]*\braises\b")
 OF_OTHERS = {"atomfs.fs": "fs", "atomfs.fsspec": "fsspec"}
 
 
-def methods(kind):
+def methods(kind: type) -> Iterator[Tuple[str, object, bool]]:
     """The public methods and properties that a class has of its own, each with its doc line."""
     for name, value in vars(kind).items():
         function = value.__func__ if isinstance(value, (staticmethod, classmethod)) else value
@@ -22,7 +23,7 @@ def methods(kind):
             yield name, function, inspect.isfunction(function)
 
 
-def lacks(name, value):
+def lacks(name: str, value: object) -> Iterator[str]:
     """What has no doc line below a public name, or one that does not say what is raised."""
     if inspect.isclass(value):
         # A dataclass that has none gets its own signature.
@@ -39,10 +40,10 @@ def lacks(name, value):
 class Docs(unittest.TestCase):
     maxDiff = None
 
-    def test_package(self):
+    def test_package(self) -> None:
         self.assertEqual([one for name in atomfs.__all__ for one in lacks(name, getattr(atomfs, name))], [])
 
-    def test_modules(self):
+    def test_modules(self) -> None:
         """Those by which trees are file systems of other packages."""
         for module, needed in OF_OTHERS.items():
             if importlib.util.find_spec(needed) is None:
@@ -53,23 +54,23 @@ class Docs(unittest.TestCase):
             with self.subTest(module):
                 self.assertEqual([one for name, value in public.items() for one in lacks(name, value)], [])
 
-    def test_rule(self):
+    def test_rule(self) -> None:
         """What the rule finds, of classes and functions made for it."""
 
-        def function():
+        def function() -> None:
             """Does something."""
 
         class Bare:
-            def method(self):
+            def method(self) -> None:
                 """Raises nothing."""
 
         class Said:
             """Something. Each method raises `OSError`."""
 
-            def method(self):
+            def method(self) -> None:
                 """Does something."""
 
-            def other(self):
+            def other(self) -> None:
                 pass
 
         self.assertEqual(list(lacks("function", function)), ["function"])

@@ -6,6 +6,7 @@ import threading
 import time
 import unittest
 import unittest.mock
+from typing import Any, Callable, Dict, List, Set, Tuple
 
 import atomfs
 
@@ -14,7 +15,11 @@ PATHS = "/a", "/b", "/a/x", "/b/x", "/a/x/y", "/none/z"
 THREADS, CALLS = 4, 150
 
 
-def a_call(draw):
+# A method of a tree, and its arguments.
+Asked = Tuple[str, Tuple[Any, ...]]
+
+
+def a_call(draw: random.Random) -> Asked:
     """A method of a tree and its arguments."""
     name = draw.choice(
         (
@@ -34,7 +39,7 @@ def a_call(draw):
         + ("truncate", "exists", "read_bytes")
     )
     path, other = draw.choice(PATHS), draw.choice(PATHS)
-    more = {
+    more: Dict[str, Tuple[object, ...]] = {
         "rename": (other,),
         "exchange": (other,),
         "list": (other, 2),
@@ -45,18 +50,21 @@ def a_call(draw):
     return name, (path, *more.get(name, ()))
 
 
-def answer(tree, call):
+def answer(tree: atomfs.Tree, call: Asked) -> object:
     """What a call returns, or its error in words."""
     name, given = call
     try:
-        return getattr(tree, name)(*given)
+        found: object = getattr(tree, name)(*given)
+        return found
     except (OSError, atomfs.Error, ValueError, TypeError) as error:
         return type(error), str(error)
 
 
-def overlapping(journal):
+def overlapping(journal: str) -> Tuple[int, int]:
     """How many calls a journal has, and how many of them overlap with another."""
-    pending, met, total = set(), set(), 0
+    pending: Set[str] = set()
+    met: Set[str] = set()
+    total = 0
     for line in journal.splitlines():
         word, number = (line.split(" ", 2) + [""])[:2]
         if word == "begin":
@@ -68,11 +76,11 @@ def overlapping(journal):
     return total, len(met)
 
 
-def run(*functions):
+def run(*functions: Callable[[], object]) -> None:
     """Runs functions, each on a thread, and raises what one of them raised."""
-    errors = []
+    errors: List[BaseException] = []
 
-    def caught(function):
+    def caught(function: Callable[[], object]) -> None:
         try:
             function()
         except BaseException as error:
@@ -87,13 +95,13 @@ def run(*functions):
         raise errors[0]
 
 
-def works(tree, seed, calls=CALLS):
+def works(tree: atomfs.Tree, seed: int, calls: int = CALLS) -> Callable[[], List[object]]:
     draw = random.Random(seed)
     return lambda: [answer(tree, a_call(draw)) for _ in range(calls)]
 
 
 class Pauses(unittest.TestCase):
-    def test_overlap(self):
+    def test_overlap(self) -> None:
         """Calls of threads never overlap by themselves, and most do with pauses. Each journal is lawful."""
         for pauses in (None, 1, 7):
             with self.subTest(pauses), atomfs.Tree(pauses=pauses) as tree:
@@ -109,12 +117,12 @@ class Pauses(unittest.TestCase):
                     self.assertGreater(len(seats), 1)
                 self.assertEqual((tree.check(), atomfs.check(journal)), ("lawful", "lawful"))
 
-    def test_replies(self):
+    def test_replies(self) -> None:
         """One thread gets the same replies and errors as from a tree without pauses, by the same calls."""
         for limits in atomfs.Limits:
             with atomfs.Tree(limits=limits) as plain, atomfs.Tree(limits=limits, pauses=3) as paused:
                 draw = random.Random(1)
-                calls = [a_call(draw) for _ in range(400)]
+                calls: List[Asked] = [a_call(draw) for _ in range(400)]
                 calls += [
                     ("mkdir", ("no slash",)),
                     ("rename", ("/a", "b")),
@@ -131,17 +139,17 @@ class Pauses(unittest.TestCase):
                     self.assertEqual(answer(paused, call), answer(plain, call), call)
                 self.assertEqual((paused.journal(), len(paused)), (plain.journal(), len(plain)))
 
-    def test_large(self):
+    def test_large(self) -> None:
         """A file of several pieces is read whole, also while others write it."""
         size = 3_000_000
         with atomfs.Tree(pauses=5) as tree:
             tree.write_bytes("/f", bytes(size))
 
-            def writes():
+            def writes() -> None:
                 for byte in (b"1", b"2", b"3"):
                     tree.write("/f", 0, byte * size)
 
-            def reads():
+            def reads() -> None:
                 for _ in range(4):
                     self.assertEqual(len(set(tree.read("/f"))), 1)
                     self.assertEqual(len(tree.read("/f", 5, 2_000_000)), 2_000_000)
@@ -149,12 +157,12 @@ class Pauses(unittest.TestCase):
             run(writes, reads)
             self.assertEqual(tree.read_bytes("/f"), b"3" * size)
 
-    def test_lock(self):
+    def test_lock(self) -> None:
         """A thread that has the lock makes several calls one, and finds none half-way."""
         with atomfs.Tree(pauses=2) as tree:
             tree.mkdir("/a")
 
-            def holds():
+            def holds() -> None:
                 for _ in range(20):
                     with tree.lock, tree.lock:
                         before = tree.calls
@@ -168,17 +176,17 @@ class Pauses(unittest.TestCase):
             self.assertRaises(RuntimeError, tree.lock.release)
             self.assertEqual(tree.check(), "lawful")
 
-    def test_whole_journals(self):
+    def test_whole_journals(self) -> None:
         """Checkpoints, `forget` and trees that forget come between calls of threads, which lose no reply."""
         with atomfs.Tree(pauses=4) as tree, atomfs.Tree(pauses=4, journal=atomfs.LAST(20)) as forgets:
 
-            def hands_out():
+            def hands_out() -> None:
                 for _ in range(15):
                     self.assertEqual(atomfs.check(tree.checkpoint()), "lawful")
                     tree.forget()
                     tree.snapshot()
 
-            def counts(of):
+            def counts(of: atomfs.Tree) -> None:
                 for number in range(40):
                     path = f"/{threading.get_ident()}_{number}"
                     of.mknod(path)
@@ -189,7 +197,7 @@ class Pauses(unittest.TestCase):
             self.assertEqual((len(tree), len(forgets)), (121, 81))
             self.assertEqual((tree.check(), forgets.check()), ("lawful", "lawful"))
 
-    def test_seats(self):
+    def test_seats(self) -> None:
         """A call that waits for one that was begun on a seat raises, as on any tree, and goes on later."""
         with atomfs.Tree(pauses=1) as tree:
             tree.mkdir("/a")
@@ -205,7 +213,7 @@ class Pauses(unittest.TestCase):
             self.assertEqual(tree.listdir("/"), ["b", "c", "d"])
             self.assertEqual(tree.check(), "lawful")
 
-    def test_interrupted(self):
+    def test_interrupted(self) -> None:
         """A call that is interrupted in a pause is not left half-way."""
         with atomfs.Tree(pauses=1) as tree:
             with unittest.mock.patch("time.sleep", side_effect=KeyboardInterrupt):
@@ -215,29 +223,29 @@ class Pauses(unittest.TestCase):
             self.assertEqual(len(tree.listdir("/")), 20)
             self.assertEqual((tree.check(), overlapping(tree.journal())[1]), ("lawful", 0))
 
-    def test_closed(self):
+    def test_closed(self) -> None:
         """A tree that is closed while threads call brings their calls to an end."""
         tree, begun = atomfs.Tree(pauses=6), threading.Event()
 
-        def calls():
+        def calls() -> None:
             with contextlib.suppress(atomfs.ClosedError):
                 while True:
                     tree.exists("/a")
                     begun.set()
 
-        def closes():
+        def closes() -> None:
             begun.wait()
             tree.close()
 
         run(calls, calls, closes)
         self.assertTrue(tree.closed)
 
-    def test_patch(self):
+    def test_patch(self) -> None:
         """Under a patch calls are whole."""
         at = "/sandbox_of_pauses"
         with atomfs.Tree(pauses=1) as tree, atomfs.patch(tree, at=at):
 
-            def writes():
+            def writes() -> None:
                 for number in range(30):
                     with open(f"{at}/{threading.get_ident()}_{number}", "w") as file:
                         file.write("text")
@@ -246,11 +254,11 @@ class Pauses(unittest.TestCase):
             self.assertEqual(len(os.listdir(at)), 90)
             self.assertEqual((overlapping(tree.journal())[1], tree.check()), (0, "lawful"))
 
-    def test_seeds(self):
+    def test_seeds(self) -> None:
         self.assertRaises(ValueError, atomfs.Tree, pauses=-1)
         self.assertRaises(TypeError, atomfs.Tree, pauses="1")
         with atomfs.Tree(pauses=0) as tree, atomfs.Tree(pauses=0) as other:
-            slept = []
+            slept: List[List[float]] = []
             with unittest.mock.patch("time.sleep", side_effect=lambda seconds: slept[-1].append(seconds)):
                 for one in (tree, other):
                     slept.append([])

@@ -5,16 +5,17 @@ import subprocess
 import sys
 import tempfile
 import unittest
+from typing import Dict, Tuple
 
 import atomfs
-from atomfs.__main__ import program
+from atomfs._program import program
 
 SCRIPT = "atomfs 1\nthread m\nmkdir /a\nmkdir /a/b\nthread r\nrename /a /b\nschedule\nm*8 r*2 finish\n"
 
 
-def ran(*words, text="", **more):
+def ran(*words: str, text: str = "", **more: str) -> Tuple[int, str, str]:
     done = subprocess.run(
-        [sys.executable, "-m", "atomfs", *words], input=text, capture_output=True, text=True, env=os.environ | more
+        [sys.executable, "-m", "atomfs", *words], input=text, capture_output=True, text=True, env={**os.environ, **more}
     )
     return done.returncode, done.stdout, done.stderr
 
@@ -33,19 +34,19 @@ sys.exit(3)
 
 
 class Exec(unittest.TestCase):
-    def setUp(self):
+    def setUp(self) -> None:
         folder = tempfile.TemporaryDirectory()
         self.addCleanup(folder.cleanup)
         self.folder = pathlib.Path(folder.name)
         (self.folder / "works.py").write_text(WORKS)
         (self.folder / "beside").write_text("")
 
-    def ran(self, *words):
-        words = [sys.executable, "-m", "atomfs", "exec", *words]
-        done = subprocess.run(words, capture_output=True, text=True, cwd=self.folder)
+    def ran(self, *words: str) -> Tuple[int, str, str]:
+        command = [sys.executable, "-m", "atomfs", "exec", *words]
+        done = subprocess.run(command, capture_output=True, text=True, cwd=self.folder)
         return done.returncode, done.stdout, done.stderr
 
-    def test_exec(self):
+    def test_exec(self) -> None:
         """A program works in memory, and what is asked for comes out: its status, its journal, and what it has made."""
         told = "['a', '--to'] [] __main__ {}\ntext\n"
         self.assertEqual(self.ran("works.py", "a", "--to"), (3, told.format(False), ""))
@@ -58,7 +59,7 @@ class Exec(unittest.TestCase):
         self.assertEqual(os.readlink(self.folder / "out" / "link"), "made")
         self.assertEqual((self.folder / "out" / "made").stat().st_mode & 0o777, 0o640)
 
-    def test_at(self):
+    def test_at(self) -> None:
         """A directory of the disk begins as it is, and stays so; programs of the disk are refused where they would find the one of the disk."""
         (self.folder / "reads.py").write_text(
             "import os\nprint(sorted(os.listdir()))\nos.unlink('beside')\nopen('new', 'w').close()\n"
@@ -68,7 +69,7 @@ class Exec(unittest.TestCase):
         self.assertEqual(sorted(path.name for path in self.folder.iterdir()), ["beside", "out", "reads.py", "works.py"])
         self.assertEqual(sorted(os.listdir(self.folder / "out")), ["new", "reads.py", "works.py"])
 
-    def test_overlay(self):
+    def test_overlay(self) -> None:
         """A directory of the disk is read, and stays as it is; what is asked for has all that is there, with the changes."""
         (self.folder / "data").mkdir()
         (self.folder / "data" / "in").write_text("in")
@@ -91,7 +92,7 @@ class Exec(unittest.TestCase):
             self.ran("--overlay", "none", "reads.py"), (2, "", "atomfs exec: there is no directory none\n")
         )
 
-    def test_ends(self):
+    def test_ends(self) -> None:
         for text, status, told in (
             ("raise KeyError('x')", 1, "KeyError: 'x'"),
             ("import sys; sys.exit('words')", 1, "words\n"),
@@ -108,7 +109,7 @@ class Exec(unittest.TestCase):
 
 class Program(unittest.TestCase):
     @unittest.skipUnless(os.path.exists(program()), "there is no program in the package: ATOMFS_PROGRAM names one")
-    def test_module(self):
+    def test_module(self) -> None:
         """Its input, its output and its status are those of the program."""
         self.assertEqual(ran("--version"), (0, f"atomfs {atomfs.__version__}\n", ""))
         self.assertEqual(ran("run", text=SCRIPT), (0, atomfs.run(SCRIPT), ""))
@@ -118,14 +119,14 @@ class Program(unittest.TestCase):
         self.assertIn("line 1: BadHeader", message)
 
     @unittest.skipUnless(os.path.exists(program()), "there is no program in the package: ATOMFS_PROGRAM names one")
-    def test_a_script_of_explore(self):
+    def test_a_script_of_explore(self) -> None:
         """What explore raises is a script for the program."""
         with self.assertRaises(atomfs.ScheduleError) as raised:
             atomfs.explore({"m": ["mkdir /a"], "r": ["rename /a /b"]}, lambda tree, replies: False)
         status, told, _ = ran("run", text=raised.exception.script)
         self.assertEqual((status, told[: told.index("tree\n")]), (0, raised.exception.journal))
 
-    def test_missing(self):
+    def test_missing(self) -> None:
         """Without the program it says what is missing."""
         missing = pathlib.Path(__file__).with_name("none")
         status, told, message = ran("--version", ATOMFS_PROGRAM=str(missing))
@@ -137,15 +138,15 @@ class Program(unittest.TestCase):
 
 
 class OfTheLibrary(unittest.TestCase):
-    def told(self, named):
+    def told(self, named: Dict[str, str]) -> str:
         """The last line of what is told where the library that a variable names, or the package's own, is not there."""
-        environment = {name: value for name, value in os.environ.items() if name != "ATOMFS_LIBRARY"} | named
+        environment = {**{name: value for name, value in os.environ.items() if name != "ATOMFS_LIBRARY"}, **named}
         words = [sys.executable, "-c", "import atomfs; atomfs.Tree()"]
         done = subprocess.run(words, capture_output=True, text=True, env=environment)
         self.assertEqual(done.returncode, 1)
         return done.stderr.splitlines()[-1]
 
-    def test_named(self):
+    def test_named(self) -> None:
         """A library that is named and not there: the message has its path and the variable."""
         self.assertRegex(
             self.told({"ATOMFS_LIBRARY": "/none/lib.so"}),
@@ -153,7 +154,7 @@ class OfTheLibrary(unittest.TestCase):
         )
 
     @unittest.skipIf(pathlib.Path(atomfs.__file__).with_name("libatomfs.so").exists(), "the package has a library")
-    def test_own(self):
+    def test_own(self) -> None:
         """Without a library of its own the package says what makes one."""
         self.assertRegex(self.told({}), "; embed/build makes one, and ATOMFS_LIBRARY names it$")
 
