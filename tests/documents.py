@@ -319,7 +319,7 @@ class Named(Page):
     NO_SOURCE = ".md", ".svg", "documents.py"
     # What pages name of others: commands and their words, the standard libraries, other packages and their tests; and what stands for a word.
     OF_OTHERS = re.compile(
-        r"[0-9a-f]{7}|MODULE|FUNCTION|PREFIX|CALLNO|plant|ulimit|rpath|linux_x86_64|manylinux\w*|CMAKE_PREFIX_PATH|LD_LIBRARY_PATH|NotImplementedError|(up|down)load|test_(up|down)load_\d|settimes|created|modified|SystemRandom|datetime|localtime|urandom|uuid4?"
+        r"[0-9a-f]{7}|MODULE|FUNCTION|PREFIX|CALLNO|plant|ulimit|rpath|bashrc|linux_x86_64|manylinux\w*|CMAKE_PREFIX_PATH|LD_LIBRARY_PATH|NotImplementedError|(up|down)load|test_(up|down)load_\d|settimes|created|modified|SystemRandom|datetime|localtime|urandom|uuid4?"
     )
     # Names of the standard libraries, by their paths.
     OF_LIBRARIES = re.compile(r"(std|thread)::.*")

@@ -46,6 +46,7 @@ COMMANDS = {
         "java": "default-jre-headless",
     },
     **{"parallel": "parallel", "rsync": "rsync", "ssh": "openssh-client", "sshd": "openssh-server", "strace": "strace"},
+    **{"groff": "groff-base", "man": "man-db", "mandoc": "mandoc", "bash": "bash", "zsh": "zsh", "fish": "fish"},
 }
 MODULES = {
     **{"fs": "python3-fs", "fsspec": "python3-fsspec", "pytest": "python3-pytest"},
@@ -116,7 +117,7 @@ def archive():
     found = pathlib.Path(harness.found("ATOMFS_ARCHIVE", f"dist/{name}.tar.gz", "embed/build makes it"))
     parts = [
         path
-        for folder in (BINDINGS, EMBED)
+        for folder in (BINDINGS, EMBED, harness.DATA / "help")
         for path in folder.rglob("*")
         if path.is_file() and "__pycache__" not in path.parts
     ]
@@ -163,6 +164,8 @@ class OfTheArchive(Installed):
                 "include/atomfs.h",
             ),
             *("bin/atomfs", "share/atomfs/README.md", "share/atomfs/rust/Cargo.toml"),
+            *("share/man/man1/atomfs.1", "share/man/man1/atomfs-run.1", "share/bash-completion/completions/atomfs"),
+            *("share/zsh/site-functions/_atomfs", "share/fish/vendor_completions.d/atomfs.fish"),
         ):
             with self.subTest(name):
                 self.assertTrue((self.prefix / name).is_file())
@@ -189,7 +192,7 @@ class OfTheArchive(Installed):
     def test_install_over_what_runs(self):
         """`embed/package --prefix` puts it anew where a program of the folder runs, and that goes on with what it has."""
         checkout, into = self.folder / "checkout", self.folder / "into"
-        for part in ("embed", "bindings", "docs"):
+        for part in ("embed", "bindings", "docs", "tests/data/help"):
             shutil.copytree(
                 ROOT / part,
                 checkout / part,
