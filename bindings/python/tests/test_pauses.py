@@ -1,5 +1,6 @@
 """`Tree(pauses=SEED)`: calls of threads overlap, and each answers what it answers on any tree."""
 import contextlib
+import functools
 import os
 import random
 import threading
@@ -186,14 +187,19 @@ class Pauses(unittest.TestCase):
                     tree.forget()
                     tree.snapshot()
 
-            def counts(of: atomfs.Tree) -> None:
+            def counts(of: atomfs.Tree, who: str) -> None:
                 for number in range(40):
-                    path = f"/{threading.get_ident()}_{number}"
+                    path = f"/{who}_{number}"
                     of.mknod(path)
                     self.assertEqual(of.write(path, 0, b"abc"), 3)
                     self.assertEqual(of.read(path), b"abc")
 
-            run(hands_out, *[lambda: counts(tree)] * 3, *[lambda: counts(forgets)] * 2)
+            one, other = functools.partial(counts, tree), functools.partial(counts, forgets)
+            run(
+                hands_out,
+                *(functools.partial(one, who) for who in "abc"),
+                *(functools.partial(other, who) for who in "de"),
+            )
             self.assertEqual((len(tree), len(forgets)), (121, 81))
             self.assertEqual((tree.check(), forgets.check()), ("lawful", "lawful"))
 
@@ -245,12 +251,12 @@ class Pauses(unittest.TestCase):
         at = "/sandbox_of_pauses"
         with atomfs.Tree(pauses=1) as tree, atomfs.patch(tree, at=at):
 
-            def writes() -> None:
+            def writes(who: str) -> None:
                 for number in range(30):
-                    with open(f"{at}/{threading.get_ident()}_{number}", "w") as file:
+                    with open(f"{at}/{who}_{number}", "w") as file:
                         file.write("text")
 
-            run(writes, writes, writes)
+            run(*(functools.partial(writes, who) for who in "abc"))
             self.assertEqual(len(os.listdir(at)), 90)
             self.assertEqual((overlapping(tree.journal())[1], tree.check()), (0, "lawful"))
 
