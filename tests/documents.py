@@ -1337,6 +1337,7 @@ def limits():
         "fs_outcomes/src/running.rt",
         "fs_find/src/finding.rt",
         "fs_shrink/src/limits.rt",
+        "fs_minimal/src/limits.rt",
         "fs_recorded/src/linearizing.rt",
     )
     found = {

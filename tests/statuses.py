@@ -552,6 +552,14 @@ class Words(Case):
                     misused("the argument '--front' cannot be used with '--many'", "linearize [OPTIONS] [FILE]"),
                 ),
                 (
+                    "linearize --core --front",
+                    misused("the argument '--core' cannot be used with '--front'", "linearize [OPTIONS] [FILE]"),
+                ),
+                (
+                    "linearize --many --core",
+                    misused("the argument '--many' cannot be used with '--core'", "linearize [OPTIONS] [FILE]"),
+                ),
+                (
                     "linearize --many --many",
                     misused("the argument '--many' cannot be used multiple times", "linearize [OPTIONS] [FILE]"),
                 ),

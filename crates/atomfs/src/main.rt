@@ -13,13 +13,16 @@ ghost use Rattle.fs_arguments.specs.Commands.{IsWithin};
 ghost use Rattle.fs_sched.specs.declared.seeding.TheConstants.{SEED_LIMIT};
 ghost use Rattle.fs_find.specs.declared.finding.TheConstants.{SEARCH_LIMIT};
 
+mod linearizing;
+
+use crate::linearizing::{linearize_shown, many_shown, minimize_shown};
 use fs_arguments::{Asserted, Format, Histories, Invocation, Subcommand, parse};
 use fs_command::{
     Erasing, Input, Kept, Line, Screen, SharedLine, report, report_asserted, report_check,
     report_draw, report_fault, report_file, report_find, report_from, report_linearize,
-    report_many, report_picture, report_schedule, report_shrink, report_trace, report_tree,
-    report_unopened, report_words, status_of_run, status_of_unreadable_args, status_of_usage,
-    status_of_verdict, tell_reading,
+    report_many, report_minimized, report_picture, report_schedule, report_shrink, report_trace,
+    report_tree, report_unopened, report_words, status_of_run, status_of_unreadable_args,
+    status_of_usage, status_of_verdict, tell_reading,
 };
 use fs_draw::{DrawFault, draw_input};
 use fs_entries::trace_input;
@@ -28,7 +31,6 @@ use fs_find::{Clause, FindFault, find_seed, read_what};
 use fs_litmus::{Assertion, assert_outcomes, read_assertion};
 use fs_objects::{check_object, find_object, seed_objects};
 use fs_outcomes::{Form, add_outcomes, run_outcomes};
-use fs_recorded::{Histories as Found, Linearized, Untold, linearize_history, linearize_many};
 use fs_replay::{Asked, ReplayFault, Replayed, read_question, replay_input};
 use fs_sched::{
     Device, RunFault, Schedule, Silent, Sink, Source, Witness, check_journal, run_script,
@@ -552,49 +554,6 @@ fn threads_shown<T: Threads + Wait + Clock + Sync, R: Source, W: Sink>(
     outcome
 }
 
-/// Linearizes a history, and tells on a terminal how far that is.
-fn linearize_shown<C: Clock, R: Source, W: Sink>(
-    clock: &C,
-    alloc: Global,
-    reader: &mut R,
-    writer: &mut W,
-    limit: usize,
-    front: bool,
-    screen: &Screen,
-) -> Result<Linearized, RunFault>
-    requires reads { R.failures reader.old < 2 ^ 64 - 1 }
-    requires writes { W.failures writer.old < 2 ^ 64 - 1 }
-{
-    if !screen.is_terminal() {
-        return linearize_history(alloc, reader, writer, limit, front, &mut Untold);
-    }
-    let mut line = Line::new(clock, screen);
-    let outcome = linearize_history(alloc, reader, writer, limit, front, &mut line);
-    screen.erase();
-    outcome
-}
-
-/// Linearizes histories one after the other, and tells on a terminal how far that is.
-fn many_shown<C: Clock, R: Source, W: Sink>(
-    clock: &C,
-    alloc: Global,
-    reader: &mut R,
-    writer: &mut W,
-    limit: usize,
-    screen: &Screen,
-) -> Result<Found, RunFault>
-    requires reads { R.failures reader.old < 2 ^ 64 - 1 }
-    requires writes { W.failures writer.old < 2 ^ 64 - 1 }
-{
-    if !screen.is_terminal() {
-        return linearize_many(alloc, reader, writer, limit, &mut Untold);
-    }
-    let mut line = Line::new(clock, screen);
-    let outcome = linearize_many(alloc, reader, writer, limit, &mut line);
-    screen.erase();
-    outcome
-}
-
 /// Does what a subcommand asks for, and what is asserted of its runs, from a reader to a writer, and answers the exit status. The message of a fault goes
 /// to `errors`. Where these are shown on a terminal, that is told how far a long command is.
 fn perform<T: Threads + Wait + Clock + Files + Sync, R: Source, W: Sink, E: Write>(
@@ -659,6 +618,10 @@ fn perform<T: Threads + Wait + Clock + Files + Sync, R: Source, W: Sink, E: Writ
         Subcommand::Linearize(Histories::Many, limit) => {
             let outcome = many_shown(rt, alloc, reader, writer, *limit as usize, screen);
             return report_many(errors, &reader.seen, outcome);
+        }
+        Subcommand::Linearize(Histories::Core, limit) => {
+            let outcome = minimize_shown(rt, alloc, reader, writer, *limit as usize, screen);
+            return report_minimized(errors, &reader.seen, outcome);
         }
         Subcommand::Linearize(histories, limit) => {
             let front = *histories == Histories::Front;

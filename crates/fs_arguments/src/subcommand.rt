@@ -28,6 +28,8 @@ pub enum Histories {
     Front,
     /// Of histories one after the other a line each, and counts.
     Many,
+    /// Of one without an order the calls that show it.
+    Core,
 }
 
 /// How what comes of a command is written.
@@ -300,13 +302,17 @@ fn asked_of<'a>(matches: &ArgMatches<'a>) -> Asked<'a>
 fn histories_of<'a>(matches: &ArgMatches<'a>) -> Histories
     ensures many { one_text (found_of matches.now) (codes "many") ≡ Some (codes "true") → result ≡ Histories.Many }
     ensures front { one_text (found_of matches.now) (codes "many") ≡ Some (codes "false") → one_text (found_of matches.now) (codes "front") ≡ Some (codes "true") → result ≡ Histories.Front }
-    ensures whole { one_text (found_of matches.now) (codes "many") ≡ Some (codes "false") → one_text (found_of matches.now) (codes "front") ≡ Some (codes "false") → result ≡ Histories.Whole }
+    ensures core { one_text (found_of matches.now) (codes "many") ≡ Some (codes "false") → one_text (found_of matches.now) (codes "front") ≡ Some (codes "false") → one_text (found_of matches.now) (codes "core") ≡ Some (codes "true") → result ≡ Histories.Core }
+    ensures whole { one_text (found_of matches.now) (codes "many") ≡ Some (codes "false") → one_text (found_of matches.now) (codes "front") ≡ Some (codes "false") → one_text (found_of matches.now) (codes "core") ≡ Some (codes "false") → result ≡ Histories.Whole }
 {
     if matches.get_flag("many") {
         return Histories::Many;
     }
     if matches.get_flag("front") {
         return Histories::Front;
+    }
+    if matches.get_flag("core") {
+        return Histories::Core;
     }
     Histories::Whole
 }

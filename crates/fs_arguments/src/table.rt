@@ -333,6 +333,13 @@ const LINEARIZE: Row = Row {
             help: "Histories one after the other, each begun by its header line: a line for each, and counts",
         },
         Argument {
+            name: "core",
+            form: Form::Flag,
+            need: Need::Never,
+            conflicts: &["front", "many"],
+            help: "Of a history without an order the history of the calls that show it, of which none can go",
+        },
+        Argument {
             name: "limit",
             form: Form::Number("N", 1, CONFIGURATION_LIMIT),
             need: Need::Never,

@@ -123,10 +123,11 @@ Example:
 
 pub(crate) const LINEARIZE_STATUSES: &str = "\
 A history is a journal without its `commit` lines, up to the end or a line `tree`. Where a reply is not known, `return N failed ?` fits any error, and `return N stat dir ?` any size.
+With --core what is written is a history without an order, and standard error says how many calls it has, of how many, after how many trials.
 
 Exit status:
-  0  the journal that is written explains the history: `atomfs check` says that it is lawful; with --many each history is lawful
-  1  `none PLACE CALL`: no journal explains the entries up to the return at PLACE, or with --front a journal up to there; or `fault PLACE KIND`: they are no history
+  0  the journal that is written explains the history: `atomfs check` says that it is lawful; with --many each history is lawful; with --core the calls that show it are written
+  1  `none PLACE CALL`: no journal explains the entries up to the return at PLACE, or with --front a journal up to there; or `fault PLACE KIND`: they are no history; with --core a journal explains it
   2  usage error
   3  the input is no history: `atomfs explain` says what to write instead
   4  `unknown PLACE`: the limit was reached; or out of memory

@@ -26,6 +26,8 @@ use Rattle.fs_find.specs.declared.reading.WhatFault.{WhatFault}
 use Rattle.fs_find.specs.declared.reading.WhatFault.TheVariants as words
 use Rattle.fs_litmus.specs.Asserts.{all_hold}
 use Rattle.fs_litmus.specs.declared.assertion.Assertion.{Assertion}
+use Rattle.fs_minimal.specs.declared.minimizing.Minimized.{Minimized}
+use Rattle.fs_minimal.specs.declared.minimizing.Minimized.TheVariants as minimized
 use Rattle.fs_shrink.specs.declared.shrinking.Shrunk.{Shrunk}
 use Rattle.fs_trace.specs.Faults.{status_of_schedule}
 use Rattle.fs_trace.specs.declared.fault.ScheduleFault.{ScheduleFault}
@@ -55,6 +57,14 @@ status_of_outcome outcome.Unknown = 4
 abbrev pub status_of_linearized : Result Linearized RunFault → ℕ
 status_of_linearized (Ok told) = status_of_outcome told.outcome
 status_of_linearized (Err fault) = status_of_fault fault
+
+-- success where the calls are written that show that a history has no order, 4 where the limit was reached, else 1
+abbrev pub status_of_minimized : Result Minimized RunFault → ℕ
+status_of_minimized (Ok (minimized.Core calls all trials)) = 0
+status_of_minimized (Ok minimized.Lawful) = 1
+status_of_minimized (Ok (minimized.Fault place kind)) = 1
+status_of_minimized (Ok (minimized.Unknown place)) = 4
+status_of_minimized (Err fault) = status_of_fault fault
 
 -- whether one of them came to this status
 abbrev pub has_status : ℕ → List Outcome → Bool

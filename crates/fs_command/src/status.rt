@@ -3,7 +3,7 @@
 ghost use Rattle.std.specs.Prelude.{◌≡◌, ◌≢◌, ◌⊎◌};
 ghost use Rattle.std.specs.IoError.{error_kind};
 ghost use Rattle.clap.specs.Values.{kind_of};
-ghost use Rattle.fs_command.specs.Statuses.{has_status, status_of, status_of_asserted, status_of_checked, status_of_drawn, status_of_found, status_of_linearized, status_of_many, status_of_outcome, status_of_outcomes, status_of_replayed, status_of_run, status_of_scheduled, status_of_shrunk, status_of_started, status_of_traced, status_of_verdict, status_of_words};
+ghost use Rattle.fs_command.specs.Statuses.{has_status, status_of, status_of_asserted, status_of_checked, status_of_drawn, status_of_found, status_of_linearized, status_of_many, status_of_minimized, status_of_outcome, status_of_outcomes, status_of_replayed, status_of_run, status_of_scheduled, status_of_shrunk, status_of_started, status_of_traced, status_of_verdict, status_of_words};
 ghost use Rattle.fs_sched.specs.Faults.{status_of_fault};
 
 use crate::input::words_of;
@@ -14,6 +14,7 @@ use fs_draw::DrawFault;
 use fs_entries::Traced;
 use fs_find::{FindFault, WhatFault};
 use fs_litmus::{Assertion, Quantifier, all_hold};
+use fs_minimal::Minimized;
 use fs_recorded::{Histories, Linearized, Outcome};
 use fs_replay::{ReplayFault, Replayed};
 use fs_sched::{Checked, RunEnd, RunFault};
@@ -153,6 +154,45 @@ pub fn report_many<E: Write>(
     match outcome {
         Ok(told) => status_of_outcomes(told.outcomes.as_slice()),
         Err(fault) => report(errors, seen, Err(ThreadsFault::Run(fault))),
+    }
+}
+
+/// Writes what is left of a history, or why nothing is.
+fn tell_minimized<E: Write>(errors: &mut E, told: Minimized) {
+    let _ = match told {
+        Minimized::Core(calls, all, trials) => writeln!(
+            errors,
+            "atomfs: {calls} of {all} calls, after {trials} trials"
+        ),
+        Minimized::Lawful => writeln!(errors, "atomfs: the history has an order"),
+        Minimized::Fault(place, _) => {
+            writeln!(errors, "atomfs: entry {place} makes it no history")
+        }
+        Minimized::Unknown(place) => writeln!(
+            errors,
+            "atomfs: the limit was reached at entry {place}: give a larger one by --limit"
+        ),
+    };
+}
+
+/// The status that a history came to of which the calls are asked that show that it has no order, or that of its fault, whose
+/// message is written. What is left is told too.
+pub fn report_minimized<E: Write>(
+    errors: &mut E,
+    seen: &Seen,
+    outcome: Result<Minimized, RunFault>,
+) -> u8
+    ensures { result ≡ status_of_minimized outcome }
+{
+    let told = match outcome {
+        Ok(told) => told,
+        Err(fault) => return report(errors, seen, Err(ThreadsFault::Run(fault))),
+    };
+    tell_minimized(errors, told);
+    match told {
+        Minimized::Core(_, _, _) => 0,
+        Minimized::Lawful | Minimized::Fault(_, _) => 1,
+        Minimized::Unknown(_) => 4,
     }
 }
 

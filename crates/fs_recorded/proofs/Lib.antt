@@ -1,5 +1,5 @@
-mod FoundLemmas
+pub mod FoundLemmas
 mod ReadingLemmas
 mod FrontLemmas
 mod ManyLemmas
-mod InputLemmas
+pub mod InputLemmas

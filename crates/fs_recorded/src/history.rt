@@ -3,9 +3,10 @@
 ghost use Rattle.std.specs.Prelude.{◌≡◌, ◌++◌, ◌∷◌, [], map, Ok, IfOk, IfErr};
 ghost use Rattle.fs_verdict.specs.Devices.{IsFaultOf};
 ghost use Rattle.fs_script.specs.Journals.{journal_of};
-ghost use Rattle.fs_recorded.specs.Texts.{known, heard_by, with_marks, marks_in, plain_text, history_by};
+ghost use Rattle.fs_recorded.specs.Texts.{known, heard_by, with_marks, marks_in, plain_text, history_by, history_of};
 ghost use Rattle.fs_recorded.specs.code.Walks.{first_mark, marks_behind, left_by};
 
+use crate::lines::lines_in;
 use crate::marks::{Mark, marks_in};
 use crate::plain::plain_text;
 use fs_calls::Reply;
@@ -17,8 +18,10 @@ use std::alloc::{AllocError, Global};
 
 /// A history: the tree at which it starts, and its entries.
 #[derive(Drop)]
-pub(crate) struct History {
+pub struct History {
+    /// The tree.
     pub start: SeqTree,
+    /// The entries.
     pub entries: Vec<Heard>,
 }
 
@@ -101,4 +104,13 @@ pub(crate) fn history_by(alloc: Global, lines: &[&[u8]]) -> Result<History, RunF
         start: journal.start,
         entries,
     })
+}
+
+/// The history that a text has.
+pub fn read_history(alloc: Global, text: &[u8]) -> Result<History, RunFault>
+    ensures ok { IfOk result (λ h. history_of text.now ≡ Ok (h.start, h.entries.items)) }
+    ensures err { IfErr result (IsFaultOf (history_of text.now)) }
+{
+    let lines = lines_in(alloc, text)?;
+    history_by(alloc, &lines)
 }

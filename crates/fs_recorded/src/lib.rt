@@ -4,7 +4,7 @@
 //! says why there is none, or if that is asked for a journal up to the first return that nothing explains. `linearize_many` reads
 //! histories one after the other, and writes a line for each, and counts. The text is made before its first byte is written, and
 //! `Read` or `Write` is answered only if the reader or the writer failed during this call. `linearize_bytes` makes in memory what
-//! `linearize_history` writes.
+//! `linearize_history` writes, and `read_history` only reads.
 //!
 //! A history is a journal without commits, in which a reply may be left open: `failed ?`, `stat dir ?`. `specs/Texts.antt` says
 //! what a text tells, `specs/Findings.antt` what is found of it, `specs/Answers.antt` how an answer is written, `specs/Many.antt`
@@ -24,5 +24,6 @@ mod reason;
 
 pub use answer::{Linearized, Outcome};
 pub use fs_linearize::{Progress, Untold};
+pub use history::{History, read_history};
 pub use linearizing::{CONFIGURATION_LIMIT, linearize_bytes, linearize_history};
 pub use many::{Histories, linearize_many};

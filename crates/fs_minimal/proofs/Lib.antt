@@ -1,0 +1,5 @@
+mod PartLemmas
+mod ReasonLemmas
+mod RefusedLemmas
+mod EachLemmas
+mod EndLemmas

@@ -1,0 +1,6 @@
+pub mod Parts
+pub mod Reasons
+pub mod Minimal
+pub mod Minimizing
+pub mod Texts
+pub mod code
