@@ -1,5 +1,7 @@
 """The page that plays a run, `run.html` of the package for Python: a file of ASCII that asks for no other one, whose script has at most 400 lines.
 
+The program has this page too, in crates/fs_page/src/template.rt: `python3 tests/pages.py --write` writes that file from `run.html`.
+
 Where Chromium is installed it plays drawn runs and journals: the last tree of each is the one at the end of its text. Names that are
 hostile run nothing, keys and links lead from event to event, and the picture of the run is seen where scripts are off.
 """
@@ -12,6 +14,7 @@ import random
 import re
 import shutil
 import subprocess
+import sys
 import tempfile
 import unittest
 
@@ -24,6 +27,9 @@ from worked import EXAMPLES, JOURNALS, RUNS, examples
 
 PAGE = (ROOT / "bindings" / "python" / "src" / "atomfs" / "run.html").read_text("ascii")
 SCRIPT = re.search("<script>(.*)</script>", PAGE, re.S)[1]
+# Where the program has the page, in the parts before the picture, between this and the text, and after the text.
+TEMPLATE = ROOT / "crates" / "fs_page" / "src" / "template.rt"
+PARTS = (("BEFORE", "before the picture"), ("BETWEEN", "between the picture and the text"), ("AFTER", "after the text"))
 POLICY = '<meta http-equiv="Content-Security-Policy" content="{}">\n'
 # Drawn runs of which the last tree is looked at.
 DRAWN = 50
@@ -46,6 +52,19 @@ HOSTILE = b"atomfs 3\nthread t\n" + b"".join(
     for depth in range(1, name.count(b"/") + 2)
 )
 HOSTILE += b"schedule\nfinish\n"
+
+
+def template():
+    """The file with the parts of the page for the program."""
+    head = (
+        "//! The page without a run, in three parts: `bindings/python/src/atomfs/run.html`, byte for byte. After a change there\n"
+        "//! `python3 tests/pages.py --write` writes this file.\n"
+    )
+    written = zip(PARTS, re.split("@PICTURE@\n|@RUN@", PAGE))
+    return head + "".join(
+        f'\n/// What the page has {where}.\npub const {name}: &[u8] = br##"{part}"##;\n'
+        for (name, where), part in written
+    )
 
 
 def page_of(text, picture="", policy=True):
@@ -81,6 +100,12 @@ def wants_chromium():
 
 class Text(Case):
     """The page as it is in the package."""
+
+    def test_one_template(self):
+        """The program has the page of the package, byte for byte."""
+        self.same(
+            f"`python3 tests/pages.py --write` writes {TEMPLATE.name} from run.html", TEMPLATE.read_text(), template()
+        )
 
     def test_it_asks_for_nothing(self):
         """Every address in it is the name of the space of SVG; it refers to nothing outside it, and its policy allows nothing else."""
@@ -310,4 +335,7 @@ class Played(Case):
 
 
 if __name__ == "__main__":
-    unittest.main()
+    if sys.argv[1:] == ["--write"]:
+        TEMPLATE.write_text(template())
+    else:
+        unittest.main()

@@ -1,0 +1,3 @@
+pub mod Html
+pub mod Pages
+pub mod code
