@@ -847,6 +847,7 @@ class Stack(Case):
             ("threads",),
             ("trace",),
             ("draw",),
+            ("draw", "--html"),
             ("schedule", "--robin"),
         )
         self.each(
@@ -856,7 +857,7 @@ class Stack(Case):
     def test_journals(self):
         for name, calls in (("a deep tree", deep(300)), ("many names", entries(ENTRIES))):
             text = self.ends(script(calls) if name == "a deep tree" else calls, *RUN).output.decode()
-            for words in (CHECK, ("draw",)):
+            for words in (CHECK, ("draw",), ("draw", "--html")):
                 with self.subTest(f"{words[0]}, {name}"):
                     self.ends(text.splitlines(), *words)
 

@@ -1,6 +1,7 @@
 """The page that plays a run, `run.html` of the package for Python: a file of ASCII that asks for no other one, whose script has at most 400 lines.
 
-The program has this page too, in crates/fs_page/src/template.rt: `python3 tests/pages.py --write` writes that file from `run.html`.
+The program has this page too, in crates/fs_page/src/template.rt: `python3 tests/pages.py --write` writes that file from `run.html`. What `draw --html`
+writes is this page with the trace, or the journal behind its verdict, and the picture.
 
 Where Chromium is installed it plays drawn runs and journals: the last tree of each is the one at the end of its text. Names that are
 hostile run nothing, keys and links lead from event to event, and the picture of the run is seen where scripts are off.
@@ -130,6 +131,77 @@ class Text(Case):
         lines = [line for line in SCRIPT.splitlines() if line.strip() and not line.strip().startswith("//")]
         self.assertLessEqual(len(lines), LINES)
         self.same("long lines", [line for line in SCRIPT.splitlines() if len(line) > 150], [])
+
+
+class Program(Case):
+    """What `draw --html` writes."""
+
+    SEED = ("--seed", "7")
+
+    def look(self, given, *words):
+        """The page has the trace of the run, or the journal behind its verdict; and the picture, whose status is its own."""
+        is_journal = given.startswith(b"atomfs-journal")
+        picture = run(given, "draw", *words)
+        played = b"# " + run(given, "check").output + given if is_journal else run(given, "trace", *words).output
+        wanted = picture._replace(output=page_of(played, picture.output.decode()).encode())
+        self.same(
+            f"draw --html {' '.join(words)}\n{given.decode(errors='backslashreplace')}",
+            run(given, "draw", "--html", *words),
+            wanted,
+        )
+
+    def test_scripts(self):
+        """By the schedule of the script, by a drawn one and round robin; some have checkpoints, or calls that are left."""
+        scripts = [given for _, given in (*examples(RUNS, "script"), *examples(EXAMPLES, "script"))]
+        for given in (*scripts, traces.PIECES, traces.NOTHING, traces.AT_THE_ENDS, traces.CUT):
+            self.look(given)
+        for given in scripts[::5]:
+            self.look(given, *self.SEED)
+            self.look(given, "--robin")
+
+    def test_journals(self):
+        """Lawful or not; a schedule is not used."""
+        for _, given in (*examples(JOURNALS, "journal"), *examples(EXAMPLES, "journal")):
+            self.look(given)
+        self.look(run((RUNS / "helped_mkdir.script").read_bytes(), "run").output, *self.SEED)
+
+    def test_what_others_hand_on(self):
+        """A script that was found, shrunk or written with the events of its run; and the journal up to a return that nothing explains."""
+        race = (EXAMPLES / "moved_ancestor.script").read_bytes()
+        found = run(race, "find", "--where", "reply writer#2 failed", "--seed", "1", "--runs", "100").output
+        self.look(found)
+        self.look(run(found, "shrink", "--where", "reply writer#2 failed").output)
+        self.look(run(race, "schedule", *self.SEED).output)
+        wrong = b"atomfs-journal 1\nbegin 1 0 mkdir /a\nreturn 1 failed EEXIST\n"
+        self.look(run(wrong, "linearize", "--front").output)
+
+    def test_hostile(self):
+        """No byte of a name or of a comment comes to the page as a sign of HTML, or as one that is not printable."""
+        journal = run(HOSTILE, "run").output
+        comment = journal.replace(b"\n", b"\n# seat 0 </pre><script>\x00\x7f\xc3\r<!--&lt;-->\n", 1)
+        for given in (HOSTILE, journal, comment):
+            self.look(given)
+            page = run(given, "draw", "--html").output
+            self.same("printable", re.findall(rb"[^\n -~]", page), [])
+            # The script of the page has a comment's begin nowhere, and the page each of these elements once.
+            self.same(
+                "elements", [page.count(sign) for sign in (b"</pre>", b"<script>", b"</script>", b"<!--")], [1, 1, 1, 0]
+            )
+
+    def test_refused(self):
+        """As of a picture: what is no script and no journal, and a checkpoint to which a run comes too early."""
+        for given in (
+            b"",
+            b"atomfs 1\nmkdir /a\n",
+            b"atomfs-journal 1\nbegin\n",
+            b"atomfs-journal 5\n",
+            b"atomfs-trace 2\n",
+        ):
+            self.same(given.decode(), run(given, "draw", "--html"), run(given, "draw"))
+            self.same("its status", run(given, "draw", "--html").status, 3)
+        early = b"atomfs 1\nthread t\nmkdir /a\nschedule\nt !checkpoint\n"
+        self.same("under way", run(early, "draw", "--html"), run(early, "draw"))
+        self.same("its status", run(early, "draw", "--html").status, 1)
 
 
 def drawn_runs():

@@ -185,6 +185,10 @@ class Progress(Case):
                         b"atomfs: a terminal shows no picture: write it to a file by `> run.svg` behind the command"
                     )
                     self.assertEqual(on_one_terminal(SHORT, *words)[:2], (2, [refusal, b""]))
+            for words in (("draw", "--html"), ("draw", "--html", "/nowhere")):
+                with self.subTest(" ".join(words)):
+                    refusal = b"atomfs: a terminal shows no page: write it to a file by `> run.html` behind the command"
+                    self.assertEqual(on_one_terminal(SHORT, *words)[:2], (2, [refusal, b""]))
             self.assertEqual(run(b"", "draw", str(script)), run(SHORT, "draw"))
         self.assertEqual(on_one_terminal(SHORT, "trace")[1], run(SHORT, "trace").output.split(b"\n"))
 

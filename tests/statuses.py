@@ -48,6 +48,7 @@ COMMANDS = (
     ("check",),
     ("trace",),
     ("draw",),
+    ("draw", "--html"),
     ("schedule", "--robin"),
 )
 # What `atomfs explain` knows. tests/documents.py looks at each.
@@ -233,6 +234,7 @@ class Words(Case):
                 ("a schedule of a journal", "schedule --robin", of(HELPED, "text"), malformed("line 1: BadHeader")),
                 ("a slash too many in a trace", "trace", SLASH, malformed("line 3: BadPath TrailingSlash")),
                 ("a slash too many in a picture", "draw", SLASH, malformed("line 3: BadPath TrailingSlash")),
+                ("a slash too many in a page", "draw --html", SLASH, malformed("line 3: BadPath TrailingSlash")),
                 (
                     "a journal of another version is drawn",
                     "draw",
@@ -273,10 +275,13 @@ class Words(Case):
             "threads",
             "trace --every",
             "draw --robin",
+            "draw --html",
             "schedule --seed 7",
         )
         commands = [(words, ".script") for words in of_script]
-        commands += [(words, ".text") for words in ("check", "check --json", "tree --at 1", "trace", "draw")]
+        commands += [
+            (words, ".text") for words in ("check", "check --json", "tree --at 1", "trace", "draw", "draw --html")
+        ]
 
         def alike(words, name):
             with open(name, "rb") as file:
@@ -571,6 +576,13 @@ class Words(Case):
                 ),
                 ("draw --around -1", unexpected("-1", "draw [OPTIONS] [FILE] > PICTURE")),
                 ("draw --around x", unread("x", "--around <NUMBER>", "invalid digit found in string")),
+                (
+                    "draw --html --around 1",
+                    misused(
+                        "the argument '--html' cannot be used with '--around <NUMBER>'",
+                        "draw [OPTIONS] [FILE] > PICTURE",
+                    ),
+                ),
                 ("schedule", misused(f"{missing}\n  --seed <N>", "schedule <--robin|--seed <N>> [FILE]")),
                 (
                     "schedule --robin --seed 1",
@@ -689,6 +701,7 @@ class Process(Case):
                 ("a trace", ("trace",), of(ONE_CALL), 5),
                 ("a tree of commits", ("tree",), of(ONE_CALL), 5),
                 ("a picture", ("draw",), of(ONE_CALL), 5),
+                ("a page", ("draw", "--html"), of(ONE_CALL), 5),
                 ("what a fault means", ("explain", "Dot"), b"", 5),
             ),
             self.unheard,

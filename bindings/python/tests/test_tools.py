@@ -87,6 +87,18 @@ class Tools(OfTools):
         self.assertEqual([len(found[name]) for name in ("call", "c", "k")], [3, 2, 1])
         self.assertEqual(len(elements(atomfs.draw(SCRIPT, around=1))["call"]), 1)
 
+    def test_page_of_the_program(self):
+        """The page of a script's run or of a journal is the one that the program writes."""
+        journal = atomfs.run(SCRIPT)
+        for words, given, page in (
+            ((), SCRIPT, atomfs.draw(SCRIPT, html=True)),
+            (("--seed", "7"), SCRIPT, atomfs.draw(SCRIPT, seed=7, html=True)),
+            (("--robin",), SCRIPT, atomfs.draw(SCRIPT, robin=True, html=True)),
+            ((), journal, atomfs.draw(journal, html=True)),
+        ):
+            with self.subTest(words):
+                self.assertEqual(str(page), written("draw", "--html", *words, given=given))
+
     def test_pictures_of_faults(self):
         """Calls that are left, and a journal that is not lawful, are drawn."""
         self.assertEqual(len(elements(atomfs.draw(LEFT))["call"]), 1)

@@ -13,18 +13,19 @@ ghost use Rattle.fs_arguments.specs.Commands.{IsWithin};
 ghost use Rattle.fs_sched.specs.declared.seeding.TheConstants.{SEED_LIMIT};
 ghost use Rattle.fs_find.specs.declared.finding.TheConstants.{SEARCH_LIMIT};
 
+mod drawing;
 mod linearizing;
 
+use crate::drawing::{draw, refused_terminal};
 use crate::linearizing::{linearize_shown, many_shown, minimize_shown};
 use fs_arguments::{Asserted, Format, Histories, Invocation, Subcommand, parse};
 use fs_command::{
     Erasing, Input, Kept, Line, Screen, SharedLine, report, report_asserted, report_check,
     report_draw, report_fault, report_file, report_find, report_from, report_linearize,
-    report_many, report_minimized, report_picture, report_schedule, report_shrink, report_trace,
-    report_tree, report_unopened, report_words, status_of_run, status_of_unreadable_args,
-    status_of_usage, status_of_verdict, tell_reading,
+    report_many, report_minimized, report_schedule, report_shrink, report_trace, report_tree,
+    report_unopened, report_words, status_of_run, status_of_unreadable_args, status_of_usage,
+    status_of_verdict, tell_reading,
 };
-use fs_draw::{DrawFault, draw_input};
 use fs_entries::trace_input;
 use fs_explain::{Topic, explanation};
 use fs_find::{Clause, FindFault, find_seed, read_what};
@@ -141,23 +142,6 @@ fn threads<T: Threads + Wait + Clock + Sync, R: Source, W: Sink, G: Watch + Sync
 {
     match run_threads(rt, alloc, reader, writer, watch, journal) {
         Ok(lawful) => Ok(status_of_verdict(lawful)),
-        Err(fault) => Err(fault),
-    }
-}
-
-/// Draws a script's run or a journal, and answers the status.
-fn draw<R: Source, W: Sink>(
-    alloc: Global,
-    reader: &mut R,
-    writer: &mut W,
-    schedule: Schedule,
-    call: Option<u64>,
-) -> Result<u8, DrawFault>
-    requires reads { R.failures reader.old < 2 ^ 64 - 1 }
-    requires writes { W.failures writer.old < 2 ^ 64 - 1 }
-{
-    match draw_input(alloc, reader, writer, schedule, call) {
-        Ok(well) => Ok(status_of_verdict(well)),
         Err(fault) => Err(fault),
     }
 }
@@ -634,8 +618,8 @@ fn perform<T: Threads + Wait + Clock + Files + Sync, R: Source, W: Sink, E: Writ
             let outcome = trace_input(alloc, reader, writer, *order, *every);
             return report_trace(errors, &reader.seen, outcome);
         }
-        Subcommand::Draw(order, call) => {
-            let outcome = draw(alloc, reader, writer, *order, *call);
+        Subcommand::Draw(order, drawing) => {
+            let outcome = draw(alloc, reader, writer, *order, *drawing);
             return report_draw(errors, &reader.seen, outcome);
         }
         Subcommand::Schedule(order) => {
@@ -704,8 +688,10 @@ where
         Ok(asked) => asked,
         Err(error) => return status_of_usage(&mut output, errors, error),
     };
-    if terminals.output && matches!(asked.command, Subcommand::Draw(_, _)) {
-        return report_picture(errors);
+    if terminals.output {
+        if let Some(status) = refused_terminal(&asked.command, errors) {
+            return status;
+        }
     }
     let input = match opened(rt, &asked, input, terminals.input, errors) {
         Ok(input) => input,

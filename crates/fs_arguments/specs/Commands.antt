@@ -33,7 +33,7 @@ name_of (Threads journal) = codes "threads"
 name_of (Check format) = codes "check"
 name_of (Linearize histories limit) = codes "linearize"
 name_of (Trace schedule every) = codes "trace"
-name_of (Draw schedule call) = codes "draw"
+name_of (Draw schedule drawing) = codes "draw"
 name_of (Schedule schedule) = codes "schedule"
 name_of (Explain first second) = codes "explain"
 
@@ -50,7 +50,7 @@ IsWithin (Threads journal) = Unit {0}
 IsWithin (Check format) = Unit {0}
 IsWithin (Linearize histories limit) = (1 ≤ limit) × (limit ≤ CONFIGURATION_LIMIT)
 IsWithin (Trace schedule every) = Unit {0}
-IsWithin (Draw schedule call) = Unit {0}
+IsWithin (Draw schedule drawing) = Unit {0}
 IsWithin (Schedule schedule) = Unit {0}
 IsWithin (Explain first second) = Unit {0}
 

@@ -13,4 +13,4 @@ mod table;
 mod texts;
 
 pub use cli::parse;
-pub use subcommand::{Asserted, Format, Histories, Invocation, Subcommand};
+pub use subcommand::{Asserted, Drawing, Format, Histories, Invocation, Subcommand};

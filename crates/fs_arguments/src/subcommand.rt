@@ -41,6 +41,15 @@ pub enum Format {
     Json,
 }
 
+/// What is drawn.
+#[derive(Clone, Copy, Debug, PartialEq, Eq)]
+pub enum Drawing {
+    /// A picture; and the number of the call around which is drawn, where that is not all.
+    Picture(Option<u64>),
+    /// A page that plays the whole.
+    Page,
+}
+
 /// What the command line asks for.
 #[derive(Clone, Copy, Debug, PartialEq, Eq)]
 pub enum Subcommand<'a> {
@@ -66,8 +75,8 @@ pub enum Subcommand<'a> {
     Linearize(Histories, u64),
     /// The events of a script's run by a schedule, in words; and whether each is told, or those alone that tell something new.
     Trace(Schedule, bool),
-    /// A picture of a script's run by a schedule, or of a journal; and the number of the call around which is drawn.
-    Draw(Schedule, Option<u64>),
+    /// What is drawn of a script's run by a schedule, or of a journal.
+    Draw(Schedule, Drawing),
     /// A script again, with the events of its run by a schedule as its words.
     Schedule(Schedule),
     /// What one word of a message means, or two.
@@ -298,6 +307,21 @@ fn asked_of<'a>(matches: &ArgMatches<'a>) -> Asked<'a>
     }
 }
 
+/// What is drawn.
+fn drawing_of<'a>(matches: &ArgMatches<'a>) -> Drawing
+    ensures page { IsFlagOf (found_of matches.now) (codes "html") true → result ≡ Drawing.Page }
+    ensures around { (n : ℕ) → IsFlagOf (found_of matches.now) (codes "html") false → IsNumberOf (found_of matches.now) (codes "around") n
+        → result ≡ Drawing.Picture (Some n) }
+    ensures whole { IsFlagOf (found_of matches.now) (codes "html") false → one_text (found_of matches.now) (codes "around") ≡ None → result ≡ Drawing.Picture None }
+{
+    let around = number_given(matches, "around");
+    if flag_given(matches, "html") {
+        Drawing::Page
+    } else {
+        Drawing::Picture(around)
+    }
+}
+
 /// What is written of histories.
 fn histories_of<'a>(matches: &ArgMatches<'a>) -> Histories
     ensures many { one_text (found_of matches.now) (codes "many") ≡ Some (codes "true") → result ≡ Histories.Many }
@@ -364,7 +388,7 @@ fn named<'a>(name: &str, given: &ArgMatches<'a>) -> Option<Subcommand<'a>>
         "check" => Some(Subcommand::Check(format_of(given))),
         "linearize" => limit_of(given),
         "trace" => Some(Subcommand::Trace(schedule_of(given), given.get_flag("every"))),
-        "draw" => Some(Subcommand::Draw(schedule_of(given), given.get_one::<u64>("around"))),
+        "draw" => Some(Subcommand::Draw(schedule_of(given), drawing_of(given))),
         "schedule" => Some(Subcommand::Schedule(schedule_of(given))),
         "explain" => topics_of(given),
         _ => None,

@@ -371,7 +371,7 @@ const TRACE: Row = Row {
 
 const DRAW: Row = Row {
     name: "draw",
-    about: "Runs a script, or reads a journal, and writes a picture of it: an SVG file",
+    about: "Runs a script, or reads a journal, and writes a picture of it, an SVG file, or a page that plays it",
     usage: "atomfs draw [OPTIONS] [FILE] > PICTURE",
     statuses: DRAW_STATUSES,
     arguments: &[
@@ -383,6 +383,13 @@ const DRAW: Row = Row {
             need: Need::Never,
             conflicts: &[],
             help: "Only the call of this number in the run (a trace says it where the call begins) or in the journal, and those that overlap it or help",
+        },
+        Argument {
+            name: "html",
+            form: Form::Flag,
+            need: Need::Never,
+            conflicts: &["around"],
+            help: "A page in place of the picture: one file that plays all events in a browser, without a network",
         },
         FILE,
     ],

@@ -151,14 +151,15 @@ Example:
 pub(crate) const DRAW_STATUSES: &str = "\
 Exit status:
   0  every call of the script returned, or the journal is lawful
-  1  the script ended with calls left, or the journal has a fault; the picture shows it; or a checkpoint found calls under way
+  1  the script ended with calls left, or the journal has a fault; the picture or the page shows it; or a checkpoint found calls under way
   2  usage error, or no call has the number
   3  the input is no script and no journal: `atomfs explain` says what to write instead
   4  out of memory, or no node number left
   5  a read or a write failed
 
-Example:
-  atomfs draw --seed 7 examples/moved_ancestor.script > run.svg";
+Examples:
+  atomfs draw --seed 7 examples/moved_ancestor.script > run.svg
+  atomfs draw --html examples/moved_ancestor.script > run.html";
 
 pub(crate) const SCHEDULE_STATUSES: &str = "\
 Exit status:

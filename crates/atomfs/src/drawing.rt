@@ -1,0 +1,50 @@
+//! What is drawn: a picture, or a page.
+
+ghost use Rattle.std.specs.Prelude.{◌-◌, ◌<◌, ◌^◌};
+
+use fs_arguments::{Drawing, Subcommand};
+use fs_command::{report_picture, status_of_verdict};
+use fs_draw::{DrawFault, draw_input};
+use fs_page::draw_page;
+use fs_sched::{Schedule, Sink, Source};
+use std::alloc::Global;
+use std::io::Write;
+
+/// Draws a script's run or a journal, as a picture or as a page, and answers the status.
+pub(crate) fn draw<R: Source, W: Sink>(
+    alloc: Global,
+    reader: &mut R,
+    writer: &mut W,
+    schedule: Schedule,
+    drawing: Drawing,
+) -> Result<u8, DrawFault>
+    requires reads { R.failures reader.old < 2 ^ 64 - 1 }
+    requires writes { W.failures writer.old < 2 ^ 64 - 1 }
+{
+    let drawn = match drawing {
+        Drawing::Picture(call) => draw_input(alloc, reader, writer, schedule, call),
+        Drawing::Page => draw_page(alloc, reader, writer, schedule),
+    };
+    match drawn {
+        Ok(well) => Ok(status_of_verdict(well)),
+        Err(fault) => Err(fault),
+    }
+}
+
+/// The status where a page would be written to a terminal, and the message.
+fn report_page<E: Write>(errors: &mut E) -> u8 {
+    let _ = writeln!(
+        errors,
+        "atomfs: a terminal shows no page: write it to a file by `> run.html` behind the command"
+    );
+    2
+}
+
+/// The status where a command would write a file to a terminal, and the message.
+pub(crate) fn refused_terminal<E: Write>(command: &Subcommand<'_>, errors: &mut E) -> Option<u8> {
+    match command {
+        Subcommand::Draw(_, Drawing::Picture(_)) => Some(report_picture(errors)),
+        Subcommand::Draw(_, Drawing::Page) => Some(report_page(errors)),
+        _ => None,
+    }
+}
