@@ -1,19 +1,23 @@
 //! Finds the library: in the folder that `ATOMFS_LIB_DIR` names, or in `dist/lib` of the checkout, or in the `lib`
 //! beside which the crate is installed. Where `DOCS_RS` is set, as in `DOCS_RS=1 cargo doc`, there is nothing to link,
-//! and no library is looked for.
+//! and no library is looked for. The page that plays a run comes from the package for Python, or, if the crate is
+//! installed, from its own sources.
 
 use std::env;
+use std::fs;
 use std::path::{Path, PathBuf};
 
 const BESIDE: [&str; 2] = ["../../dist/lib", "../../../lib"];
+const PAGES: [&str; 2] = ["src/run.html", "../python/src/atomfs/run.html"];
 
 fn main() {
     println!("cargo:rerun-if-env-changed=ATOMFS_LIB_DIR");
     println!("cargo:rerun-if-env-changed=DOCS_RS");
+    let here = PathBuf::from(env::var_os("CARGO_MANIFEST_DIR").expect("cargo sets CARGO_MANIFEST_DIR"));
+    take_page(&here);
     if env::var_os("DOCS_RS").is_some() {
         return;
     }
-    let here = PathBuf::from(env::var_os("CARGO_MANIFEST_DIR").expect("cargo sets CARGO_MANIFEST_DIR"));
     let folders: Vec<PathBuf> = match env::var_os("ATOMFS_LIB_DIR") {
         Some(folder) => vec![folder.into()],
         None => BESIDE.iter().map(|beside| here.join(beside)).collect(),
@@ -27,6 +31,14 @@ fn main() {
             std::process::exit(1);
         }
     }
+}
+
+/// Puts the page that plays a run where `page.rs` includes it.
+fn take_page(here: &Path) {
+    let page = PAGES.iter().map(|page| here.join(page)).find(|page| page.is_file()).expect("run.html of the packages");
+    let goal = PathBuf::from(env::var_os("OUT_DIR").expect("cargo sets OUT_DIR")).join("run.html");
+    println!("cargo:rerun-if-changed={}", page.display());
+    fs::copy(&page, &goal).expect("run.html is copied");
 }
 
 fn link(folder: &Path) {

@@ -5,7 +5,7 @@ use crate::texts::{check, draw, trace, Schedule};
 
 /// The page without a run, which Python's package has too. In place of the words `@PICTURE@` and `@RUN@` come the run's
 /// picture, which is seen if scripts are off, and its text.
-const PAGE: &str = include_str!("run.html");
+const PAGE: &str = include_str!(concat!(env!("OUT_DIR"), "/run.html"));
 const PICTURE: &str = "@PICTURE@\n";
 const RUN: &str = "@RUN@";
 

@@ -7,7 +7,7 @@ use std::process::{Command, Stdio};
 use atomfs::{explore, Errno, ErrorKind, Limits, Plan, Schedule, SharedTree, Tree};
 
 /// The page without a run.
-const STORED: &str = include_str!("../src/run.html");
+const STORED: &str = include_str!(concat!(env!("OUT_DIR"), "/run.html"));
 const SCRIPT: &str =
     "atomfs 1\nthread m\nmkdir /a\nmkdir /a/d\nmkdir /a/d/x\nthread r\nrename /a /b\nschedule\nm*18 r*6 m*3\n";
 const WRONG: &str =
