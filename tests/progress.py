@@ -29,7 +29,8 @@ def renames(threads: int, calls: int) -> bytes:
 
 def exchanges(rounds: int, histories: int = 1) -> bytes:
     """Histories in which the first of ten exchanges of two directories returns while all are under way, again and again, behind two writes of one byte.
-    Of many rounds a read at the end says which came first: not the one that is tried first, so all orders are looked at."""
+    Of many rounds a read at the end says which came first: not the one that is tried first, so all orders are looked at.
+    """
     lines = ["atomfs-journal 2", "start", "dir /", "dir /a", "dir /b", "file /f 00", "entries"]
     lines += ["begin 1 0 write /f 0 07", "begin 2 1 write /f 0 08", "return 1 wrote 1", "return 2 wrote 1"]
     for first in range(3, 10 * rounds + 3, 10):
