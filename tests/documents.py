@@ -147,10 +147,12 @@ def text_of(*lines):
 PACKAGES = {language: ROOT / "bindings" / language / "README.md" for language in ("python", "rust")}
 
 
-def example_for(command):
-    """The worked example as a command reads it: its script, the journal of its run, or that without commits."""
+def example_for(command, *options):
+    """The worked example as a command reads it: its script, the journal of its run, or that without commits; for `--core` a history without an order."""
     if command.startswith("shrink"):
         return BY_ROBIN
+    if "--core" in options:
+        return b"atomfs-journal 1\nbegin 1 0 mkdir /a\nbegin 2 1 mkdir /a\nreturn 1 ok\nreturn 2 ok\n"
     if command not in ("check", "linearize"):
         return HELPED.with_suffix(".script").read_bytes()
     lines = HELPED.with_suffix(".text").read_bytes().splitlines(keepends=True)
@@ -260,6 +262,8 @@ class Sizes(Page):
     FUNCTION = re.compile(r"^ *(?:pub(?:\(\w+\))? )?(?:const )?(?:unsafe )?(?:extern \"C\" )?fn \w+", re.M)
     # Functions that are there to be proved: laws and worked examples.
     PROOFS = "laws.rt", "examples.rt"
+    # Crates that have more until they are split. These numbers only fall.
+    LARGER = {"fs_flat": (1_500, 101), "fs_linearize": (1_751, 122)}
     # Crates below this heading of crates.txt measure and check the product, and have as many functions as they have rows.
     BESIDE = "# No part of the product"
 
@@ -308,8 +312,9 @@ fn one() -> u8
         texts = [(path, path.read_text()) for path in (ROOT / "crates" / name / "src").rglob("*.rt")]
         lines = sum(self.lines(text) for _, text in texts)
         functions = sum(len(self.FUNCTION.findall(text)) for path, text in texts if path.name not in self.PROOFS)
-        self.same(f"{name}, in lines", max(lines, self.MOST_LINES), self.MOST_LINES)
-        self.same(f"{name}, in functions", max(functions, self.MOST_FUNCTIONS), self.MOST_FUNCTIONS)
+        most_lines, most_functions = self.LARGER.get(name, (self.MOST_LINES, self.MOST_FUNCTIONS))
+        self.same(f"{name}, in lines", max(lines, most_lines), most_lines)
+        self.same(f"{name}, in functions", max(functions, most_functions), most_functions)
 
 
 class Named(Page):
@@ -964,6 +969,7 @@ class EachCommand(Page):
         "CALL": "1",
         "TREE": str(DATA / "starts" / "moved.tree"),
         **dict.fromkeys(("SCRIPT", "A", "B", "C"), "examples/one_name.script"),
+        "none.history": "-",
     }
     # What stands for an input.
     INPUTS = None, "FILE", "SCRIPT", "INPUT", "A", "kept.script"
@@ -1025,12 +1031,13 @@ class EachCommand(Page):
             return self.same(
                 "the scripts that are not there", [word for word in words if not (ROOT / word).exists()], []
             )
-        outcome = run((ROOT / given).read_bytes() if given not in self.INPUTS else example_for(words[0]), *words)
-        # A check tells what is wrong beside the verdict, a search the seed that it found, and `shrink` what is left.
+        outcome = run((ROOT / given).read_bytes() if given not in self.INPUTS else example_for(*words), *words)
+        # A check tells what is wrong beside the verdict, a search the seed that it found, and `shrink` and `--core` what is left.
         is_told = (
             self.IN_PART.match(outcome.message)
             or outcome.output.startswith(b"fault ")
             or words[0] in ("find", "shrink")
+            or "--core" in words
         )
         message = b"" if is_told else outcome.message
         self.same("what it tells", message, b"")
