@@ -151,6 +151,13 @@ class Installed(Case):
         return pathlib.Path(shutil.copytree(source, self.folder / name))
 
 
+def crate_at(folder):
+    """The crate for Rust in a folder of its own, with the page that plays runs, as embed/package puts it there."""
+    shutil.copytree(BINDINGS / "rust", folder, ignore=shutil.ignore_patterns("target"))
+    shutil.copy(BINDINGS / "python" / "src" / "atomfs" / "run.html", folder / "src")
+    return folder
+
+
 class OfTheArchive(Installed):
     def test_files(self):
         """It has the library, its header, what CMake and pkg-config read, the program, the wheel, the crate, and the pages that the header names."""
@@ -514,7 +521,7 @@ class ForRust(Installed):
     def test_no_library(self):
         """Without the library the build says what is missing."""
         wanted("cargo")
-        crate = self.copied(BINDINGS / "rust", "rust")
+        crate = crate_at(self.folder / "rust")
         status, told = done(
             ["cargo", "build", "--offline"],
             crate,
@@ -667,7 +674,7 @@ class Without(Case):
         """Rust's own pages of the crate are made without the library, and without a warning."""
         wanted("cargo")
         words = ["cargo", "doc", "--offline", "--no-deps", "--quiet"]
-        crate = shutil.copytree(BINDINGS / "rust", self.folder / "rust", ignore=shutil.ignore_patterns("target"))
+        crate = crate_at(self.folder / "rust")
         told = done(words, crate, DOCS_RS="1", ATOMFS_LIB_DIR="/nowhere", CARGO_TARGET_DIR=str(self.folder / "target"))
         self.same(" ".join(words), told, (0, ""))
         self.assertTrue((self.folder / "target" / "doc" / "atomfs" / "struct.Tree.html").is_file())

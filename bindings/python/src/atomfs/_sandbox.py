@@ -555,7 +555,7 @@ class Sandbox(Attributes):
         at = place.inside
         if at is not None and self.tree._overlay is not None:
             self.tree._overlay.opened(at, flags)
-        if at is not None and not self.enforce and not place.of_directory:
+        if at is not None and not self.enforce and not place.of_directory and not self._special(at):
             number = self._files.open_there(at, flags)
             if number is not None:
                 return number
