@@ -23,7 +23,7 @@ import drawn
 import harness
 import pictures
 import traces
-from harness import ROOT, Case, run
+from harness import ROOT, Case, run, takes_a_process
 from worked import EXAMPLES, JOURNALS, RUNS, examples
 
 PAGE = (ROOT / "bindings" / "python" / "src" / "atomfs" / "run.html").read_text("ascii")
@@ -163,10 +163,11 @@ class Program(Case):
         """Lawful or not; a schedule is not used."""
         for _, given in (*examples(JOURNALS, "journal"), *examples(EXAMPLES, "journal")):
             self.look(given)
-        self.look(run((RUNS / "helped_mkdir.script").read_bytes(), "run").output, *self.SEED)
 
     def test_what_others_hand_on(self):
-        """A script that was found, shrunk or written with the events of its run; and the journal up to a return that nothing explains."""
+        """A journal of a run; a script that was found, shrunk or written with the events of its run; and the journal up to a return that nothing explains."""
+        takes_a_process()
+        self.look(run((RUNS / "helped_mkdir.script").read_bytes(), "run").output, *self.SEED)
         race = (EXAMPLES / "moved_ancestor.script").read_bytes()
         found = run(race, "find", "--where", "reply writer#2 failed", "--seed", "1", "--runs", "100").output
         self.look(found)
@@ -177,6 +178,7 @@ class Program(Case):
 
     def test_hostile(self):
         """No byte of a name or of a comment comes to the page as a sign of HTML, or as one that is not printable."""
+        takes_a_process()
         journal = run(HOSTILE, "run").output
         comment = journal.replace(b"\n", b"\n# seat 0 </pre><script>\x00\x7f\xc3\r<!--&lt;-->\n", 1)
         for given in (HOSTILE, journal, comment):
